@@ -1,0 +1,20 @@
+//! Lists and texts as contracts see them: a `Seq` is the list of its items, a `Text` the list of its octets.
+#![tactic(auto)]
+
+mod no_memory;
+mod order;
+mod remembered;
+mod seq;
+#[cfg(test)]
+mod tests;
+mod text;
+
+pub use no_memory::NoMemory;
+pub use remembered::Remembered;
+pub use seq::{Copied, Same, Seq};
+pub use text::{Text, TextOfFault};
+
+/// Octets.
+pub type Bytes = Seq<u8>;
+
+pub type Texts = Seq<Text>;
