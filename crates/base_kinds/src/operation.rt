@@ -1,0 +1,54 @@
+use crate::path::Path;
+use crate::value::Value;
+use base_lists::{Copied, NoMemory, Same, Seq};
+use std::alloc::Global;
+
+/// A leaf or a leaf-list of a tree: its path, with all keys, and its value.
+#[derive(Debug, PartialEq, Drop)]
+pub struct Row {
+    pub path: Path,
+    pub value: Value,
+}
+
+pub type Rows = Seq<Row>;
+
+/// What an operation of a Set does (gNMI 3.4.1).
+#[derive(Clone, Copy, Debug, PartialEq, Eq)]
+pub enum Act {
+    Delete,
+    Replace,
+    Update,
+}
+
+/// One operation of a Set: the path that it names, and the rows that it sets, rising by path. A delete has none.
+#[derive(Debug, PartialEq, Drop)]
+pub struct Op {
+    pub act: Act,
+    pub path: Path,
+    pub rows: Rows,
+}
+
+pub type Ops = Seq<Op>;
+
+impl Copied for Row {
+    fn copy(&self, alloc: Global) -> Result<Row, NoMemory> {
+        let path = self.path.copy(alloc)?;
+        let value = self.value.copy(alloc)?;
+        Ok(Row { path, value })
+    }
+}
+
+impl Same for Row {
+    fn same(&self, other: &Row) -> bool {
+        self.path.same(&other.path) && self.value.same(&other.value)
+    }
+}
+
+impl Copied for Op {
+    fn copy(&self, alloc: Global) -> Result<Op, NoMemory> {
+        let act = self.act;
+        let path = self.path.copy(alloc)?;
+        let rows = self.rows.copy(alloc)?;
+        Ok(Op { act, path, rows })
+    }
+}
