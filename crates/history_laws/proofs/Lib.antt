@@ -1,0 +1,12 @@
+pub mod Closings
+pub mod Deleting
+pub mod Effects
+pub mod Given
+pub mod Judged
+pub mod PathOrder
+pub mod Reached
+pub mod RoomKept
+pub mod Setting
+pub mod States
+pub mod Undoing
+pub mod Values

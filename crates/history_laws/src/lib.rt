@@ -1,0 +1,21 @@
+//! Laws of the definitions of trees, histories and steps, each as the contract of a function that does nothing.
+#![tactic(auto)]
+
+mod histories;
+mod legal;
+mod orders;
+mod room;
+mod steps;
+mod trees;
+mod trials;
+
+pub use histories::{histories_go_on, states_go_on, trees_rise};
+pub use legal::{events_are_legal, legal_histories_are_sound, legal_histories_go_on};
+pub use orders::paths_are_ordered;
+pub use room::{room_is_kept, trials_leave_room};
+pub use steps::{accepted_asks, events_keep_histories, stamps_decide, steps_add_entries};
+pub use trees::{
+    deletes_are_exact, operations_act_by_path, rising_is_tested, rows_stay_rising,
+    setting_is_exact, values_decide,
+};
+pub use trials::{trials_are_confirmed, trials_are_undone, trials_can_be_closed};
