@@ -1,0 +1,4 @@
+pub mod Children
+pub mod Fronts
+pub mod Powers
+pub mod Stamps

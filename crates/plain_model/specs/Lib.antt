@@ -1,0 +1,2 @@
+pub mod PlainRules
+pub mod PlainWorlds
