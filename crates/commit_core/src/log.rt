@@ -1,0 +1,59 @@
+ghost use Rattle.std.specs.Prelude.{◌≡◌, [], ◌∷◌, ◌++◌, ◌+◌, ◌<◌, ◌≤◌, OnOk};
+
+use base_kinds::{Entry, NoMemory};
+use std::alloc::Global;
+use std::marker::Model;
+
+/// The entries in order. Contracts see also how many more it has room for, since putting one takes no memory.
+#[derive(Debug, Drop)]
+pub struct Log {
+    stored: Vec<Entry>,
+}
+
+impl Model for Log {
+    ghost use Rattle.std.specs.Prelude.{◌-◌, vec_len, vec_capacity};
+    ghost use Rattle.std.specs.Coded.{codes};
+    ghost use Rattle.base_kinds.specs.contracts.value.Value as value;
+    ghost use Rattle.commit_core.specs.Logs.{LogView};
+
+    ghost Value = { LogView };
+
+    ghost coded = { Prim.hlevel (codes, value.the_row.coded) };
+
+    ghost view = { λ log. record { items = log.stored.items; room = vec_capacity log.stored - vec_len log.stored } };
+}
+
+impl Log {
+    pub fn empty(alloc: Global) -> Log
+        ensures { result.items ≡ [] }
+    {
+        Log {
+            stored: Vec::new(alloc),
+        }
+    }
+
+    pub fn items(&self) -> &[Entry]
+        ensures { result.now ≡ self.now.items }
+    {
+        self.stored.as_slice()
+    }
+
+    /// Takes room for so many more entries.
+    pub fn reserve(&mut self, more: usize) -> Result<(), NoMemory>
+        ensures items { self.new.items ≡ self.old.items }
+        ensures ok { OnOk result (more ≤ self.new.room) }
+        ensures kept { self.old.room ≤ self.new.room }
+    {
+        self.stored.reserve(more)?;
+        Ok(())
+    }
+
+    /// Takes no memory.
+    pub fn put(&mut self, entry: Entry)
+        requires { 0 < self.old.room }
+        ensures items { self.new.items ≡ self.old.items ++ entry ∷ [] }
+        ensures room { self.old.room ≤ self.new.room + 1 }
+    {
+        self.stored.push(entry).unwrap();
+    }
+}
