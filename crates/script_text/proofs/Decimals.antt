@@ -1,0 +1,59 @@
+-- What the digits of a number begin with, and what `parse` reads of them.
+use Rattle.std.proofs.Common.{◌≡◌, ℕ, ◌<◌, ◌^◌, List, [], ◌∷◌, ◌⊎◌, true, false, not, ◌&&◌, ◌||◌, eqb, length, get_or, inl, inr, ⊎_elim, sym, ap, ◌∙◌, Result, Ok, Err, Option, IfSome, IfNone, arith}
+use Rattle.std.specs.Fmt.{decimal}
+use Rattle.std.specs.Result.{result_ok}
+use Rattle.std.specs.Str.Parse.{ParsesUnsigned, AllDigits, digits_value}
+use Rattle.std.proofs.lemmas.Fmt.{decimal_digit, first_decimal, decimal_nonempty, parse-decimal, decimal-digits_value}
+use Rattle.std.proofs.lemmas.Str.Parse.{IsNumeralModel, numerals_by_value, tells_digits, parse_plain}
+use Rattle.std.proofs.lemmas.Bool.{and_parts, and_from, or_cases, or_left, or_right, not-true, not_from_false, eqb-true, eqb-false, ne_eqb, eq-eqb, cases_order, both_ways}
+use Rattle.script_text.specs.Numbers.{begins_plainly}
+
+own : IsNumeralModel (AllDigits 10) (digits_value 10)
+own = numerals_by_value (AllDigits 10) tells_digits
+
+first_digit : (n : ℕ) → n < 2 ^ 64 → ((get_or (decimal n) 0 0 ≡ 48) × (length (decimal n) ≡ 1)) ⊎ (48 < get_or (decimal n) 0 0)
+first_digit n small =
+    ⊎_elim
+    (λ none. let e : decimal n ≡ 48 ∷ [] = rw none (decimal_digit 0 (omega arith)) in inl (ap (λ r. get_or r 0 0) e, ap length e))
+    (λ apart. inr (first_decimal n (⊎_elim (λ l. absurd (omega arith)) (λ l. l) apart) small))
+    (cases_order n 0)
+
+plain_from : (n : ℕ) → n < 2 ^ 64 → begins_plainly (decimal n) ≡ true
+plain_from n small =
+    let some = decimal_nonempty n small in
+    let d = decimal n in
+    let begun : not (eqb (length d) 0) ≡ true = not_from_false (eqb (length d) 0) (ne_eqb (length d) 0 (λ e. absurd (omega arith))) in
+    ⊎_elim
+    (λ zero. and_from (not (eqb (length d) 0) && not (eqb (get_or d 0 0) 43)) (not (eqb (get_or d 0 0) 48) || eqb (length d) 1)
+    (and_from (not (eqb (length d) 0)) (not (eqb (get_or d 0 0) 43)) begun (not_from_false (eqb (get_or d 0 0) 43) (ne_eqb (get_or d 0 0) 43 (λ e. absurd (omega arith)))))
+    (or_right (not (eqb (get_or d 0 0) 48)) (eqb (length d) 1) (eq-eqb (length d) 1 zero.1)))
+    (λ above. and_from (not (eqb (length d) 0) && not (eqb (get_or d 0 0) 43)) (not (eqb (get_or d 0 0) 48) || eqb (length d) 1)
+    (and_from (not (eqb (length d) 0)) (not (eqb (get_or d 0 0) 43)) begun (not_from_false (eqb (get_or d 0 0) 43) (ne_eqb (get_or d 0 0) 43 (λ e. absurd (omega arith)))))
+    (or_left (not (eqb (get_or d 0 0) 48)) (eqb (length d) 1) (not_from_false (eqb (get_or d 0 0) 48) (ne_eqb (get_or d 0 0) 48 (λ e. absurd (omega arith))))))
+    (first_digit n small)
+
+pub no_decimal : (octets : List ℕ) → begins_plainly octets ≡ false → (n : ℕ) → n < 2 ^ 64 → octets ≡ decimal n → ⊥
+no_decimal octets spare n small e = both_ways (begins_plainly octets) spare (rw e (plain_from n small))
+
+no_sign : (octets : List ℕ) → begins_plainly octets ≡ true → get_or octets 0 0 ≡ 43 → ⊥
+no_sign octets plain =
+    let parts = and_parts (not (eqb (length octets) 0) && not (eqb (get_or octets 0 0) 43)) (not (eqb (get_or octets 0 0) 48) || eqb (length octets) 1) plain in
+    eqb-false (get_or octets 0 0) 43 (not-true (eqb (get_or octets 0 0) 43) (and_parts (not (eqb (length octets) 0)) (not (eqb (get_or octets 0 0) 43)) parts.0).1)
+
+one_zero : (octets : List ℕ) → begins_plainly octets ≡ true → get_or octets 0 0 ≡ 48 → length octets ≡ 1
+one_zero octets plain zero =
+    let parts = and_parts (not (eqb (length octets) 0) && not (eqb (get_or octets 0 0) 43)) (not (eqb (get_or octets 0 0) 48) || eqb (length octets) 1) plain in
+    ⊎_elim (λ other. absurd (eqb-false (get_or octets 0 0) 48 (not-true (eqb (get_or octets 0 0) 48) other) zero)) (λ one. eqb-true (length octets) 1 one) (or_cases (not (eqb (get_or octets 0 0) 48)) (eqb (length octets) 1) parts.1)
+
+read : {E : Type 0} (octets : List ℕ) (r : Result ℕ E) → begins_plainly octets ≡ true → ParsesUnsigned 64 10 octets r → (IfSome (result_ok r) (λ n. octets ≡ decimal n)) × (IfNone (result_ok r) ((n : ℕ) → n < 2 ^ 64 → octets ≡ decimal n → ⊥))
+read {E} octets (Ok n) plain parsed =
+    let is = parse_plain own {E = E} 64 octets (Ok n) parsed (no_sign octets plain) in
+    let written : decimal (digits_value 10 octets) ≡ octets = decimal-digits_value own octets is.0.0 is.0.1 (one_zero octets plain) is.0.2 in
+    (sym written ∙ ap decimal (sym is.1), tt)
+read {E} octets (Err e) plain parsed = (tt, λ n small written. let no : Err e ≡ Ok n = parse-decimal 64 n octets (Err e) small small written parsed in absurd (cc))
+
+pub read_some : {E : Type 0} (octets : List ℕ) (r : Result ℕ E) (o : Option ℕ) → begins_plainly octets ≡ true → ParsesUnsigned 64 10 octets r → o ≡ result_ok r → IfSome o (λ n. octets ≡ decimal n)
+read_some octets r o plain parsed is = rw is (read octets r plain parsed).0
+
+pub read_none : {E : Type 0} (octets : List ℕ) (r : Result ℕ E) (o : Option ℕ) → begins_plainly octets ≡ true → ParsesUnsigned 64 10 octets r → o ≡ result_ok r → IfNone o ((n : ℕ) → n < 2 ^ 64 → octets ≡ decimal n → ⊥)
+read_none octets r o plain parsed is = rw is (read octets r plain parsed).1

@@ -1,0 +1,23 @@
+-- The first line of a text, and what the front of a text decides about it, whatever follows the front.
+use Rattle.std.specs.Prelude.{◌≡◌, ℕ, ◌+◌, ◌≤◌, List, [], ◌∷◌, ◌++◌, length, ◌⊎◌}
+use Rattle.script_text.specs.Lines.{lines_of}
+
+-- the text is this line, a line feed and this rest, or this line alone
+abbrev pub IsFirstCut : List ℕ → List ℕ → List ℕ → Type 0
+IsFirstCut text line rest = (text ≡ line ++ 10 ∷ rest) ⊎ ((text ≡ line) × (rest ≡ []))
+
+-- the line ends in the front: it is the same with what follows, and so are the lines after it
+pub record EndsInFront (front more first rest : List ℕ) : Type 0 where
+  pub alone : lines_of front ≡ first ∷ lines_of rest
+  pub followed : lines_of (front ++ more) ≡ first ∷ lines_of (rest ++ more)
+  pub cut : front ≡ first ++ 10 ∷ rest
+  pub whole : length front ≡ length first + 1 + length rest
+
+-- the front is one line without its line feed, and the first line of the whole is at least as long
+pub record GoesOn (front more longer : List ℕ) (others : List (List ℕ)) : Type 0 where
+  pub alone : lines_of front ≡ front ∷ []
+  pub followed : lines_of (front ++ more) ≡ longer ∷ others
+  pub longest : length front ≤ length longer
+
+abbrev pub FirstLineStays : List ℕ → List ℕ → Type 0
+FirstLineStays front more = ((first : List ℕ) × ((rest : List ℕ) × EndsInFront front more first rest)) ⊎ ((longer : List ℕ) × ((others : List (List ℕ)) × GoesOn front more longer others))

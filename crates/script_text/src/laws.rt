@@ -1,0 +1,14 @@
+ghost use Rattle.std.specs.Prelude.{◌≡◌, ◌<◌, List, ℕ, length};
+ghost use Rattle.script_text.specs.declared.line.Line.{Line as ScriptLine};
+ghost use Rattle.script_text.specs.Grammar.{IsLine};
+ghost use Rattle.script_text.specs.Stay.{FirstLineStays};
+
+/// Octets are one line at most.
+pub fn one_meaning()
+    ensures { (octets : List ℕ) (a b : ScriptLine) → IsLine octets a → IsLine octets b → a ≡ b }
+{}
+
+/// The front of a text decides about its first line the same whatever follows, or that line is at least as long.
+pub fn first_lines_stay()
+    ensures { (front more : List ℕ) → 0 < length front → FirstLineStays front more }
+{}
