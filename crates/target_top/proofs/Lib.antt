@@ -1,0 +1,5 @@
+pub mod ScriptLaws
+pub mod Pieces
+pub mod TextHistories
+pub mod Transcripts
+pub mod Words

@@ -1,0 +1,77 @@
+-- The text of a commit log, and the entries that scripts make as yet.
+use Rattle.std.specs.Prelude.{◌≡◌, ℕ, List, [], ◌∷◌, ◌++◌, codes}
+use Rattle.std.specs.List.{flat_map, AllByRecursion}
+use Rattle.std.specs.Fmt.{decimal}
+use Rattle.base_kinds.specs.declared.value.Value.{Value}
+use Rattle.base_kinds.specs.declared.value.Value as v
+use Rattle.base_kinds.specs.declared.operation.Row.{Row}
+use Rattle.base_kinds.specs.declared.operation.Op.{Op}
+use Rattle.base_kinds.specs.declared.operation.Act.{Act}
+use Rattle.base_kinds.specs.declared.operation.Act.TheVariants.{Delete, Replace, Update}
+use Rattle.base_kinds.specs.declared.entry.Entry.{Entry}
+use Rattle.base_kinds.specs.declared.entry.Kind.{Kind}
+use Rattle.base_kinds.specs.declared.entry.Kind.TheVariants as kinds
+use Rattle.base_kinds.specs.Tree.{with_act}
+use Rattle.base_kinds.specs.Texts.{path_text, value_text, escaped, is_key_octet}
+
+abbrev pub act_text : Act → List ℕ
+act_text Delete = codes "delete"
+act_text Replace = codes "replace"
+act_text Update = codes "update"
+
+-- a row in a line of its own: four spaces, its path, a space, its value
+abbrev pub row_line : Row → List ℕ
+row_line row = codes "    " ++ (path_text row.path ++ (32 ∷ (value_text row.value ++ 10 ∷ [])))
+
+-- an operation in a line of its own: two spaces, what it does, a space, its path; then its rows
+abbrev pub op_lines : Op → List ℕ
+op_lines op = codes "  " ++ (act_text op.act ++ (32 ∷ (path_text op.path ++ (10 ∷ flat_map row_line op.rows))))
+
+-- the deletes, then the replaces, then the updates, each in list order
+abbrev pub ops_lines : List Op → List ℕ
+ops_lines ops = flat_map op_lines (with_act Delete ops) ++ (flat_map op_lines (with_act Replace ops) ++ flat_map op_lines (with_act Update ops))
+
+abbrev pub kind_text : Kind → List ℕ
+kind_text (kinds.Apply ops) = codes "apply"
+kind_text (kinds.Trial id ops deadline) = codes "trial " ++ (escaped is_key_octet id ++ (32 ∷ decimal deadline))
+kind_text kinds.Confirm = codes "confirm"
+kind_text kinds.Cancel = codes "cancel"
+kind_text kinds.Expire = codes "expire"
+kind_text kinds.Restart = codes "restart"
+kind_text (kinds.Extend deadline) = codes "extend " ++ decimal deadline
+
+abbrev pub ops_of : Kind → List Op
+ops_of (kinds.Apply ops) = ops
+ops_of (kinds.Trial id ops deadline) = ops
+ops_of _ = []
+
+-- number, stamp, author and kind in a line, and then the operations
+abbrev pub entry_lines : Entry → List ℕ
+entry_lines entry = decimal entry.number ++ (32 ∷ (decimal entry.stamp ++ (32 ∷ (decimal entry.author ++ (32 ∷ (kind_text entry.kind ++ (10 ∷ ops_lines (ops_of entry.kind))))))))
+
+-- the entries, oldest first
+abbrev pub log_text : List Entry → List ℕ
+log_text entries = flat_map entry_lines entries
+
+-- ---- what scripts make as yet: plain Sets that update leaves to texts
+
+abbrev pub IsText : Value → Type 0
+IsText (v.Text text) = Unit {0}
+IsText _ = ⊥
+
+abbrev pub HasTexts : List Row → Type 0
+HasTexts rows = AllByRecursion (λ (row : Row). IsText row.value) rows
+
+pub record IsTextUpdate (op : Op) : Type 0 where
+  pub act : op.act ≡ Update
+  pub rows : HasTexts op.rows
+
+abbrev pub AreTextUpdates : List Op → Type 0
+AreTextUpdates ops = AllByRecursion IsTextUpdate ops
+
+abbrev pub AppliesTexts : Kind → Type 0
+AppliesTexts (kinds.Apply ops) = AreTextUpdates ops
+AppliesTexts _ = ⊥
+
+abbrev pub ApplyTexts : List Entry → Type 0
+ApplyTexts entries = AllByRecursion (λ (entry : Entry). AppliesTexts entry.kind) entries
