@@ -1,0 +1,59 @@
+use crate::{fields, frames, huffman};
+use base_lists::NoMemory;
+use std::alloc::Global;
+
+#[derive(Clone, Copy, Debug)]
+pub enum Codec {
+    Frames,
+    Huffman,
+    Fields,
+}
+
+pub const CODECS: [Codec; 3] = [Codec::Frames, Codec::Huffman, Codec::Fields];
+
+/// What a codec did in all its rounds.
+#[derive(Clone, Copy, Debug)]
+pub struct Report {
+    pub octets: u64,
+    pub checksum: u64,
+}
+
+#[derive(Clone, Copy, Debug)]
+pub enum Fault {
+    /// The octets are not what the codec reads.
+    BadOctets,
+    NoMemory,
+}
+
+impl From<NoMemory> for Fault {
+    fn from(_e: NoMemory) -> Fault {
+        Fault::NoMemory
+    }
+}
+
+impl Codec {
+    pub fn named(name: &str) -> Option<Codec> {
+        match name {
+            "frames" => Some(Codec::Frames),
+            "huffman" => Some(Codec::Huffman),
+            "fields" => Some(Codec::Fields),
+            _ => None,
+        }
+    }
+
+    pub fn name(self) -> &'static str {
+        match self {
+            Codec::Frames => "frames",
+            Codec::Huffman => "huffman",
+            Codec::Fields => "fields",
+        }
+    }
+
+    pub fn run(self, alloc: Global, rounds: u32) -> Result<Report, Fault> {
+        match self {
+            Codec::Frames => Ok(frames::run(alloc, rounds)?),
+            Codec::Huffman => huffman::run(alloc, rounds),
+            Codec::Fields => fields::run(alloc, rounds),
+        }
+    }
+}

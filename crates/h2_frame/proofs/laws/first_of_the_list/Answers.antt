@@ -1,0 +1,11 @@
+use Rattle.h2_frame.proofs.Runs.{part_alone, one_taken, none_too_long}
+use Rattle.h2_frame.proofs.laws.first_of_the_list.Goals as goal
+
+pub returns-clause-none : goal.returns-clause-none
+returns-clause-none c = part_alone
+
+pub returns-clause-one : goal.returns-clause-one
+returns-clause-one c = one_taken
+
+pub returns-clause-too_long : goal.returns-clause-too_long
+returns-clause-too_long c = none_too_long

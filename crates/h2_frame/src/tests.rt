@@ -1,0 +1,181 @@
+ghost use Rattle.std.specs.Prelude.{◌^◌, ◌<◌};
+
+use crate::{Got, Head, read_frame, write_frame};
+use base_lists::{Bytes, NoMemory, Seq};
+use std::alloc::Global;
+use std::test::Fail;
+
+const MAX: u32 = 16_384;
+
+// A PING frame (RFC 9113 section 6.7).
+const PING: [u8; 17] = [
+    0, 0, 8, 6, 0, 0, 0, 0, 0, 0x53, 0x96, 0x8a, 0x5c, 0xc3, 0xc7, 0x82, 0x46,
+];
+
+fn head(length: u32, kind: u8, flags: u8, stream: u32) -> Head {
+    Head {
+        length,
+        kind,
+        flags,
+        stream,
+    }
+}
+
+// Reads the frame that stands first, and writes it again.
+fn written_again(alloc: Global, octets: &[u8]) -> Result<Bytes, NoMemory> {
+    let mut out = Seq::empty(alloc);
+    if let Got::Frame(head, used) = read_frame(octets, MAX) {
+        write_frame(&head, &octets[9..used], &mut out)?;
+    }
+    Ok(out)
+}
+
+// Frames that hyperframe wrote.
+#[test]
+fn frames_of_another_library(rt: HostRuntime) -> Result<(), Fail> {
+    let rows = [
+        (
+            [0, 0, 4, 8, 0, 0, 0, 0, 0, 0x24, 0x71, 0x7e, 0x9f].as_slice(),
+            head(4, 8, 0, 0),
+        ),
+        (
+            [
+                0, 0, 8, 6, 1, 0, 0, 0, 0, 2, 0xc3, 0x19, 0x9e, 0x94, 0x60, 9, 0xcb,
+            ]
+            .as_slice(),
+            head(8, 6, 1, 0),
+        ),
+        (
+            [0, 0, 1, 1, 5, 0x7f, 0xff, 0xff, 0xff, 0x79].as_slice(),
+            head(1, 1, 5, 2_147_483_647),
+        ),
+        (
+            [0, 0, 9, 0, 9, 0, 0, 0, 2, 7, 0xbd, 0, 0, 0, 0, 0, 0, 0].as_slice(),
+            head(9, 0, 9, 2),
+        ),
+        ([0, 0, 0, 4, 1, 0, 0, 0, 0].as_slice(), head(0, 4, 1, 0)),
+        (
+            [0, 0, 4, 3, 0, 0x0d, 0x4a, 0xa8, 0xb0, 0, 0, 0, 4].as_slice(),
+            head(4, 3, 0, 222_996_656),
+        ),
+        (
+            [
+                0, 0, 5, 2, 0, 0x76, 0x94, 0xf4, 0x2d, 0x9b, 0xd8, 0xad, 0x9c, 2,
+            ]
+            .as_slice(),
+            head(5, 2, 0, 1_989_473_325),
+        ),
+    ];
+    for (octets, head) in rows {
+        assert_eq!(rt; read_frame(octets, MAX), Got::Frame(head, octets.len()));
+        assert_eq!(rt; written_again(rt.alloc(), octets)?.items(), octets);
+    }
+    Ok(())
+}
+
+// Of such frames too, and the library drops the bit.
+#[test]
+fn reserved_bit_is_ignored_and_written_as_zero(rt: HostRuntime) -> Result<(), Fail> {
+    let rows = [
+        (
+            [
+                0, 0, 5, 10, 0x93, 0x97, 0x3d, 0xf0, 0x39, 0xd4, 0x72, 0x63, 0x32, 0x0f,
+            ]
+            .as_slice(),
+            head(5, 10, 147, 389_935_161),
+        ),
+        (
+            [0, 0, 3, 0, 0xbc, 0xd0, 0x89, 0x90, 0x9d, 0x31, 0x16, 0xf3].as_slice(),
+            head(3, 0, 188, 1_351_192_733),
+        ),
+        (
+            [
+                0, 0, 3, 0xff, 0x13, 0x8d, 0xa9, 0xa4, 0x0b, 0x53, 0x80, 0x2f,
+            ]
+            .as_slice(),
+            head(3, 255, 19, 229_221_387),
+        ),
+    ];
+    for (octets, head) in rows {
+        assert_eq!(rt; read_frame(octets, MAX), Got::Frame(head, octets.len()));
+    }
+    let again = written_again(
+        rt.alloc(),
+        &[0, 0, 1, 10, 0x93, 0x97, 0x3d, 0xf0, 0x39, 0xd4],
+    )?;
+    assert_eq!(rt;
+        again.items(),
+        [0, 0, 1, 10, 0x93, 0x17, 0x3d, 0xf0, 0x39, 0xd4].as_slice()
+    );
+    Ok(())
+}
+
+#[test]
+fn front_of_a_ping_is_no_frame_yet(rt: HostRuntime) {
+    for count in 0..PING.len() {
+        assert_eq!(rt;
+            read_frame(&PING[..count], MAX),
+            Got::More,
+            "{count} octets"
+        );
+    }
+    assert_eq!(rt; read_frame(&PING, MAX), Got::Frame(head(8, 6, 0, 0), 17));
+}
+
+#[test]
+fn lengths_against_the_most_that_is_allowed(rt: HostRuntime) {
+    let rows = [
+        (
+            [0, 0, 0, 0, 0, 0, 0, 0, 1, 7].as_slice(),
+            MAX,
+            Got::Frame(head(0, 0, 0, 1), 9),
+        ),
+        ([0, 0x40, 0, 0, 0, 0, 0, 0, 1, 7].as_slice(), MAX, Got::More),
+        (
+            [0, 0x40, 1, 0, 0, 0, 0, 0, 1, 7].as_slice(),
+            MAX,
+            Got::Bad(6),
+        ),
+        ([0, 0x40, 1].as_slice(), MAX, Got::Bad(6)),
+        ([0, 0x40].as_slice(), MAX, Got::More),
+        ([0, 0x41].as_slice(), MAX, Got::Bad(6)),
+        ([1].as_slice(), MAX, Got::Bad(6)),
+        ([0, 0, 1, 0, 0, 0, 0, 0, 1, 7].as_slice(), 0, Got::Bad(6)),
+        (
+            [0xff, 0xff, 0xff, 0, 0, 0, 0, 0, 1, 7].as_slice(),
+            16_777_215,
+            Got::More,
+        ),
+    ];
+    for (octets, max, got) in rows {
+        assert_eq!(rt; read_frame(octets, max), got, "{octets:?}");
+    }
+}
+
+// A frame with so many octets of payload.
+fn frame_of_zeros(alloc: Global, length: u32) -> Result<Bytes, NoMemory>
+    requires { length < 2 ^ 24 }
+{
+    let payload = vec![in alloc; 0u8; length as usize]?;
+    let head = Head {
+        length,
+        kind: 0,
+        flags: 0,
+        stream: 1,
+    };
+    let mut out = Seq::empty(alloc);
+    write_frame(&head, &payload, &mut out)?;
+    Ok(out)
+}
+
+#[test]
+fn longest_frame_that_is_allowed(rt: HostRuntime) -> Result<(), Fail> {
+    let frame = frame_of_zeros(rt.alloc(), MAX)?;
+    assert_eq!(rt;
+        read_frame(frame.items(), MAX),
+        Got::Frame(head(MAX, 0, 0, 1), 16_393)
+    );
+    let longer = frame_of_zeros(rt.alloc(), MAX + 1)?;
+    assert_eq!(rt; read_frame(longer.items(), MAX), Got::Bad(6));
+    Ok(())
+}

@@ -1,0 +1,12 @@
+//! The Huffman code of HPACK (RFC 7541, section 5.2 and appendix B).
+#![tactic(auto)]
+
+mod decode;
+mod laws;
+mod pending;
+mod table;
+#[cfg(test)]
+mod tests;
+
+pub use decode::{HuffFault, huff_decode};
+pub use laws::{codes_fill_the_tree, no_code_begins_another, one_text};

@@ -1,0 +1,9 @@
+pub mod VarintLemmas
+pub mod SpellingLemmas
+pub mod FieldLemmas
+pub mod MessageLemmas
+pub mod WritingLemmas
+pub mod ValueLemmas
+pub mod LawLemmas
+pub mod Examples
+pub mod ValueLaws

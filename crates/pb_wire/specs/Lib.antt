@@ -1,0 +1,5 @@
+pub mod Varint
+pub mod Message
+pub mod Reading
+pub mod Writing
+pub mod Values

@@ -1,0 +1,233 @@
+use super::*;
+use base_lists::{Bytes, Seq};
+use std::alloc::Global;
+use std::test::*;
+
+/// Messages of an independent library's vectors, which it reads.
+const READ: [&[u8]; 61] = [
+    b"\x18\xdc\x0b\x18\xf8\x0a",
+    b"\x0a\x01\x61\x10\x05",
+    b"\x10\x05\x0a\x01\x61",
+    b"\x3a\x03\x08\x96\x01\x3a\x02\x10\x02",
+    b"\x3a\x03\x08\x96\x01\x10\x01\x3a\x02\x10\x02",
+    b"\x42\x04\x0a\x02\x10\x01\x42\x04\x0a\x02\x10\x02",
+    b"\x10\xfb\xff\xff\xff\xff\xff\xff\xff\xff\x01",
+    b"\x20\x07",
+    b"\x20\x80\x00",
+    b"\x12\x01\x78",
+    b"\x08\x05\x18\x07",
+    b"\x0a\x04\xf4\x8f\xbf\xbf",
+    b"\x52\x02\xff\xfe",
+    b"\x22\x01\x78\x22\x01\x79",
+    b"\x1a\x08\x12\x06\x12\x01\x76\x0a\x01\x6b",
+    b"\x1a\x02\x12\x00",
+    b"\x1a\x0e\x12\x0c\x0a\x01\x6b\x0a\x01\x6c\x12\x01\x76\x12\x01\x77",
+    b"\x0a\x03\x6f\x6c\x64",
+    b"\x0a\x05\x1a\x03\x0a\x01\x61\x22\x00\x0a\x05\x1a\x03\x0a\x01\x62",
+    b"\x22\x08\x1a\x02\x18\x05\x1a\x02\x10\x06",
+    b"\x22\x00",
+    b"\x22\x06\x12\x00\x1a\x02\x18\x05",
+    b"\x28\x00\x28\x02",
+    b"\x28\xff\xff\xff\xff\xff\xff\xff\xff\xff\x01",
+    b"\x0a\x02\x28\x01\x0a\x02\x40\x02",
+    b"\x0a\x02\x28\x01\x1a\x00",
+    b"\x1a\x00\x0a\x02\x28\x02",
+    b"\x0a\x02\x28\x01\x1a\x00\x0a\x02\x40\x02",
+    b"\x22\x05\x0a\x01\x61\x1a\x00\x22\x02\x22\x00",
+    b"\x22\x06\x12\x04\x0a\x02\x08\x05\x22\x06\x12\x04\x0a\x02\x10\x07",
+    b"\x22\x0f\x12\x0d\x0a\x0b\x08\xf9\xff\xff\xff\xff\xff\xff\xff\xff\x01",
+    b"\x22\x0f\x12\x0d\x0a\x0b\x10\xf9\xff\xff\xff\xff\xff\xff\xff\xff\x01",
+    b"\x22\x06\x12\x04\x0a\x02\x08\x05\x22\x02\x1a\x00\x22\x02\x12\x00",
+    b"\x12\x03\x00\x04\x02\x1a\x06\x30\x2e\x31\x30\x2e\x30",
+    b"\x10\x00\x10\x04\x10\x02\x1a\x06\x30\x2e\x31\x30\x2e\x30",
+    b"\x10\x00\x12\x02\x04\x02\x12\x00\x1a\x06\x30\x2e\x31\x30\x2e\x30",
+    b"\x18\x00",
+    b"\x08\xe8\x07\x09\x00\x00\x00\x00\x00\x00\x00\x00",
+    b"",
+    b"\x12\x07\x72\x66\x63\x37\x39\x35\x31\x1a\x05\x0a\x03\x6c\x61\x62",
+    b"\x3a\x0b\x08\xff\xff\xff\xff\xf7\xff\xff\xff\xff\x01",
+    b"\x3a\x06\x08\x80\x01\x10\xac\x02",
+    b"\x3a\x03\x08\x80\x01",
+    b"\x20\x01",
+    b"\xa0\x06\xe1\xc3\x2c\x18\x00",
+    b"\x52\x08\x6e\x6f\x74\x20\x6a\x73\x6f\x6e\x0a\x01\x78",
+    b"\x10\x80\x80\x80\x80\x80\x80\x80\x80\x80\x01\x18\x00",
+    b"\x2a\x00\x30\x01",
+    b"\x08\x01\x12\x04\x22\x02\x72\x31\x08\xe8\x07",
+    b"\x22\x05\x0a\x01\x74\x12\x00",
+    b"\x1a\x02\x08\x05",
+    b"\x22\x0e\x0a\x0a\x78\x78\x78\x78\x78\x78\x78\x78\x78\x78\x12\x00",
+    b"\x22\x06\x0a\x02\x74\x31\x12\x00\xca\x0f\x07\x75\x6e\x6b\x6e\x6f\x77\x6e",
+    b"\x22\x06\x0a\x02\xc3\xa4\x12\x00\x22\x00",
+    b"\x0a\x00\x2a\x08\x22\x06\x0a\x02\x74\x31\x12\x00",
+    b"\x18\x03",
+    b"\x1a\x00",
+    b"\x0a\x0e\x12\x08\x0a\x04\x22\x02\x72\x31\x10\x01\x28\x02\x40\x04",
+    b"\x20\x80\x80\x98\xb5\xf5\xf9\xb3\xf7\x38",
+    b"\x18\x01",
+    b"\x0a\x02\x30\x01\x85\x7d\x00\x00\x00\x00",
+];
+
+/// Messages that the library, or the rule on groups, refuses.
+const REFUSED: [&[u8]; 19] = [
+    b"\x08",
+    b"\x0b\x0c",
+    b"\x0b",
+    b"\x0c",
+    b"\x0e",
+    b"\x0f",
+    b"\x00\x01",
+    b"\x08\xff\xff\xff\xff\xff\xff\xff\xff\xff\xff\x01",
+    b"\x08\xff\xff\xff\xff\xff\xff\xff\xff\xff\x02",
+    b"\x80\x80\x80\x80\x10\x01",
+    b"\x0a\x05\x61",
+    b"\x0a\x80\x80\x80\x80\x80\x20",
+    b"\x0d\x01\x02\x03",
+    b"\x09\x00\x00\x00\x00\x00\x00\x00",
+    b"\x80",
+    b"\x42\x04",
+    b"\x22\x06\x0a",
+    b"\x1a",
+    b"\x12\x22\x12\x1e\x0a\x03\x6f\x6c\x64\x12\x03\x63\x6c\x69\x1a",
+];
+
+fn is_bad(alloc: Global, octets: &[u8]) -> bool {
+    matches!(fields_of(alloc, octets), Err(WireFault::BadMessage))
+}
+
+#[test]
+fn outside_messages_are_read_or_refused(rt: HostRuntime) {
+    for octets in READ {
+        assert!(rt; fields_of(rt.alloc(), octets).is_ok());
+    }
+    for octets in REFUSED {
+        assert!(rt; is_bad(rt.alloc(), octets));
+    }
+}
+
+#[test]
+fn varints_are_read_up_to_their_limits(rt: HostRuntime) {
+    let spelled: [(&[u8], u64); 8] = [
+        (b"\x08\x00", 0),
+        (b"\x08\x7f", 127),
+        (b"\x08\x80\x01", 128),
+        (b"\x08\x80\x80\x80\x80\x80\x80\x80\x80\x80\x01", 1 << 63),
+        (b"\x08\xff\xff\xff\xff\xff\xff\xff\xff\xff\x01", u64::MAX),
+        // more octets than are needed
+        (b"\x08\x80\x00", 0),
+        (b"\x08\xff\x80\x80\x00", 127),
+        (b"\x88\x80\x00\x96\x81\x00", 150),
+    ];
+    for (octets, value) in spelled {
+        let wanted = [Field {
+            number: 1,
+            body: Body::Varint(value),
+        }];
+        match fields_of(rt.alloc(), octets) {
+            Ok(fields) => assert_eq!(rt; fields.items(), wanted.as_slice()),
+            Err(_) => panic!(rt; "a varint is read"),
+        }
+    }
+    let refused: [&[u8]; 4] = [
+        // eleven octets, and 65 bits in ten
+        b"\x08\x80\x80\x80\x80\x80\x80\x80\x80\x80\x80\x00",
+        b"\x08\xff\xff\xff\xff\xff\xff\xff\xff\xff\x02",
+        b"\x08\x80\x80\x80\x80\x80\x80\x80\x80\x80\x03",
+        b"\x08\x80",
+    ];
+    for octets in refused {
+        assert!(rt; is_bad(rt.alloc(), octets));
+    }
+}
+
+#[test]
+fn tags_are_read_up_to_their_limits(rt: HostRuntime) {
+    // 536,870,911 is the last field number; 0 and 536,870,912 are none
+    let last = b"\xf8\xff\xff\xff\x0f\x05";
+    match fields_of(rt.alloc(), last) {
+        Ok(fields) => assert_eq!(rt; last_varint(&fields, 536_870_911), Some(5)),
+        Err(_) => panic!(rt; "the last number is read"),
+    }
+    let refused: [&[u8]; 6] = [
+        b"\x00\x01",
+        b"\x80\x80\x80\x80\x10\x05",
+        b"\x0b",
+        b"\x0c",
+        b"\x0e\x00",
+        b"\x0f\x00",
+    ];
+    for octets in refused {
+        assert!(rt; is_bad(rt.alloc(), octets));
+    }
+}
+
+/// A field of each wire type, the first three of protobuf.dev's examples and an unknown one among them.
+const MESSAGE: &[u8] =
+    b"\x08\x96\x01\x12\x07testing\xfd\x0f\x01\x02\x03\x04\x19\x01\x00\x00\x00\x00\x00\x00\x80";
+
+#[test]
+fn fields_of_each_kind_are_listed_with_their_places(rt: HostRuntime) {
+    let wanted = [
+        Field {
+            number: 1,
+            body: Body::Varint(150),
+        },
+        Field {
+            number: 2,
+            body: Body::Octets(5, 12),
+        },
+        Field {
+            number: 255,
+            body: Body::Four(0x0403_0201),
+        },
+        Field {
+            number: 3,
+            body: Body::Eight(0x8000_0000_0000_0001),
+        },
+    ];
+    match fields_of(rt.alloc(), MESSAGE) {
+        Ok(fields) => assert_eq!(rt; fields.items(), wanted.as_slice()),
+        Err(_) => panic!(rt; "the message is read"),
+    }
+    for end in 0..MESSAGE.len() {
+        let whole = matches!(end, 0 | 3 | 12 | 18);
+        assert_eq!(rt; is_bad(rt.alloc(), &MESSAGE[..end]), !whole, "cut at {end}");
+    }
+}
+
+#[test]
+fn the_last_scalar_wins_and_octets_are_joined(rt: HostRuntime) {
+    let twice = b"\x18\xdc\x0b\x18\xf8\x0a";
+    match fields_of(rt.alloc(), twice) {
+        Ok(fields) => {
+            assert_eq!(rt; fields.len(), 2);
+            assert_eq!(rt; last_varint(&fields, 3), Some(1400));
+            assert_eq!(rt; last_varint(&fields, 4), None);
+        }
+        Err(_) => panic!(rt; "two varints are read"),
+    }
+    let parts = b"\x0a\x02ab\x12\x01x\x0a\x00\x0a\x01c";
+    let mut out: Bytes = Seq::empty(rt.alloc());
+    match fields_of(rt.alloc(), parts) {
+        Ok(fields) => {
+            assert!(rt; matches!(joined(parts, &fields, 1, &mut out), Ok(true)));
+            assert!(rt; matches!(joined(parts, &fields, 3, &mut out), Ok(false)));
+            assert_eq!(rt; out.items(), b"abc".as_slice());
+            for field in fields.items() {
+                assert_eq!(rt; varint_of(field, 1), None);
+            }
+        }
+        Err(_) => panic!(rt; "the parts are read"),
+    }
+}
+
+#[test]
+fn fields_are_written_as_others_write_them(rt: HostRuntime) {
+    let mut out: Bytes = Seq::empty(rt.alloc());
+    assert!(rt; put_varint(1, 150, &mut out).is_ok());
+    assert!(rt; put_octets(2, b"testing", &mut out).is_ok());
+    assert!(rt; put_varint(2, u64::MAX - 4, &mut out).is_ok());
+    assert!(rt; put_octets(15, b"", &mut out).is_ok());
+    let wanted = b"\x08\x96\x01\x12\x07testing\x10\xfb\xff\xff\xff\xff\xff\xff\xff\xff\x01\x7a\x00";
+    assert_eq!(rt; out.items(), wanted.as_slice());
+}
