@@ -1,0 +1,5 @@
+pub mod Examples
+pub mod Fronts
+pub mod Images
+pub mod Masks
+pub mod Moving

@@ -1,0 +1,24 @@
+// What callers may conclude of images.
+ghost use Rattle.std.specs.Prelude.{◌≡◌, ◌≤◌, ◌<◌, ◌↔◌, ℕ, List, Option, Some, None, length, slice_get, take};
+ghost use Rattle.disk_model.specs.Content.{Wrote};
+ghost use Rattle.disk_model.specs.Images.{IsImage, synced, touched};
+
+/// Octets are an image where they are at least as many as the mask has places, and each octet that stays is there.
+pub fn image_is_of_mask()
+    ensures { (mask : List (Option ℕ)) (octets : List ℕ) → IsImage mask octets ↔ ((length mask ≤ length octets) × ((place stays : ℕ) → slice_get mask place ≡ Some (Some stays) → slice_get octets place ≡ Some stays)) }
+{}
+
+/// After a sync the octets themselves are an image, and each image begins with them.
+pub fn synced_image()
+    ensures { (seen octets : List ℕ) → IsImage (synced seen) octets ↔ (take (length seen) octets ≡ seen) }
+{}
+
+/// What was an image stays one where a place was touched.
+pub fn image_of_touched()
+    ensures { (mask : List (Option ℕ)) (octets : List ℕ) (place n : ℕ) → IsImage mask octets → IsImage (touched place n mask) octets }
+{}
+
+/// An image over which a piece is written is an image after the write.
+pub fn image_of_written()
+    ensures { (mask : List (Option ℕ)) (old piece new : List ℕ) (place : ℕ) → IsImage mask old → Wrote place piece old new → IsImage (touched place (length piece) mask) new }
+{}

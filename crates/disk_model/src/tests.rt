@@ -1,0 +1,91 @@
+// A file as a disk, which tells nothing of its content.
+ghost use Rattle.std.specs.Prelude.{◌≤◌, None};
+ghost use Rattle.edge_traits.specs.Faults.{Rose};
+
+use super::*;
+use edge_traits::Failed;
+use std::alloc::Global;
+use std::fs::{self, File, OpenOptions};
+use std::io;
+use std::os::unix::fs::FileExt;
+
+#[derive(Drop)]
+struct FileDisk {
+    file: File,
+    faults: u64,
+}
+
+impl FileDisk {
+    fn fail(&mut self) -> Failed
+        ensures { Rose self.old.faults self.new.faults × (self.old.faults ≤ self.new.faults) }
+    {
+        self.faults = self.faults.saturating_add(1);
+        Failed
+    }
+}
+
+impl Disk for FileDisk {
+    ghost told = { λ d. None };
+
+    ghost faults = { λ d. d.faults };
+
+    fn len(&mut self) -> Result<u64, Failed> {
+        match self.file.metadata() {
+            Ok(metadata) => Ok(metadata.len()),
+            Err(_) => Err(self.fail()),
+        }
+    }
+
+    fn read(&mut self, place: u64, into: &mut [u8]) -> Result<usize, Failed> {
+        match self.file.read_at(into, place) {
+            Ok(count) => Ok(count),
+            Err(_) => Err(self.fail()),
+        }
+    }
+
+    fn write_at(&mut self, place: u64, piece: &[u8]) -> Result<(), Failed> {
+        match self.file.write_all_at(piece, place) {
+            Ok(()) => Ok(()),
+            Err(_) => Err(self.fail()),
+        }
+    }
+
+    fn cut(&mut self, length: u64) -> Result<(), Failed> {
+        if length >= self.len()? {
+            return Ok(());
+        }
+        match self.file.set_len(length) {
+            Ok(()) => Ok(()),
+            Err(_) => Err(self.fail()),
+        }
+    }
+
+    fn sync(&mut self) -> Result<(), Failed> {
+        match self.file.sync_all() {
+            Ok(()) => Ok(()),
+            Err(_) => Err(self.fail()),
+        }
+    }
+}
+
+#[test]
+fn a_file_is_written_synced_cut_and_read(rt: HostRuntime) -> io::Result<()> {
+    let mut disk = FileDisk {
+        file: OpenOptions::new()
+            .read(true)
+            .write(true)
+            .create(true)
+            .truncate(true)
+            .open(&rt, "disk_model_file_disk")?,
+        faults: 0,
+    };
+    assert_eq!(rt; put_synced(&mut disk, 2, b"abcd"), Ok(()));
+    assert_eq!(rt; disk.cut(9), Ok(()));
+    assert_eq!(rt; disk.cut(5), Ok(()));
+    assert_eq!(rt; disk.sync(), Ok(()));
+    match read_whole(rt.alloc(), &mut disk) {
+        Ok(octets) => assert_eq!(rt; octets.items(), b"\0\0abc".as_slice()),
+        Err(fault) => assert!(rt; false, "{fault}"),
+    }
+    fs::remove_file(&rt, "disk_model_file_disk")
+}

@@ -1,0 +1,5 @@
+use Rattle.memory_disks.proofs.Fused.{fused_front}
+use Rattle.memory_disks.proofs.fuse.FuseDisk.fail_cut.Goals as goal
+
+pub invariant_of-self : goal.invariant_of-self
+invariant_of-self c = fused_front _ _ _ _ _ _ _ _ c.args.length c.cut.ensures.kept c.self.invariant

@@ -1,0 +1,89 @@
+-- A disk that stops and fails in the calls for which it is armed.
+use Rattle.std.specs.Prelude.{◌≡◌, ◌⊎◌, ℕ, Bool, true, List, [], ◌∷◌, ◌++◌, length, Option, Some, None, Result, MatchResult, IsErr, unwrap_or}
+use Rattle.disk_model.specs.Content.{Content}
+use Rattle.memory_disks.specs.declared.fill.Fill.{Fill}
+use Rattle.memory_disks.specs.declared.arming.Arming.{Arming}
+use Rattle.memory_disks.specs.declared.arming.Way.{Way}
+use Rattle.memory_disks.specs.declared.arming.Way.TheVariants.{Passes, Fails, Stops}
+use Rattle.memory_disks.specs.Armings.{after}
+use Rattle.memory_disks.specs.Calls.{counted, wrote, write_failed, cut_to, cut_failed, synced_now, settled}
+use Rattle.memory_disks.specs.Octets.{laid, left_by}
+
+pub record FuseView : Type 0 where
+  pub content : Content
+  pub faults : ℕ
+  -- whether it has failed for want of memory
+  pub starved : Bool
+  pub arming : Arming
+  -- the octets of the last sync
+  pub base : List ℕ
+  -- the ranges that were written since, each a place and a length
+  pub written : List (ℕ × ℕ)
+  -- what the stop left
+  pub left : Option (List ℕ)
+
+-- the counts go on by one call
+abbrev pub called : FuseView → FuseView
+called disk = record disk { arming = after disk.arming }
+
+-- a call fails, with this content, and is counted
+abbrev pub failed : Content → FuseView → FuseView
+failed content disk = record disk { content = content; faults = counted disk.faults }
+
+-- and it fails for want of memory
+abbrev pub starved : FuseView → FuseView
+starved disk = record disk { starved = true }
+
+-- the disk stops: by what a read gives and by the ranges that were written since the last sync
+abbrev pub stopped : Fill → List ℕ → List (ℕ × ℕ) → FuseView → FuseView
+stopped fill seen written disk = record disk { left = Some (left_by fill disk.base seen written) }
+
+-- what a call does that changes no content: the length, or a read
+abbrev pub looked : Way → FuseView → FuseView
+looked Passes disk = disk
+looked Fails disk = failed disk.content disk
+looked (Stops fill) disk = stopped fill disk.content.seen disk.written (failed disk.content disk)
+
+-- A sync. After it nothing is written since the last one. A sync that fails changes nothing.
+abbrev pub synced_by : Way → FuseView → FuseView
+synced_by Passes disk = record disk { content = synced_now disk.content; base = disk.content.seen; written = [] }
+synced_by Fails disk = looked Fails disk
+synced_by (Stops fill) disk = looked (Stops fill) disk
+
+-- a stop in a write
+abbrev pub StopsInWrite : Fill → ℕ → List ℕ → FuseView → FuseView → Type 0
+StopsInWrite fill place piece old new =
+    (new ≡ stopped fill (laid place piece old.content.seen) (old.written ++ (place, length piece) ∷ []) (failed (write_failed place piece old.content) old))
+    ⊎ (new ≡ starved (stopped fill old.content.seen old.written (failed (write_failed place piece old.content) old)))
+
+-- A write. Where it passes it fails for want of memory alone. Where the disk stops in it, its piece counts as written
+-- since the last sync, unless there was no memory for it.
+abbrev pub WriteGives : {E : Type 0} → Way → ℕ → List ℕ → Result Unit E → FuseView → FuseView → Type 0
+WriteGives Passes place piece result old new = MatchResult result
+    (λ _. new ≡ record old { content = wrote place piece old.content; written = old.written ++ (place, length piece) ∷ [] })
+    (λ _. new ≡ starved (failed (write_failed place piece old.content) old))
+WriteGives Fails place piece result old new = IsErr result × (new ≡ failed (write_failed place piece old.content) old)
+WriteGives (Stops fill) place piece result old new = IsErr result × StopsInWrite fill place piece old new
+
+-- A cut. Where it passes it fails for want of memory alone. Where the disk stops in it, it isn't made.
+abbrev pub CutGives : {E : Type 0} → Way → ℕ → Result Unit E → FuseView → FuseView → Type 0
+CutGives Passes n result old new = MatchResult result
+    (λ _. new ≡ record old { content = cut_to n old.content })
+    (λ _. new ≡ starved (failed (cut_failed n old.content) old))
+CutGives Fails n result old new = IsErr result × (new ≡ failed (cut_failed n old.content) old)
+CutGives (Stops fill) n result old new = IsErr result × (new ≡ stopped fill old.content.seen old.written (failed (cut_failed n old.content) old))
+
+-- what the disk leaves: after a stop what that left, and before one what a read gives
+abbrev pub image_of : FuseView → List ℕ
+image_of disk = unwrap_or disk.left disk.content.seen
+
+-- a disk that is made of these octets, all of them synced
+abbrev pub made_of : List ℕ → Bool → Arming → FuseView
+made_of octets starved arming = record { content = settled octets; faults = 0; starved = starved; arming = arming; base = octets; written = []; left = None }
+
+-- A disk is ready for what its call does: while it passes or stops it hasn't left anything, and in its stop it is marked
+-- as stopped.
+abbrev pub IsReady : Way → FuseView → Type 0
+IsReady Passes disk = disk.left ≡ None
+IsReady Fails disk = Unit {0}
+IsReady (Stops fill) disk = (disk.left ≡ None) × (disk.arming.stopped ≡ true)

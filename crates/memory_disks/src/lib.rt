@@ -1,0 +1,23 @@
+//! Disks in memory: one that never stops, and one that stops and fails in the calls for which it is armed.
+#![tactic(auto)]
+
+mod armed;
+mod arming;
+mod fill;
+mod fuse;
+mod laws;
+mod leaving;
+mod log;
+mod memory;
+mod octets;
+mod queue;
+
+pub use armed::Armed;
+pub use arming::{Arming, Way};
+pub use fill::Fill;
+pub use fuse::FuseDisk;
+pub use laws::{failure_hits_its_call, stop_hits_its_call, unarmed_passes};
+pub use memory::MemDisk;
+
+#[cfg(test)]
+mod tests;

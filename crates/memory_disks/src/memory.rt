@@ -1,0 +1,174 @@
+ghost use Rattle.std.specs.Prelude.{◌≡◌, ◌≤◌, ◌↔◌, ℕ, [], length, take, drop, min, true, false, IsTrue, IsOk, Some, IfOk, OnOk, OnErr};
+ghost use Rattle.edge_traits.specs.Faults.{HasCause};
+ghost use Rattle.disk_model.specs.Content.{Content, Moved, Tells, ReadsAt, Changes, Wrote};
+ghost use Rattle.disk_model.specs.Images.{IsImage, synced, touched};
+ghost use Rattle.memory_disks.specs.Calls.{wrote, write_failed, cut_to, synced_now, settled, counted};
+ghost use Rattle.memory_disks.specs.Views.{DiskView, starved_with};
+
+use crate::log::Log;
+use crate::octets::{copy_from, write_over};
+use base_lists::NoMemory;
+use disk_model::Disk;
+use edge_traits::Failed;
+use std::alloc::Global;
+use std::marker::Model;
+
+/// A disk in memory, which never stops. It fails for want of memory alone.
+#[derive(Drop)]
+pub struct MemDisk {
+    alloc: Global,
+    octets: Vec<u8>,
+    log: Log,
+    faults: u64,
+    starved: bool,
+}
+
+impl Model for MemDisk {
+    ghost use Rattle.disk_model.specs.Images.{IsImage};
+    ghost use Rattle.memory_disks.specs.Logs.{kept_by, past_of};
+    ghost use Rattle.memory_disks.specs.Views.{DiskView};
+
+    ghost Value = { DiskView };
+
+    ghost view = { λ d. record { content = record { seen = d.octets.items; kept = kept_by d.log; past = past_of d.log }; faults = d.faults; starved = d.starved } };
+
+    ghost invariant = { λ d. IsImage (kept_by d.log) d.octets.items };
+}
+
+impl MemDisk {
+    ghost use Rattle.memory_disks.specs.Logs.{kept_by, past_of};
+
+    /// An empty disk. Takes no memory.
+    pub fn make(alloc: Global) -> MemDisk
+        ensures { result ≡ record { content = settled []; faults = 0; starved = false } }
+    {
+        MemDisk::holding(alloc, Vec::new(alloc), false)
+    }
+
+    /// A disk with these octets, all synced.
+    pub fn of(alloc: Global, octets: &[u8]) -> Result<MemDisk, NoMemory>
+        ensures { IfOk result (λ disk. disk ≡ record { content = settled octets.now; faults = 0; starved = false }) }
+    {
+        let octets = octets.to_vec(alloc)?;
+        Ok(MemDisk::holding(alloc, octets, false))
+    }
+
+    /// A disk with these octets, all synced. Takes no memory.
+    pub(crate) fn holding(alloc: Global, octets: Vec<u8>, starved: bool) -> MemDisk
+        ensures { result ≡ record { content = settled octets.items; faults = 0; starved = starved } }
+    {
+        MemDisk {
+            alloc,
+            log: Log::made(&octets),
+            octets,
+            faults: 0,
+            starved,
+        }
+    }
+
+    /// Its allocator, its octets, its calls, and whether it has failed for want of memory.
+    pub(crate) fn into_parts(self) -> (Global, Vec<u8>, Log, bool)
+        ensures seen { result.1.items ≡ self.content.seen }
+        ensures kept { kept_by result.2 ≡ self.content.kept }
+        ensures past { past_of result.2 ≡ self.content.past }
+        ensures starved { result.3 ≡ self.starved }
+        ensures image { IsImage self.content.kept self.content.seen }
+    {
+        let MemDisk {
+            alloc,
+            octets,
+            log,
+            starved,
+            ..
+        } = self;
+        (alloc, octets, log, starved)
+    }
+
+    /// What a read gives.
+    pub fn octets(&self) -> &[u8]
+        ensures { result.now ≡ self.now.content.seen }
+    {
+        self.octets.as_slice()
+    }
+
+    /// Whether it has failed for want of memory.
+    pub fn starved(&self) -> bool
+        ensures { result ≡ self.now.starved }
+    {
+        self.starved
+    }
+}
+
+impl Disk for MemDisk {
+    ghost told = { λ d. Some d.content };
+
+    ghost faults = { λ d. d.faults };
+
+    /// Never fails.
+    fn len(&mut self) -> Result<u64, Failed>
+        ensures ok { result ≡ Ok (length self.old.content.seen) }
+        ensures same { self.new ≡ self.old }
+        ensures length { IfOk result (λ n. Tells (Some self.old.content) (λ c. n ≡ length c.seen)) }
+        ensures keeps { Some self.new.content ≡ Some self.old.content }
+        ensures cause { HasCause self.old.faults self.new.faults result }
+    {
+        Ok(self.octets.len() as u64)
+    }
+
+    /// Never fails, and fills the buffer as far as there are octets.
+    fn read(&mut self, place: u64, into: &mut [u8]) -> Result<usize, Failed>
+        ensures ok { result ≡ Ok (min (length into.old) (length (drop place self.old.content.seen))) }
+        ensures same { self.new ≡ self.old }
+        ensures bound { IfOk result (λ n. n ≤ length into.new) }
+        ensures octets { IfOk result (λ n. Tells (Some self.old.content) (λ c. ReadsAt c.seen place n into.new)) }
+        ensures keeps { Some self.new.content ≡ Some self.old.content }
+        ensures cause { HasCause self.old.faults self.new.faults result }
+    {
+        Ok(copy_from(&self.octets, place, into))
+    }
+
+    /// Fails for want of memory alone, and then changes nothing that a read gives.
+    fn write_at(&mut self, place: u64, piece: &[u8]) -> Result<(), Failed>
+        ensures ok { OnOk result (self.new ≡ record self.old { content = wrote place piece.now self.old.content }) }
+        ensures err { OnErr result (self.new ≡ starved_with (write_failed place piece.now self.old.content) self.old) }
+        ensures images { Moved (Some self.old.content) (Some self.new.content) (λ old new. Changes (touched place (length piece.now) old.kept) old new) }
+        ensures written { OnOk result (Moved (Some self.old.content) (Some self.new.content) (λ old new. Wrote place piece.now old.seen new.seen)) }
+        ensures cause { HasCause self.old.faults self.new.faults result }
+    {
+        self.log = self.log.wrote(place, piece.len());
+        match write_over(&mut self.octets, place, piece) {
+            Ok(()) => Ok(()),
+            Err(_) => {
+                self.starved = true;
+                self.faults = self.faults.saturating_add(1);
+                Err(Failed)
+            }
+        }
+    }
+
+    /// Never fails.
+    fn cut(&mut self, length: u64) -> Result<(), Failed>
+        ensures ok { IsOk result }
+        ensures to { self.new ≡ record self.old { content = cut_to length self.old.content } }
+        ensures images { Moved (Some self.old.content) (Some self.new.content) (λ old new. Changes (take length old.kept) old new) }
+        ensures cut { OnOk result (Moved (Some self.old.content) (Some self.new.content) (λ old new. new.seen ≡ take length old.seen)) }
+        ensures cause { HasCause self.old.faults self.new.faults result }
+    {
+        self.log = self.log.cut(length);
+        self.octets.truncate(length as usize);
+        Ok(())
+    }
+
+    /// Never fails.
+    fn sync(&mut self) -> Result<(), Failed>
+        ensures ok { IsOk result }
+        ensures now { self.new ≡ record self.old { content = synced_now self.old.content } }
+        ensures images { OnOk result (Moved (Some self.old.content) (Some self.new.content) (λ old new. Changes (synced old.seen) old new)) }
+        ensures seen { OnOk result (Moved (Some self.old.content) (Some self.new.content) (λ old new. new.seen ≡ old.seen)) }
+        ensures keeps { OnErr result (Some self.new.content ≡ Some self.old.content) }
+        ensures cause { HasCause self.old.faults self.new.faults result }
+    {
+        self.log = self.log.synced(&self.octets);
+        Ok(())
+    }
+}
