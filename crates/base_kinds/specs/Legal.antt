@@ -111,8 +111,8 @@ abbrev pub GivenInTurn : Rules → List Entry → List Entry → Type 0
 GivenInTurn rules h [] = Unit {0}
 GivenInTurn rules h (entry ∷ entries) = Gives rules h entry × GivenInTurn rules (h ++ entry ∷ []) entries
 
--- The history is the base and entries that were given in turn. The base is the history that an opening found, since
--- an earlier run may have had another schema.
+-- The history is the base and entries that were given in turn. The base is the history that an opening gave, its
+-- Restart included: that entry answers no ask, and an earlier run may have had another schema.
 pub record IsLegal (rules : Rules) (base h : List Entry) : Type 0 where
   pub more : List Entry
   pub whole : h ≡ base ++ more
