@@ -1,6 +1,6 @@
 use super::*;
 use base_lists::NoMemory;
-use disk_model::{Disk, put_synced, read_whole};
+use disk_model::{Disk, ReadFault, put_synced, read_whole};
 
 /// What stands for the octet of the fill in a table.
 const FILLED: u8 = 255;
@@ -74,6 +74,9 @@ fn a_stop_leaves_what_its_fill_says(rt: HostRuntime) -> Result<(), NoMemory> {
             let inner = MemDisk::of(rt.alloc(), &[1, 2, 3, 4])?;
             let mut disk = FuseDisk::make(inner, passes, fill);
             let failed = make_calls(&mut disk);
+            if disk.starved() {
+                return Err(NoMemory);
+            }
             assert_eq!(rt; failed as u64, 6 - passes, "at {passes}");
             assert_eq!(rt; disk.stopped(), passes < 6, "at {passes}");
             let image = disk.image();
@@ -126,7 +129,11 @@ fn further_stops_and_failures_wait(rt: HostRuntime) -> Result<(), NoMemory> {
 #[test]
 fn a_disk_in_memory_is_written_and_read(rt: HostRuntime) -> Result<(), NoMemory> {
     let mut disk = MemDisk::make(rt.alloc());
-    assert_eq!(rt; put_synced(&mut disk, 2, b"abcd"), Ok(()));
+    let put = put_synced(&mut disk, 2, b"abcd");
+    if disk.starved() {
+        return Err(NoMemory);
+    }
+    assert_eq!(rt; put, Ok(()));
     assert_eq!(rt; disk.write_at(9, b""), Ok(()));
     assert_eq!(rt; disk.len(), Ok(6));
     assert_eq!(rt; disk.cut(5), Ok(()));
@@ -136,7 +143,8 @@ fn a_disk_in_memory_is_written_and_read(rt: HostRuntime) -> Result<(), NoMemory>
     let mut disk = FuseDisk::make(disk, u64::MAX, Fill::Old);
     match read_whole(rt.alloc(), &mut disk) {
         Ok(octets) => assert_eq!(rt; octets.items(), b"\0\0abc".as_slice()),
-        Err(fault) => assert!(rt; false, "{fault}"),
+        Err(ReadFault::NoMemory) => return Err(NoMemory),
+        Err(ReadFault::DiskFault) => assert!(rt; false, "a disk that isn't armed failed"),
     }
     let disk = disk.image();
     assert_eq!(rt; disk.octets(), b"\0\0abc".as_slice());
