@@ -1,0 +1,160 @@
+-- What matching goes by, element after element.
+use Rattle.std.proofs.Common.{◌≡◌, List, [], ◌∷◌, Bool, true, false, ◌&&◌, ◌||◌, map, codes, refl, sym, ap, ◌∙◌}
+use Rattle.std.specs.List.{list_any}
+use Rattle.std.specs.Str.{bytes_eq}
+use Rattle.std.proofs.lemmas.Bool.{or_parts, or_from, and_left, and_right, and_from}
+use Rattle.base_kinds.specs.declared.path.Elem.{Elem}
+use Rattle.base_kinds.specs.Match.{rests, fronts, elem_matches, first_matches, matches, covers}
+use Rattle.path_core.specs.declared.matching.Extent.{Extent}
+use Rattle.path_core.specs.declared.matching.Extent.TheVariants.{Whole, Front}
+use Rattle.path_core.specs.declared.matching.Found.{Found}
+use Rattle.path_core.specs.declared.matching.Found.TheVariants.{Match, Differs, Never}
+use Rattle.path_core.specs.Searching.{test_by, IsFound}
+
+-- ---- tests of some item
+
+any_same : {X : Type 0} (f g : X → Bool) → ((x : X) → f x ≡ g x) → (xs : List X) → list_any f xs ≡ list_any g xs
+any_same f g same [] = refl
+any_same f g same (x ∷ xs) = ap (λ b. b || list_any f xs) (same x) ∙ ap (λ b. g x || b) (any_same f g same xs)
+
+any_map : {X Y : Type 0} (f : Y → Bool) (g : X → Y) (xs : List X) → list_any f (map g xs) ≡ list_any (λ x. f (g x)) xs
+any_map f g [] = refl
+any_map f g (x ∷ xs) = ap (λ b. f (g x) || b) (any_map f g xs)
+
+any_false : {X : Type 0} (xs : List X) → list_any (λ x. false) xs ≡ false
+any_false [] = refl
+any_false (x ∷ xs) = any_false xs
+
+any_and : {X : Type 0} (b : Bool) (g : X → Bool) (xs : List X) → list_any (λ x. b && g x) xs ≡ (b && list_any g xs)
+any_and true g xs = refl
+any_and false g xs = any_false xs
+
+or_swap : (a b c d : Bool) → ((a || b) || (c || d)) ≡ ((a || c) || (b || d))
+or_swap true b c d = refl
+or_swap false true true d = refl
+or_swap false true false d = refl
+or_swap false false c d = refl
+
+or_assoc : (a b c : Bool) → (a || (b || c)) ≡ ((a || b) || c)
+or_assoc true b c = refl
+or_assoc false b c = refl
+
+or_false : (b : Bool) → (b || false) ≡ b
+or_false true = refl
+or_false false = refl
+
+or_none : (a b : Bool) → a ≡ false → b ≡ false → (a || b) ≡ false
+or_none a b e f = or_from a b e f
+
+any_or : {X : Type 0} (f g : X → Bool) (xs : List X) → list_any (λ x. f x || g x) xs ≡ (list_any f xs || list_any g xs)
+any_or f g [] = refl
+any_or f g (x ∷ xs) = ap (λ b. (f x || g x) || b) (any_or f g xs) ∙ or_swap (f x) (g x) (list_any f xs) (list_any g xs)
+
+-- ---- rests and fronts
+
+-- a rest of a rest is a rest
+rests_again : (g : List Elem → Bool) (path : List Elem) → list_any g (rests path) ≡ false → list_any (λ rest. list_any g (rests rest)) (rests path) ≡ false
+rests_again g [] none = rw none refl
+rests_again g (elem ∷ elems) none =
+    or_none (list_any g (rests (elem ∷ elems))) (list_any (λ rest. list_any g (rests rest)) (rests elems)) none (rests_again g elems (or_parts (g (elem ∷ elems)) (list_any g (rests elems)) none).1)
+
+-- a rest of a front is a front of a rest
+rests_of_fronts : (g : List Elem → Bool) (path : List Elem) → list_any (λ front. list_any g (rests front)) (fronts path) ≡ list_any (λ rest. list_any g (fronts rest)) (rests path)
+rests_of_fronts g [] = refl
+rests_of_fronts g (elem ∷ elems) =
+    let below : Bool = list_any (λ rest. list_any g (fronts rest)) (rests elems) in
+    let here : Bool = list_any (λ front. g (elem ∷ front)) (fronts elems) in
+    let split : list_any (λ front. list_any g (rests front)) (map (λ front. elem ∷ front) (fronts elems)) ≡ (here || below) =
+    any_map (λ front. list_any g (rests front)) (λ front. elem ∷ front) (fronts elems) ∙ any_or (λ front. g (elem ∷ front)) (λ front. list_any g (rests front)) (fronts elems) ∙ ap (λ b. here || b) (rests_of_fronts g elems) in
+    ap (λ b. (g [] || false) || b) split ∙ ap (λ b. b || (here || below)) (or_false (g [])) ∙ or_assoc (g []) here below ∙ ap (λ b. (g [] || b) || below) (sym (any_map g (λ front. elem ∷ front) (fronts elems)))
+
+-- ---- the pattern's first element
+
+abbrev is_many : Elem → Bool
+is_many elem = bytes_eq elem.name (codes "...")
+
+whole_many : (first : Elem) (others path : List Elem) → is_many first ≡ true → matches (first ∷ others) path ≡ list_any (matches others) (rests path)
+whole_many first others path many = rw many refl
+
+whole_one : (first : Elem) (others path : List Elem) → is_many first ≡ false → matches (first ∷ others) path ≡ first_matches first (matches others) path
+whole_one first others path one = rw one refl
+
+front_one : (first : Elem) (others path : List Elem) → is_many first ≡ false → covers (first ∷ others) path ≡ first_matches first (covers others) path
+front_one first others [] one = or_false (matches (first ∷ others) []) ∙ whole_one first others [] one
+front_one first others (elem ∷ elems) one =
+    let none : matches (first ∷ others) [] ≡ false = whole_one first others [] one in
+    let each : (front : List Elem) → matches (first ∷ others) (elem ∷ front) ≡ (elem_matches first elem && matches others front) = λ front. whole_one first others (elem ∷ front) one in
+    ap (λ b. b || list_any (matches (first ∷ others)) (map (λ front. elem ∷ front) (fronts elems))) none ∙ any_map (matches (first ∷ others)) (λ front. elem ∷ front) (fronts elems) ∙ any_same (λ front. matches (first ∷ others) (elem ∷ front)) (λ front. elem_matches first elem && matches others front) each (fronts elems) ∙ any_and (elem_matches first elem) (matches others) (fronts elems)
+
+test_many : (extent : Extent) (first : Elem) (others path : List Elem) → is_many first ≡ true → test_by extent (first ∷ others) path ≡ list_any (test_by extent others) (rests path)
+test_many Whole first others path many = whole_many first others path many
+test_many Front first others path many =
+    any_same (matches (first ∷ others)) (λ front. list_any (matches others) (rests front)) (λ front. whole_many first others front many) (fronts path) ∙ rests_of_fronts (matches others) path
+
+test_one : (extent : Extent) (first : Elem) (others path : List Elem) → is_many first ≡ false → test_by extent (first ∷ others) path ≡ first_matches first (test_by extent others) path
+test_one Whole first others path one = whole_one first others path one
+test_one Front first others path one = front_one first others path one
+
+-- ---- what a search finds
+
+pub found_many : (extent : Extent) (pattern : List Elem) (first : Elem) (others path : List Elem) → pattern ≡ first ∷ others → is_many first ≡ true → list_any (test_by extent others) (rests path) ≡ true → test_by extent pattern path ≡ true
+found_many extent pattern first others path is many some = rw is (test_many extent first others path many ∙ some)
+
+pub never_many : (extent : Extent) (pattern : List Elem) (first : Elem) (others path : List Elem) → pattern ≡ first ∷ others → is_many first ≡ true → list_any (test_by extent others) (rests path) ≡ false → list_any (test_by extent pattern) (rests path) ≡ false
+never_many extent pattern first others path is many none =
+    rw is (any_same (test_by extent (first ∷ others)) (λ rest. list_any (test_by extent others) (rests rest)) (λ rest. test_many extent first others rest many) (rests path) ∙ rests_again (test_by extent others) path none)
+
+pub never_at_end : (extent : Extent) (pattern : List Elem) (first : Elem) (others path : List Elem) → pattern ≡ first ∷ others → is_many first ≡ false → path ≡ [] → list_any (test_by extent pattern) (rests path) ≡ false
+never_at_end extent pattern first others path is one ended =
+    rw (is, ended) (ap (λ b. b || false) (test_one extent first others [] one))
+
+pub differs_here : (extent : Extent) (pattern : List Elem) (first : Elem) (others path : List Elem) (elem : Elem) (rest : List Elem) → pattern ≡ first ∷ others → is_many first ≡ false → path ≡ elem ∷ rest → elem_matches first elem ≡ false → test_by extent pattern path ≡ false
+differs_here extent pattern first others path elem rest is one ended fails =
+    rw (is, ended) (test_one extent first others (elem ∷ rest) one ∙ and_left (elem_matches first elem) (test_by extent others rest) fails)
+
+never_below : (first : Elem) (g : List Elem → Bool) (elem : Elem) (rest : List Elem) → list_any g (rests rest) ≡ false → list_any (first_matches first g) (rests (elem ∷ rest)) ≡ false
+never_below first g elem [] none =
+    let fails = (or_parts (g []) false none).0 in
+    or_none (elem_matches first elem && g []) false (and_right (elem_matches first elem) (g []) fails) refl
+never_below first g elem (other ∷ rest) none =
+    let parts = or_parts (g (other ∷ rest)) (list_any g (rests rest)) none in
+    or_none (elem_matches first elem && g (other ∷ rest)) (list_any (first_matches first g) (rests (other ∷ rest))) (and_right (elem_matches first elem) (g (other ∷ rest)) parts.0) (never_below first g other rest parts.1)
+
+step : (found : Found) (extent : Extent) (first : Elem) (others : List Elem) (elem : Elem) (rest : List Elem) → is_many first ≡ false → elem_matches first elem ≡ true → IsFound found extent others rest → IsFound found extent (first ∷ others) (elem ∷ rest)
+step Match extent first others elem rest one here below = test_one extent first others (elem ∷ rest) one ∙ and_from (elem_matches first elem) (test_by extent others rest) here below
+step Differs extent first others elem rest one here below = test_one extent first others (elem ∷ rest) one ∙ and_right (elem_matches first elem) (test_by extent others rest) below
+step Never extent first others elem rest one here below =
+    any_same (test_by extent (first ∷ others)) (first_matches first (test_by extent others)) (λ path. test_one extent first others path one) (rests (elem ∷ rest)) ∙ never_below first (test_by extent others) elem rest below
+
+pub found_below : (found : Found) (extent : Extent) (pattern : List Elem) (first : Elem) (others path : List Elem) (elem : Elem) (rest : List Elem) → pattern ≡ first ∷ others → is_many first ≡ false → path ≡ elem ∷ rest → elem_matches first elem ≡ true → IsFound found extent others rest → IsFound found extent pattern path
+found_below found extent pattern first others path elem rest is one goes here below = rw (is, goes) (step found extent first others elem rest one here below)
+
+-- ---- the end of the pattern
+
+pub no_elem_left : (path : List Elem) → path ≡ [] → matches [] path ≡ true
+no_elem_left path ended = rw ended refl
+
+pub end_differs : (path : List Elem) → (path ≡ [] → ⊥) → matches [] path ≡ false
+end_differs [] some = absurd (some refl)
+end_differs (elem ∷ elems) some = refl
+
+pub end_covers : (path : List Elem) → covers [] path ≡ true
+end_covers [] = refl
+end_covers (elem ∷ elems) = refl
+
+-- ---- going through the rests
+
+pub first_rest : (g : List Elem → Bool) (path : List Elem) → g path ≡ true → list_any g (rests path) ≡ true
+first_rest g [] here = rw here refl
+first_rest g (elem ∷ elems) here = rw here refl
+
+pub last_rest : (g : List Elem → Bool) (path : List Elem) → path ≡ [] → g path ≡ false → list_any g (rests path) ≡ false
+last_rest g [] ended fails = rw fails refl
+last_rest g (elem ∷ elems) ended fails = absurd (cc)
+
+pub next_rest : (g : List Elem → Bool) (path : List Elem) (elem : Elem) (rest : List Elem) → path ≡ elem ∷ rest → g path ≡ false → list_any g (rests path) ≡ list_any g (rests rest)
+next_rest g path elem rest is fails = let here : g (elem ∷ rest) ≡ false = rw is at fails in rw (is, here) refl
+
+pub never_here : (g : List Elem → Bool) (path : List Elem) → list_any g (rests path) ≡ false → g path ≡ false
+never_here g [] none = (or_parts (g []) false none).0
+never_here g (elem ∷ elems) none = (or_parts (g (elem ∷ elems)) (list_any g (rests elems)) none).0

@@ -1,0 +1,5 @@
+pub mod PathText
+pub mod Reading
+pub mod Searching
+pub mod WorkedTexts
+pub mod Writing

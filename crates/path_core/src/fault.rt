@@ -1,0 +1,21 @@
+use base_kinds::NoMemory;
+use thiserror::Error;
+
+#[derive(Clone, Copy, Debug, PartialEq, Eq, Error)]
+pub enum PathFault {
+    #[error("bad path")]
+    BadPath,
+    #[error("no memory")]
+    NoMemory,
+}
+
+impl From<NoMemory> for PathFault {
+    ghost use Rattle.std.specs.Prelude.{◌≡◌};
+    ghost use Rattle.path_core.specs.declared.fault.PathFault.TheVariants.{NoMemory as OutOfMemory};
+
+    ghost from_gives = { λ _ fault. fault ≡ OutOfMemory };
+
+    fn from(_e: NoMemory) -> PathFault {
+        PathFault::NoMemory
+    }
+}

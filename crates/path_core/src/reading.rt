@@ -1,0 +1,155 @@
+// The text of a path, read in one pass.
+ghost use Rattle.std.specs.Prelude.{◌≡◌, ◌<◌, ◌≤◌, [], ◌∷◌, List, ℕ, length, IfOk, IfSome, IfNone, IsTrue, ◌↔◌, IsErrOf};
+ghost use Rattle.base_kinds.specs.declared.path.Elem.{Elem as PathElem};
+ghost use Rattle.path_core.specs.PathText.{name_cmp, IsPathText};
+ghost use Rattle.path_core.specs.Reading.{AreOctetsAt, IsTextAt, IsKeyAt, AreKeysAt, IsElemAt, BeginsOrEnds, Lacks, ends_below};
+
+use crate::fault::PathFault;
+use crate::octets::{Part, read_octet};
+use base_kinds::{Elem, Keys, NoMemory, Path, Seq, Text, TextOfFault};
+use std::alloc::Global;
+
+/// What follows the octet, where the text begins with it.
+fn after(text: &[u8], octet: u8) -> Option<&[u8]>
+    ensures some { IfSome result (λ rest. text.now ≡ octet ∷ rest.now) }
+    ensures shorter { IfSome result (λ rest. length rest.now < length text.now) }
+    ensures none { IfNone result (Lacks octet text.now) }
+{
+    let (first, rest) = text.split_first()?;
+    if *first != octet {
+        return None;
+    }
+    Some(rest)
+}
+
+/// The octets that are spelled at the front, as many as there are, and what follows them.
+fn read_octets(alloc: Global, part: Part, text: &[u8]) -> Result<(Vec<u8>, &[u8]), NoMemory>
+    ensures octets { IfOk result (λ read. AreOctetsAt part text.now read.0.items read.1.now) }
+    ensures shorter { IfOk result (λ read. length read.1.now ≤ length text.now) }
+{
+    let mut octets = Vec::new(alloc);
+    let mut rest = text;
+    while let Some((octet, others)) = read_octet(part, rest) {
+        octets.push(octet)?;
+        rest = others;
+    }
+    Ok((octets, rest))
+}
+
+fn read_text(alloc: Global, part: Part, text: &[u8]) -> Result<(Text, &[u8]), PathFault>
+    ensures ok { IfOk result (λ read. IsTextAt part text.now read.0 read.1.now) }
+    ensures shorter { IfOk result (λ read. length read.1.now ≤ length text.now) }
+    ensures bad { IsErrOf result PathFault.BadPath → (octets rest : List ℕ) → IsTextAt part text.now octets rest → ⊥ }
+{
+    let (octets, rest) = read_octets(alloc, part, text)?;
+    match Text::of(alloc, &octets) {
+        Ok(read) => Ok((read, rest)),
+        Err(TextOfFault::NotUtf8) => Err(PathFault::BadPath),
+        Err(TextOfFault::NoMemory) => Err(PathFault::NoMemory),
+    }
+}
+
+/// `NAME=VALUE]`, what follows the `[` of a key.
+fn read_key(alloc: Global, begun: &[u8]) -> Result<((Text, Text), &[u8]), PathFault>
+    ensures ok { IfOk result (λ read. IsKeyAt (91 ∷ begun.now) read.0 read.1.now) }
+    ensures shorter { IfOk result (λ read. length read.1.now ≤ length begun.now) }
+    ensures bad { IsErrOf result PathFault.BadPath → (key : List ℕ × List ℕ) (rest : List ℕ) → IsKeyAt (91 ∷ begun.now) key rest → ⊥ }
+{
+    let (name, named) = read_text(alloc, Part::Name, begun)?;
+    let Some(given) = after(named, b'=') else {
+        return Err(PathFault::BadPath);
+    };
+    let (value, ended) = read_text(alloc, Part::Value, given)?;
+    let Some(rest) = after(ended, b']') else {
+        return Err(PathFault::BadPath);
+    };
+    Ok(((name, value), rest))
+}
+
+/// Whether the key's name is greater than that of the last key, if there is one.
+fn may_follow(keys: &[(Text, Text)], key: &(Text, Text)) -> bool
+    ensures { result ≡ ends_below name_cmp keys.now key.now }
+{
+    match keys.last() {
+        None => true,
+        Some(last) => last.0.cmp(&key.0).is_lt(),
+    }
+}
+
+/// The keys of an element, as many as there are, and what follows them.
+fn read_keys(alloc: Global, text: &[u8]) -> Result<(Keys, &[u8]), PathFault>
+    ensures ok { IfOk result (λ read. AreKeysAt text.now read.0 read.1.now) }
+    ensures shorter { IfOk result (λ read. length read.1.now ≤ length text.now) }
+    ensures bad { IsErrOf result PathFault.BadPath → (keys : List (List ℕ × List ℕ)) (rest : List ℕ) → AreKeysAt text.now keys rest → ⊥ }
+{
+    let mut keys = Seq::empty(alloc);
+    let mut rest = text;
+    while let Some(begun) = after(rest, b'[') {
+        let (key, others) = read_key(alloc, begun)?;
+        if !may_follow(keys.items(), &key) {
+            return Err(PathFault::BadPath);
+        }
+        keys.push(key)?;
+        rest = others;
+    }
+    Ok((keys, rest))
+}
+
+/// Whether nothing follows an element, or another one.
+fn ends_elem(rest: &[u8]) -> bool
+    ensures { IsTrue result ↔ BeginsOrEnds 47 rest.now }
+{
+    match rest.first() {
+        None => true,
+        Some(octet) => *octet == b'/',
+    }
+}
+
+/// `/NAME` and its keys, and what follows them.
+fn read_elem(alloc: Global, text: &[u8]) -> Result<(Elem, &[u8]), PathFault>
+    ensures ok { IfOk result (λ read. IsElemAt text.now read.0 read.1.now) }
+    ensures shorter { IfOk result (λ read. length read.1.now < length text.now) }
+    ensures bad { IsErrOf result PathFault.BadPath → (elem : PathElem) (rest : List ℕ) → IsElemAt text.now elem rest → ⊥ }
+{
+    let Some(begun) = after(text, b'/') else {
+        return Err(PathFault::BadPath);
+    };
+    let (name, named) = read_text(alloc, Part::Name, begun)?;
+    if name.octets().is_empty() {
+        return Err(PathFault::BadPath);
+    }
+    let (keys, rest) = read_keys(alloc, named)?;
+    if !ends_elem(rest) {
+        return Err(PathFault::BadPath);
+    }
+    Ok((Elem { name, keys }, rest))
+}
+
+fn is_root(text: &[u8]) -> bool
+    ensures { IsTrue result ↔ (text.now ≡ 47 ∷ []) }
+{
+    text == b"/".as_slice()
+}
+
+/// The path that the octets are the text of.
+pub fn read_path_text(alloc: Global, text: &[u8]) -> Result<Path, PathFault>
+    ensures ok { IfOk result (λ path. IsPathText text.now path) }
+    // It is no other path's.
+    ensures only { IfOk result (λ path. (other : List PathElem) → IsPathText text.now other → other ≡ path) }
+    ensures bad { IsErrOf result PathFault.BadPath → (path : List PathElem) → IsPathText text.now path → ⊥ }
+{
+    let mut path = Seq::empty(alloc);
+    if is_root(text) {
+        return Ok(path);
+    }
+    if after(text, b'/').is_none() {
+        return Err(PathFault::BadPath);
+    }
+    let mut rest = text;
+    while !rest.is_empty() {
+        let (elem, others) = read_elem(alloc, rest)?;
+        path.push(elem)?;
+        rest = others;
+    }
+    Ok(path)
+}

@@ -1,0 +1,82 @@
+// The text of a path, written.
+ghost use Rattle.std.specs.Prelude.{◌≡◌, ◌++◌, OnOk, OnErr};
+ghost use Rattle.std.specs.List.{flat_map};
+ghost use Rattle.base_kinds.specs.Texts.{octet_text, escaped, key_part, elem_text, path_text};
+ghost use Rattle.path_core.specs.Reading.{test_of};
+ghost use Rattle.path_core.specs.Writing.{AppendsFront};
+
+use crate::octets::{Part, hex_digit, stands_for_itself};
+use base_kinds::{Bytes, Elem, NoMemory, Path, Text};
+use std::alloc::Global;
+
+fn write_octet(part: Part, octet: u8, out: &mut Bytes) -> Result<(), NoMemory>
+    ensures ok { OnOk result (out.new ≡ out.old ++ octet_text (test_of part) octet) }
+    ensures err { OnErr result (AppendsFront out.old out.new (octet_text (test_of part) octet)) }
+{
+    if stands_for_itself(part, octet) {
+        return out.push(octet);
+    }
+    out.extend_from_slice(&[b'\\', hex_digit(octet / 16), hex_digit(octet % 16)])
+}
+
+fn write_octets(part: Part, octets: &[u8], out: &mut Bytes) -> Result<(), NoMemory>
+    ensures ok { OnOk result (out.new ≡ out.old ++ escaped (test_of part) octets.now) }
+    ensures err { OnErr result (AppendsFront out.old out.new (escaped (test_of part) octets.now)) }
+{
+    for octet in octets {
+        write_octet(part, *octet, out)?;
+    }
+    Ok(())
+}
+
+fn write_key(key: &(Text, Text), out: &mut Bytes) -> Result<(), NoMemory>
+    ensures ok { OnOk result (out.new ≡ out.old ++ key_part key.now) }
+    ensures err { OnErr result (AppendsFront out.old out.new (key_part key.now)) }
+{
+    out.push(b'[')?;
+    write_octets(Part::Name, key.0.octets(), out)?;
+    out.push(b'=')?;
+    write_octets(Part::Value, key.1.octets(), out)?;
+    out.push(b']')
+}
+
+fn write_keys(keys: &[(Text, Text)], out: &mut Bytes) -> Result<(), NoMemory>
+    ensures ok { OnOk result (out.new ≡ out.old ++ flat_map key_part keys.now) }
+    ensures err { OnErr result (AppendsFront out.old out.new (flat_map key_part keys.now)) }
+{
+    for key in keys {
+        write_key(key, out)?;
+    }
+    Ok(())
+}
+
+fn write_elem(elem: &Elem, out: &mut Bytes) -> Result<(), NoMemory>
+    ensures ok { OnOk result (out.new ≡ out.old ++ elem_text elem.now) }
+    ensures err { OnErr result (AppendsFront out.old out.new (elem_text elem.now)) }
+{
+    out.push(b'/')?;
+    write_octets(Part::Name, elem.name.octets(), out)?;
+    write_keys(elem.keys.items(), out)
+}
+
+fn write_elems(elems: &[Elem], out: &mut Bytes) -> Result<(), NoMemory>
+    ensures ok { OnOk result (out.new ≡ out.old ++ flat_map elem_text elems.now) }
+    ensures err { OnErr result (AppendsFront out.old out.new (flat_map elem_text elems.now)) }
+{
+    for elem in elems {
+        write_elem(elem, out)?;
+    }
+    Ok(())
+}
+
+/// Adds the path's text. An empty element name is written as no octets.
+pub fn write_path_text(_alloc: Global, path: &Path, out: &mut Bytes) -> Result<(), NoMemory>
+    ensures ok { OnOk result (out.new ≡ out.old ++ path_text path.now) }
+    // What was added before memory ran out is a front of the text.
+    ensures err { OnErr result (AppendsFront out.old out.new (path_text path.now)) }
+{
+    if path.is_empty() {
+        return out.push(b'/');
+    }
+    write_elems(path.items(), out)
+}
