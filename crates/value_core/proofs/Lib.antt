@@ -1,0 +1,11 @@
+pub mod Ascii
+pub mod Cuts
+pub mod DecimalTexts
+pub mod Digits
+pub mod Glyphs
+pub mod Integers
+pub mod Keys
+pub mod Lists
+pub mod Outcomes
+pub mod Parts
+pub mod Ranges

@@ -1,0 +1,151 @@
+// Decimal numbers, read in all their forms.
+ghost use Rattle.std.specs.Prelude.{◌≡◌, ℕ, ℤ, ◌++◌, ◌*◌, ◌^◌, ◌≤◌, List, [], ◌∷◌, ◌==◌, Bool, false, not, length, replicate, IsTrue, IfSome, IfNone, IfOk, IsErrOf, MatchOption, codes};
+ghost use Rattle.base_kinds.specs.Texts.{dec_text};
+ghost use Rattle.base_kinds.specs.Values.{fits_signed};
+ghost use Rattle.std.specs.List.{prefix_len};
+ghost use Rattle.std.specs.Fmt.{sign_text};
+ghost use Rattle.std.specs.Str.Parse.{digits_value_after};
+ghost use Rattle.value_core.specs.Decimals.{IsDecimal, IsCut, IsCutAtPoint, IsAtPoint, point_text};
+
+use crate::fault::ValueFault;
+use crate::numbers::{after_minus, read_integer, with_digit, with_digits, with_sign};
+use crate::written::put_decimal;
+use base_kinds::Seq;
+use std::alloc::Global;
+
+/// The parts of a decimal: whether a `-` stands first, the digits before the point, and those behind it.
+#[derive(Clone, Copy)]
+struct Parts<'a> {
+    negative: bool,
+    whole: &'a [u8],
+    behind: &'a [u8],
+}
+
+/// Cuts the octets at a `-` at their front and at their first point. Behind a point something has to stand.
+fn parts_of(octets: &[u8]) -> Option<Parts<'_>>
+    ensures some { IfSome result (λ parts. IsCut octets.now parts.negative parts.whole.now parts.behind.now) }
+    ensures none { IfNone result ((negative : Bool) (whole behind : List ℕ) → IsCut octets.now negative whole behind → ⊥) }
+{
+    match after_minus(octets) {
+        None => unsigned_parts(false, octets),
+        Some(unsigned) => unsigned_parts(true, unsigned),
+    }
+}
+
+fn unsigned_parts(negative: bool, octets: &[u8]) -> Option<Parts<'_>>
+    requires { negative ≡ false → (rest : List ℕ) → octets.now ≡ 45 ∷ rest → ⊥ }
+    ensures some { IfSome result (λ parts. IsCut (sign_text negative ++ octets.now) parts.negative parts.whole.now parts.behind.now) }
+    ensures none { IfNone result ((other : Bool) (whole behind : List ℕ) → IsCut (sign_text negative ++ octets.now) other whole behind → ⊥) }
+{
+    let (whole, rest) = cut_at_point(octets);
+    let behind = behind_point(rest)?;
+    Some(Parts {
+        negative,
+        whole,
+        behind,
+    })
+}
+
+/// What stands before the first point, and what is left from there on.
+fn cut_at_point(octets: &[u8]) -> (&[u8], &[u8])
+    ensures { IsCutAtPoint octets.now result.0.now result.1.now }
+{
+    octets.split_at(length_before_point(octets))
+}
+
+fn length_before_point(octets: &[u8]) -> usize
+    ensures { result ≡ prefix_len (λ octet. not (octet == 46)) octets.now }
+{
+    octets
+        .iter()
+        .position(|octet| *octet == b'.')
+        .unwrap_or(octets.len())
+}
+
+/// What stands behind the point, where something does.
+fn behind_point(rest: &[u8]) -> Option<&[u8]>
+    requires { IsAtPoint rest.now }
+    ensures some { IfSome result (λ behind. rest.now ≡ point_text behind.now) }
+    ensures none { IfNone result ((behind : List ℕ) → rest.now ≡ point_text behind → ⊥) }
+{
+    match rest {
+        [] => Some(rest),
+        [_] => None,
+        [_, behind @ ..] => Some(behind),
+    }
+}
+
+/// The number with so many zeros behind it.
+fn with_zeros(number: u64, zeros: usize) -> Option<u64>
+    ensures some { IfSome result (λ longer. longer ≡ digits_value_after 10 number (replicate zeros 48)) }
+    ensures none { IfNone result (2 ^ 64 ≤ digits_value_after 10 number (replicate zeros 48)) }
+{
+    let mut longer = number;
+    for _ in 0..zeros {
+        longer = with_digit(longer, b'0')?;
+    }
+    Some(longer)
+}
+
+/// The digits of the decimal that the octets spell: an optional `-`, digits, and optionally a point with one to so many
+/// digits behind it. Zeros fill the places that it leaves out.
+pub fn read_decimal(places: u8, octets: &[u8]) -> Option<i64>
+    ensures some { IfSome result (λ digits. IsDecimal places octets.now digits) }
+    ensures none { IfNone result ((digits : ℤ) → IsDecimal places octets.now digits → ⊥) }
+{
+    let parts = parts_of(octets)?;
+    if parts.whole.is_empty() || parts.behind.len() > places as usize {
+        return None;
+    }
+    let whole = with_digits(0, parts.whole)?;
+    let behind = with_digits(whole, parts.behind)?;
+    let number = with_zeros(behind, places as usize - parts.behind.len())?;
+    let digits = with_sign(parts.negative, number)?;
+    Some(digits)
+}
+
+/// What stands before `.0` at the end.
+fn before_zero(octets: &[u8]) -> Option<&[u8]>
+    ensures { MatchOption result ((front : List ℕ) → octets.now ≡ front ++ codes ".0" → ⊥) (λ front. octets.now ≡ front.now ++ codes ".0") }
+{
+    octets.strip_suffix(b".0")
+}
+
+/// The only digits whose text with no places the octets may be.
+fn read_whole(octets: &[u8]) -> Option<i64>
+    ensures some { IfSome result (λ read. (digits : ℤ) → IsTrue (fits_signed 64 digits) → octets.now ≡ dec_text digits 0 → digits ≡ read) }
+    ensures none { IfNone result ((digits : ℤ) → IsTrue (fits_signed 64 digits) → octets.now ≡ dec_text digits 0 → ⊥) }
+{
+    let front = before_zero(octets)?;
+    let digits = read_integer(front)?;
+    Some(digits)
+}
+
+/// The only digits whose text with so many places the octets may be.
+fn read_written(places: u8, octets: &[u8]) -> Option<i64>
+    ensures some { IfSome result (λ read. (digits : ℤ) → IsTrue (fits_signed 64 digits) → octets.now ≡ dec_text digits places → digits ≡ read) }
+    ensures none { IfNone result ((digits : ℤ) → IsTrue (fits_signed 64 digits) → octets.now ≡ dec_text digits places → ⊥) }
+{
+    if places == 0 {
+        return read_whole(octets);
+    }
+    let digits = read_decimal(places, octets)?;
+    Some(digits)
+}
+
+/// The digits of the decimal that is written so.
+pub(crate) fn read_decimal_key(alloc: Global, places: u8, octets: &[u8]) -> Result<i64, ValueFault>
+    ensures ok { IfOk result (λ digits. octets.now ≡ dec_text digits places) }
+    ensures bad_value { IsErrOf result ValueFault.BadValue → (digits : ℤ) → IsTrue (fits_signed 64 digits) → octets.now ≡ dec_text digits places → ⊥ }
+{
+    let Some(digits) = read_written(places, octets) else {
+        return Err(ValueFault::BadValue);
+    };
+    let mut written = Seq::empty(alloc);
+    put_decimal(alloc, digits, places, &mut written)?;
+    if written.items() == octets {
+        Ok(digits)
+    } else {
+        Err(ValueFault::BadValue)
+    }
+}
