@@ -1,0 +1,4 @@
+pub mod Nodes
+pub mod Index
+pub mod Wanted
+pub mod Examples

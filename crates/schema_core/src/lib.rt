@@ -1,0 +1,11 @@
+//! The schema: its data nodes in the order of its text, found by their names.
+#![tactic(auto)]
+
+mod node;
+mod schema;
+#[cfg(test)]
+mod tests;
+mod wanted;
+
+pub use node::{Node, NodeId};
+pub use schema::{MOST_NODES, Schema};
