@@ -1,0 +1,7 @@
+pub mod Causes
+pub mod Examples
+pub mod Grammar
+pub mod Kinds
+pub mod Parts
+pub mod Schemas
+pub mod Words

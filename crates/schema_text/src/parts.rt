@@ -1,0 +1,66 @@
+// A text cut at a separator, part by part.
+ghost use Rattle.std.specs.Prelude.{◌≡◌, ◌∷◌, ◌==◌, ◌↔◌, [], not, IsTrue, MatchOption};
+ghost use Rattle.std.specs.List.{prefix_len};
+ghost use Rattle.schema_text.specs.Parts.{parts_of};
+
+use std::marker::Model;
+
+/// The parts of a text that are still to come.
+#[derive(Drop)]
+pub(crate) struct Parts<'a> {
+    left: Option<&'a [u8]>,
+    separator: u8,
+}
+
+impl<'a> Model for Parts<'a> {
+    ghost use Rattle.std.specs.Prelude.{List, ℕ};
+    ghost use Rattle.std.specs.Option.{option_map};
+    ghost use Rattle.schema_text.specs.Parts.{parts_left};
+
+    ghost Value = { List (List ℕ) };
+
+    ghost view = { λ p. parts_left p.separator (option_map (λ octets. octets.now) p.left) };
+}
+
+impl<'a> Parts<'a> {
+    pub(crate) fn of(octets: &'a [u8], separator: u8) -> Parts<'a>
+        ensures { result ≡ parts_of separator octets.now }
+    {
+        Parts {
+            left: Some(octets),
+            separator,
+        }
+    }
+
+    /// Takes the next part off.
+    pub(crate) fn next(&mut self) -> Option<&'a [u8]>
+        ensures { MatchOption result ((self.old ≡ []) × (self.new ≡ [])) (λ part. self.old ≡ part.now ∷ self.new) }
+    {
+        let octets = self.left?;
+        let (part, rest) = octets.split_at(length_before(octets, self.separator));
+        let Some((_, others)) = rest.split_first() else {
+            self.left = None;
+            return Some(part);
+        };
+        self.left = Some(others);
+        Some(part)
+    }
+
+    pub(crate) fn is_empty(&self) -> bool
+        ensures { IsTrue result ↔ (self.now ≡ []) }
+    {
+        match self.left {
+            None => true,
+            Some(_) => false,
+        }
+    }
+}
+
+fn length_before(octets: &[u8], separator: u8) -> usize
+    ensures { result ≡ prefix_len (λ octet. not (octet == separator)) octets.now }
+{
+    octets
+        .iter()
+        .position(|octet| *octet == separator)
+        .unwrap_or(octets.len())
+}

@@ -1,0 +1,176 @@
+// The lines of a schema text, taken one after the other.
+ghost use Rattle.std.specs.Prelude.{◌≡◌, ◌+◌, ◌≤◌, ◌^◌, length, IfOk, IfErr, OnOk};
+ghost use Rattle.schema_text.specs.Grammar.{line_of};
+ghost use Rattle.schema_text.specs.Parts.{parts_of};
+ghost use Rattle.schema_text.specs.Schemas.{nothing_read, node_in as node_declared, with_node, with_line, is_too_long as too_long, ended_line, last_part, at_line, read_parts, Tells};
+
+use crate::cause::{Cause, SchemaError, SchemaFault};
+use crate::line::{Declared, Line};
+use crate::lines::read_line;
+use crate::parts::Parts;
+use base_kinds::{Copied, Text, Texts};
+use schema_core::{MOST_NODES, Node, Schema};
+use std::alloc::Global;
+use std::marker::Model;
+
+/// What the lines so far make: the nodes, the line of each, and the module of those that follow.
+#[derive(Drop)]
+pub(crate) struct Reading {
+    pub(crate) schema: Schema,
+    pub(crate) lines: Vec<u32>,
+    pub(crate) module_name: Option<Text>,
+}
+
+impl Model for Reading {
+    ghost use Rattle.schema_text.specs.Schemas.{Read};
+
+    ghost Value = { Read };
+
+    ghost view = { λ r. record { nodes = r.schema; lines = r.lines.items; module_name = r.module_name } };
+}
+
+fn fault(line: u32, cause: Cause) -> SchemaError
+    ensures { result ≡ SchemaError.Fault (record { line = line; cause = cause }) }
+{
+    SchemaError::Fault(SchemaFault { line, cause })
+}
+
+fn node_in(alloc: Global, module_name: Text, names: Texts, node: Declared) -> Node
+    ensures { result ≡ node_declared module_name names node }
+{
+    match node {
+        Declared::Container => Node::container(alloc, module_name, names),
+        Declared::List(keys, maximum) => Node::list(module_name, names, keys, maximum),
+        Declared::Leaf(shape, is_mandatory, reference) => {
+            Node::leaf(alloc, module_name, names, shape, is_mandatory, reference)
+        }
+        Declared::LeafList(shape, maximum) => {
+            Node::leaf_list(alloc, module_name, names, shape, maximum)
+        }
+    }
+}
+
+/// Whether a line behind so many octets is above the limits of a line or of the text, with so many line feeds at its end.
+fn is_too_long(line: &[u8], place: usize, feeds: usize) -> bool
+    requires before { place ≤ 1048576 }
+    requires most { feeds ≤ 1 }
+    ensures { result ≡ too_long line.now place feeds }
+{
+    line.len() > 1024 || place + line.len() + feeds > 1_048_576
+}
+
+impl Reading {
+    fn empty(alloc: Global) -> Reading
+        ensures { result ≡ nothing_read }
+    {
+        Reading {
+            schema: Schema::empty(alloc),
+            lines: Vec::new(alloc),
+            module_name: None,
+        }
+    }
+
+    fn add_node(
+        &mut self,
+        alloc: Global,
+        number: u32,
+        names: Texts,
+        node: Declared,
+    ) -> Result<(), SchemaError>
+        ensures ok { OnOk result (at_line number (with_node number self.old names node) ≡ Ok self.new) }
+        ensures refused { IfErr result (λ error. Tells error (at_line number (with_node number self.old names node))) }
+    {
+        if self.schema.nodes() >= MOST_NODES {
+            return Err(fault(number, Cause::TooLarge));
+        }
+        let Some(module_name) = &self.module_name else {
+            return Err(fault(number, Cause::NoModule));
+        };
+        if !self.schema.has_parent(names.items()) {
+            return Err(fault(number, Cause::NoParent));
+        }
+        if self.schema.find_names(names.items()).is_some() {
+            return Err(fault(number, Cause::Twice));
+        }
+        let module_name = module_name.copy(alloc)?;
+        self.schema.add(node_in(alloc, module_name, names, node))?;
+        if self.lines.push(number).is_err() {
+            return Err(SchemaError::NoMemory);
+        }
+        Ok(())
+    }
+
+    fn take_line(&mut self, alloc: Global, number: u32, line: &[u8]) -> Result<(), SchemaError>
+        ensures ok { OnOk result (at_line number (with_line number self.old (line_of line.now)) ≡ Ok self.new) }
+        ensures refused { IfErr result (λ error. Tells error (at_line number (with_line number self.old (line_of line.now)))) }
+    {
+        match read_line(alloc, line)? {
+            None => Err(fault(number, Cause::Syntax)),
+            Some(Line::Skipped) => Ok(()),
+            Some(Line::Module(name)) => {
+                self.module_name = Some(name);
+                Ok(())
+            }
+            Some(Line::Node(names, node)) => self.add_node(alloc, number, names, node),
+        }
+    }
+
+    /// Takes a line that a line feed ends, behind so many octets.
+    fn take_ended(
+        &mut self,
+        alloc: Global,
+        number: u32,
+        place: usize,
+        line: &[u8],
+    ) -> Result<(), SchemaError>
+        requires { place ≤ 1048576 }
+        ensures ok { OnOk result (at_line number (ended_line number place self.old line.now) ≡ Ok self.new) }
+        ensures within { OnOk result (place + length line.now + 1 ≤ 1048576) }
+        ensures refused { IfErr result (λ error. Tells error (at_line number (ended_line number place self.old line.now))) }
+    {
+        if is_too_long(line, place, 1) {
+            return Err(fault(number, Cause::TooLarge));
+        }
+        self.take_line(alloc, number, line)
+    }
+}
+
+/// What stands behind the last line feed: nothing, or a line that none ends.
+fn take_last(
+    reading: Reading,
+    number: u32,
+    place: usize,
+    part: &[u8],
+) -> Result<Reading, SchemaError>
+    requires { place ≤ 1048576 }
+    ensures ok { IfOk result (λ read. at_line number (last_part place reading part.now) ≡ Ok read) }
+    ensures refused { IfErr result (λ error. Tells error (at_line number (last_part place reading part.now))) }
+{
+    if part.is_empty() {
+        return Ok(reading);
+    }
+    if is_too_long(part, place, 0) {
+        return Err(fault(number, Cause::TooLarge));
+    }
+    Err(fault(number, Cause::Syntax))
+}
+
+/// Takes the lines of the text.
+pub(crate) fn read_lines(alloc: Global, text: &[u8]) -> Result<Reading, SchemaError>
+    ensures ok { IfOk result (λ reading. read_parts 1 0 nothing_read (parts_of 10 text.now) ≡ Ok reading) }
+    ensures refused { IfErr result (λ error. Tells error (read_parts 1 0 nothing_read (parts_of 10 text.now))) }
+{
+    let mut reading = Reading::empty(alloc);
+    let mut parts = Parts::of(text, b'\n');
+    let mut number = 1;
+    let mut place = 0;
+    while let Some(part) = parts.next() {
+        if parts.is_empty() {
+            return take_last(reading, number, place, part);
+        }
+        reading.take_ended(alloc, number, place, part)?;
+        number += 1;
+        place = place + part.len() + 1;
+    }
+    Ok(reading)
+}

@@ -1,0 +1,146 @@
+// Keys and references, which count once every line could be taken.
+ghost use Rattle.std.specs.Prelude.{◌≡◌, ◌<◌, ℕ, Some, length, slice_get, IfOk, IfErr};
+ghost use Rattle.std.specs.List.{list_all};
+ghost use Rattle.std.specs.Option.{option_map, option_copied};
+ghost use Rattle.base_kinds.specs.Schema.{same_names as names_equal};
+ghost use Rattle.schema_text.specs.Schemas.{is_leaf as leaf_sort, has_key_leaf as key_leaf_there, same_shape as shapes_equal, same_shapes as both_shapes_equal, has_target as target_there, node_fault as fault_of_node, first_fault as fault_of_nodes, schema_of, Tells};
+
+use crate::cause::{Cause, SchemaError, SchemaFault};
+use crate::reading::{Reading, read_lines};
+use base_kinds::{Shape, Sort, Text};
+use schema_core::{Node, NodeId, Schema};
+use std::alloc::Global;
+
+fn is_leaf(sort: Sort) -> bool
+    ensures { result ≡ leaf_sort sort }
+{
+    match sort {
+        Sort::Leaf => true,
+        Sort::Container | Sort::List | Sort::LeafList => false,
+    }
+}
+
+/// Whether the key has a leaf of its list, in the list's module.
+fn has_key_leaf(schema: &Schema, id: NodeId, list: &Node, key: &Text) -> bool
+    requires { slice_get schema.now id.0 ≡ Some list.now }
+    ensures { result ≡ key_leaf_there schema.now list.now key.now }
+{
+    match schema.child_of(Some(id), key.octets()) {
+        None => false,
+        Some(child) => {
+            let leaf = schema.node(child);
+            is_leaf(leaf.sort()) && leaf.module_name().octets() == list.module_name().octets()
+        }
+    }
+}
+
+fn has_key_leaves(schema: &Schema, id: NodeId, list: &Node, keys: &[Text]) -> bool
+    requires { slice_get schema.now id.0 ≡ Some list.now }
+    ensures { result ≡ list_all (key_leaf_there schema.now list.now) keys.now }
+{
+    match keys.split_first() {
+        None => true,
+        Some((key, others)) => {
+            has_key_leaf(schema, id, list, key) && has_key_leaves(schema, id, list, others)
+        }
+    }
+}
+
+fn same_names(names: &[Text], others: &[Text]) -> bool
+    ensures { result ≡ names_equal names.now others.now }
+{
+    match (names.split_first(), others.split_first()) {
+        (None, None) => true,
+        (Some((name, names)), Some((other, others))) => {
+            name.octets() == other.octets() && same_names(names, others)
+        }
+        _ => false,
+    }
+}
+
+fn same_shape(shape: &Shape, other: &Shape) -> bool
+    ensures { result ≡ shapes_equal shape.now other.now }
+{
+    match (shape, other) {
+        (Shape::Bool, Shape::Bool) => true,
+        (Shape::Int(width), Shape::Int(other)) => width == other,
+        (Shape::Uint(width), Shape::Uint(other)) => width == other,
+        (Shape::Dec(places), Shape::Dec(other)) => places == other,
+        (Shape::Text, Shape::Text) => true,
+        (Shape::Bin, Shape::Bin) => true,
+        (Shape::Enum(texts), Shape::Enum(others)) => same_names(texts.items(), others.items()),
+        _ => false,
+    }
+}
+
+fn same_shapes(shape: Option<&Shape>, other: Option<&Shape>) -> bool
+    ensures { result ≡ both_shapes_equal (option_copied shape.entry) (option_copied other.entry) }
+{
+    match (shape, other) {
+        (None, None) => true,
+        (Some(shape), Some(other)) => same_shape(shape, other),
+        _ => false,
+    }
+}
+
+/// Whether the node refers to nothing, or to a leaf of an equal shape.
+fn has_target(schema: &Schema, node: &Node) -> bool
+    ensures { result ≡ target_there schema.now node.now.shape node.now.reference }
+{
+    let Some(names) = node.reference() else {
+        return true;
+    };
+    match schema.find_names(names.items()) {
+        None => false,
+        Some(id) => {
+            let target = schema.node(id);
+            is_leaf(target.sort()) && same_shapes(node.shape(), target.shape())
+        }
+    }
+}
+
+fn node_fault(schema: &Schema, id: NodeId) -> Option<Cause>
+    requires { id.0 < length schema.now }
+    ensures { option_map (fault_of_node schema.now) (slice_get schema.now id.0) ≡ Some result }
+{
+    let node = schema.node(id);
+    if !has_key_leaves(schema, id, node, node.keys().items()) {
+        return Some(Cause::NoKey);
+    }
+    if !has_target(schema, node) {
+        return Some(Cause::BadRef);
+    }
+    None
+}
+
+/// The fault of the first node, in the order of the lines, that lacks a key or the leaf that it refers to.
+fn first_fault(schema: &Schema, lines: &[u32]) -> Option<SchemaFault>
+    ensures { result ≡ fault_of_nodes schema.now schema.now lines.now }
+{
+    for number in 0..schema.nodes() {
+        let Some(line) = lines.get(number as usize) else {
+            return None;
+        };
+        if let Some(cause) = node_fault(schema, NodeId(number)) {
+            return Some(SchemaFault { line: *line, cause });
+        }
+    }
+    None
+}
+
+/// The schema that the text is, or its first fault: that of the first line that can't be taken, or where each can be,
+/// that of the first line whose list lacks a key or whose leaf lacks the leaf that it refers to.
+pub fn read_schema(alloc: Global, text: &[u8]) -> Result<Schema, SchemaError>
+    ensures ok { IfOk result (λ schema. schema_of text.now ≡ Ok schema) }
+    ensures refused { IfErr result (λ error. Tells error (schema_of text.now)) }
+{
+    let Reading {
+        schema,
+        lines,
+        module_name: _,
+    } = read_lines(alloc, text)?;
+    match first_fault(&schema, lines.as_slice()) {
+        None => Ok(schema),
+        Some(fault) => Err(SchemaError::Fault(fault)),
+    }
+}

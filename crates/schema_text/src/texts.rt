@@ -1,0 +1,113 @@
+// Lists of texts: the names of a path, the names of keys, the texts of an enum.
+ghost use Rattle.std.specs.Prelude.{◌≡◌, IfOk};
+ghost use Rattle.std.specs.List.{list_any};
+ghost use Rattle.std.specs.Str.{bytes_eq};
+ghost use Rattle.schema_text.specs.Words.{then_some, some_parts, distinct, all_differ as differ_all, path_of, keys_of, enum_texts};
+ghost use Rattle.schema_text.specs.Kinds.{passes};
+
+use crate::octets::{is_enum_text, is_name, text_of};
+use crate::parts::Parts;
+use base_kinds::{NoMemory, Seq, Text, Texts};
+use std::alloc::Global;
+
+#[derive(Clone, Copy)]
+pub(crate) enum Word {
+    Name,
+    EnumText,
+}
+
+impl Word {
+    fn is(self, octets: &[u8]) -> bool
+        ensures { result ≡ passes self octets.now }
+    {
+        match self {
+            Word::Name => is_name(octets),
+            Word::EnumText => is_enum_text(octets),
+        }
+    }
+}
+
+/// The parts as texts, where there is one or more, at most so many, and each is such a word.
+fn read_texts(
+    alloc: Global,
+    mut parts: Parts,
+    word: Word,
+    most: usize,
+) -> Result<Option<Texts>, NoMemory>
+    ensures { IfOk result (λ texts. texts ≡ some_parts (passes word) most parts.entry) }
+{
+    let mut texts = Seq::empty(alloc);
+    while let Some(part) = parts.next() {
+        if texts.len() == most {
+            return Ok(None);
+        }
+        if !word.is(part) {
+            return Ok(None);
+        }
+        texts.push(text_of(alloc, part)?)?;
+    }
+    if texts.is_empty() {
+        return Ok(None);
+    }
+    Ok(Some(texts))
+}
+
+fn has_text(text: &Text, others: &[Text]) -> bool
+    ensures { result ≡ list_any (bytes_eq text.now) others.now }
+{
+    others.iter().any(|other| text.octets() == other.octets())
+}
+
+fn all_differ(texts: &[Text]) -> bool
+    ensures { result ≡ differ_all texts.now }
+{
+    match texts.split_first() {
+        None => true,
+        Some((text, others)) => !has_text(text, others) && all_differ(others),
+    }
+}
+
+fn read_distinct(
+    alloc: Global,
+    parts: Parts,
+    word: Word,
+    most: usize,
+) -> Result<Option<Texts>, NoMemory>
+    ensures { IfOk result (λ texts. texts ≡ then_some (some_parts (passes word) most parts.entry) distinct) }
+{
+    let Some(texts) = read_texts(alloc, parts, word, most)? else {
+        return Ok(None);
+    };
+    if !all_differ(texts.items()) {
+        return Ok(None);
+    }
+    Ok(Some(texts))
+}
+
+/// The names of `/NAME`, 1 to 32 times.
+pub(crate) fn read_path(alloc: Global, octets: &[u8]) -> Result<Option<Texts>, NoMemory>
+    ensures { IfOk result (λ names. names ≡ path_of octets.now) }
+{
+    let mut names = Parts::of(octets, b'/');
+    let Some(front) = names.next() else {
+        return Ok(None);
+    };
+    if !front.is_empty() {
+        return Ok(None);
+    }
+    read_texts(alloc, names, Word::Name, 32)
+}
+
+/// 1 to 8 distinct names with a comma between two of them.
+pub(crate) fn read_keys(alloc: Global, octets: &[u8]) -> Result<Option<Texts>, NoMemory>
+    ensures { IfOk result (λ keys. keys ≡ keys_of octets.now) }
+{
+    read_distinct(alloc, Parts::of(octets, b','), Word::Name, 8)
+}
+
+/// 1 to 256 distinct texts of an enum with `|` between two of them.
+pub(crate) fn read_enum_texts(alloc: Global, octets: &[u8]) -> Result<Option<Texts>, NoMemory>
+    ensures { IfOk result (λ texts. texts ≡ enum_texts octets.now) }
+{
+    read_distinct(alloc, Parts::of(octets, b'|'), Word::EnumText, 256)
+}
