@@ -1,0 +1,5 @@
+pub mod Histories
+pub mod Next
+pub mod Runs
+pub mod Headers
+pub mod Loop

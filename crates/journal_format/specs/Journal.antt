@@ -1,0 +1,65 @@
+-- Which octets are a journal, of which history, and where other octets are damaged. The format is this project's own.
+use Rattle.std.specs.Prelude.{◌≡◌, ◌≢◌, ◌⊎◌, ℕ, List, [], ◌∷◌, ◌++◌, codes, length}
+use Rattle.std.specs.List.{flat_map, AllByRecursion}
+use Rattle.std.specs.Int.{w32, to_be_bytes}
+use Rattle.base_kinds.specs.declared.entry.Entry.{Entry}
+use Rattle.base_kinds.specs.declared.entry.Limits.{Limits}
+use Rattle.base_kinds.specs.Limits.{AreInRange}
+use Rattle.record_format.specs.Spelling.{record_of}
+use Rattle.record_format.specs.Kept.{IsKept}
+use Rattle.journal_format.specs.Legal.{IsNext, IsLegalFor}
+
+-- 16 octets: a mark, the limit of entries, and that of octets
+unfoldable pub header : Limits → List ℕ
+header limits = codes "GNMIJRN1" ++ (to_be_bytes w32 limits.entries ++ to_be_bytes w32 limits.octets)
+
+-- an entry's record behind its gate, which is open: 0xA5
+abbrev pub gated : Entry → List ℕ
+gated entry = 165 ∷ record_of entry
+
+-- the header, and each entry behind an open gate: all that stands in front of the closed gate
+abbrev pub front : Limits → List Entry → List ℕ
+front limits h = header limits ++ flat_map gated h
+
+-- what the types of the entries keep
+abbrev pub AreKept : List Entry → Type 0
+AreKept h = AllByRecursion IsKept h
+
+-- The octets are a journal of this history, with these limits: the header, each entry behind an open gate, then an octet that
+-- is no open gate, and then anything.
+pub record IsJournal (octets : List ℕ) (limits : Limits) (h : List Entry) : Type 0 where
+  pub gate : ℕ
+  pub rest : List ℕ
+  pub parts : octets ≡ front limits h ++ gate ∷ rest
+  pub is_closed : gate ≢ 165
+  pub legal : IsLegalFor limits h
+  pub kept : AreKept h
+
+-- no header with limits in range stands first
+abbrev pub HasNoHeader : List ℕ → Type 0
+HasNoHeader octets = (limits : Limits) (rest : List ℕ) → AreInRange limits → octets ≡ header limits ++ rest → ⊥
+
+-- no record stands first whose entry may stand behind the history
+abbrev pub HasNoNext : Limits → List Entry → List ℕ → Type 0
+HasNoNext limits h octets = (entry : Entry) (rest : List ℕ) → IsNext limits h entry → IsKept entry → octets ≡ record_of entry ++ rest → ⊥
+
+-- a gate is missing here, or it is open and has no such record behind it
+abbrev pub IsNoGate : Limits → List Entry → List ℕ → Type 0
+IsNoGate limits h [] = Unit {0}
+IsNoGate limits h (gate ∷ rest) = (gate ≡ 165) × HasNoNext limits h rest
+
+-- in front of the place stands all of a legal history, and no gate stands there
+pub record IsCutAt (octets : List ℕ) (place : ℕ) : Type 0 where
+  pub limits : Limits
+  pub before : List Entry
+  pub rest : List ℕ
+  pub parts : octets ≡ front limits before ++ rest
+  pub legal : IsLegalFor limits before
+  pub kept : AreKept before
+  pub place_is : place ≡ length (front limits before)
+  pub no_gate : IsNoGate limits before rest
+
+-- The octets are no journal from this place on: 0 where the header is bad, and else the place of the first gate that is missing,
+-- or that is open and has no record behind it that is legal after those before it.
+abbrev pub IsDamaged : List ℕ → ℕ → Type 0
+IsDamaged octets place = ((place ≡ 0) × HasNoHeader octets) ⊎ IsCutAt octets place
