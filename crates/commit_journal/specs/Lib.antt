@@ -1,0 +1,4 @@
+pub mod Images
+pub mod Ledgers
+pub mod Openings
+pub mod Writes
