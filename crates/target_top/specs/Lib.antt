@@ -1,4 +1,6 @@
+pub mod Checks
 pub mod Classes
+pub mod Forms
 pub mod Laws
 pub mod Logs
 pub mod Runs

@@ -1,6 +1,6 @@
 ghost use Rattle.std.specs.Prelude.{Some};
 
-use crate::{Host, Kit, RunEnd, run};
+use crate::{Host, Kit, MemFiles, RunEnd, run};
 use base_lists::{Bytes, Text, Texts};
 use edge_traits::{Failed, MemSink, MemSource, Sink, Source};
 use std::alloc::Global;
@@ -48,6 +48,8 @@ impl Sink for Trickle {
 struct MemKit;
 
 impl Kit for MemKit {
+    type Files = MemFiles;
+
     type Input = MemSource;
 
     type Output = MemSink;
@@ -56,6 +58,8 @@ impl Kit for MemKit {
 struct DripKit;
 
 impl Kit for DripKit {
+    type Files = MemFiles;
+
     type Input = Drip;
 
     type Output = Trickle;
@@ -108,15 +112,41 @@ fn run_over<A: Abort>(
 ) -> (u8, MemSink) {
     let words = words_of(rt, alloc, words);
     let host: Host<MemKit> = Host {
+        files: MemFiles {
+            text: None,
+            faults: 0,
+        },
         input: MemSource::make(octets_of(rt, alloc, script), numbers_of(rt, alloc, reads)),
         output: MemSink::make(alloc, numbers_of(rt, alloc, writes)),
     };
     let RunEnd { status, host } = run(rt, alloc, words.as_slice(), host);
-    let Host { input: _, output } = host;
+    let Host { output, .. } = host;
     (status, output)
 }
 
-/// The same octet by octet.
+/// What `check` prints of the text, and the status, where these writes fail. With no text the file can't be read.
+fn check_over<A: Abort>(
+    rt: &A,
+    alloc: Global,
+    text: Option<&[u8]>,
+    writes: &[u64],
+) -> (u8, MemSink, u64) {
+    let words = words_of(rt, alloc, "check a.txt");
+    let text = match text {
+        Some(octets) => Some(octets_of(rt, alloc, octets)),
+        None => None,
+    };
+    let host: Host<MemKit> = Host {
+        files: MemFiles { text, faults: 0 },
+        input: MemSource::make(Bytes::empty(alloc), Texts::empty(alloc)),
+        output: MemSink::make(alloc, numbers_of(rt, alloc, writes)),
+    };
+    let RunEnd { status, host } = run(rt, alloc, words.as_slice(), host);
+    let Host { files, output, .. } = host;
+    (status, output, files.faults)
+}
+
+/// A script's run, octet by octet.
 fn drip_over<A: Abort>(
     rt: &A,
     alloc: Global,
@@ -126,6 +156,10 @@ fn drip_over<A: Abort>(
 ) -> (u8, MemSink) {
     let words = words_of(rt, alloc, "script");
     let host: Host<DripKit> = Host {
+        files: MemFiles {
+            text: None,
+            faults: 0,
+        },
         input: Drip {
             source: MemSource::make(octets_of(rt, alloc, script), numbers_of(rt, alloc, reads)),
         },
@@ -134,7 +168,7 @@ fn drip_over<A: Abort>(
         },
     };
     let RunEnd { status, host } = run(rt, alloc, words.as_slice(), host);
-    let Host { input: _, output } = host;
+    let Host { output, .. } = host;
     let Trickle { sink } = output;
     (status, sink)
 }
@@ -143,6 +177,10 @@ const HOSTNAME: &str = "at 1000\nupdate /system/config/hostname \"r1\"\nset 1\n"
 
 const HOSTNAME_PRINTED: &str =
     "ok 1000\nlog\n1 1000 1 apply\n  update /system/config/hostname\n    /system/config/hostname \"r1\"\n";
+
+/// A schema of three modules and 17 nodes.
+const SCHEMA: &str =
+    "module openconfig-system\ncontainer /system\ncontainer /system/config\nleaf /system/config/hostname string\nleaf /system/config/motd string\nmodule openconfig-interfaces\ncontainer /interfaces\nlist /interfaces/interface name\nleaf /interfaces/interface/name string\ncontainer /interfaces/interface/config\nleaf /interfaces/interface/config/mtu uint16\nleaf /interfaces/interface/config/description string\nleaf /interfaces/interface/config/enabled bool\nmodule lab\ncontainer /lab\nleaf /lab/big uint64\nleaf /lab/rate dec2\nleaf /lab/blob binary\nleaf-list /lab/tags string\nleaf /lab/via string ref /interfaces/interface/name\n";
 
 #[test]
 fn scripts_print_the_answers_of_one_history_and_its_log(rt: HostRuntime) -> Result<(), Fail> {
@@ -214,7 +252,16 @@ fn lines_behind_the_512th_are_refused(rt: HostRuntime) -> Result<(), Fail> {
 #[test]
 fn other_words_are_refused(rt: HostRuntime) -> Result<(), Fail> {
     let alloc = rt.alloc();
-    for words in ["", "scripts", "Script", "script x", "log"] {
+    for words in [
+        "",
+        "scripts",
+        "Script",
+        "script x",
+        "log",
+        "check",
+        "check a b",
+        "checks a",
+    ] {
         let (ended, output) = run_over(&rt, alloc, words, b"set 1\n", &[], &[]);
         assert_eq!(rt; output.octets(), b"bad words\n".as_slice(), "{words}");
         assert_eq!(rt; ended, 2, "{words}");
@@ -223,6 +270,32 @@ fn other_words_are_refused(rt: HostRuntime) -> Result<(), Fail> {
     let (ended, output) = run_over(&rt, alloc, "log", b"set 1\n", &[], &[1]);
     assert_eq!(rt; output.octets(), b"".as_slice());
     assert_eq!(rt; ended, 2);
+    Ok(())
+}
+
+#[test]
+fn a_schema_is_checked(rt: HostRuntime) -> Result<(), Fail> {
+    let alloc = rt.alloc();
+    let table = [
+        (SCHEMA, "schema ok 17\n", 0),
+        ("", "schema ok 0\n", 0),
+        (
+            "module m\nleaf /a/b string\n",
+            "schema line 2: no parent\n",
+            3,
+        ),
+    ];
+    for (text, printed, status) in table {
+        let (ended, output, faults) = check_over(&rt, alloc, Some(text.as_bytes()), &[]);
+        assert_eq!(rt; output.octets(), printed.as_bytes(), "of {text}");
+        assert_eq!(rt; (ended, faults), (status, 0), "of {text}");
+        let (ended, output, faults) = check_over(&rt, alloc, Some(text.as_bytes()), &[1]);
+        assert_eq!(rt; output.octets(), b"".as_slice());
+        assert_eq!(rt; (ended, faults), (7, 0), "of {text}");
+    }
+    let (ended, output, faults) = check_over(&rt, alloc, None, &[]);
+    assert_eq!(rt; output.octets(), b"input fault\n".as_slice());
+    assert_eq!(rt; (ended, faults), (6, 1));
     Ok(())
 }
 

@@ -1,14 +1,20 @@
-ghost use Rattle.std.specs.Prelude.{◌≡◌, ◌≢◌, ◌↔◌, ◌⊎◌, [], ◌∷◌, codes, map, string_bytes, IsTrue, IfSome, IfOk, OnOk, Some};
+ghost use Rattle.std.specs.Prelude.{◌≡◌, ◌≢◌, ◌↔◌, ◌⊎◌, ℕ, List, [], ◌∷◌, codes, map, string_bytes, IsTrue, IfSome, IfNone};
 ghost use Rattle.edge_traits.specs.Faults.{Rose};
+ghost use Rattle.target_top.specs.Checks.{ChecksText, ChecksFront};
+ghost use Rattle.target_top.specs.Forms.{IsScript, IsCheck, IsForm};
 ghost use Rattle.target_top.specs.Runs.{Takes, Says, AppendsScript, PrintsWhatItRead, AppendsScriptFront};
-ghost use Rattle.target_top.specs.Scripts.{RunsScript};
 
-use crate::transcript::run_script;
-use edge_traits::{ReadFault, Sink, Source, read_to_limit, write_whole};
+use crate::check::check;
+use crate::files::Files;
+use crate::script_run::script;
+use crate::status::{BAD_WORDS, say};
+use edge_traits::{Sink, Source};
 use std::alloc::Global;
 
 /// The kinds of objects of the outside that a run is handed.
 pub trait Kit {
+    type Files: Files + Drop;
+
     type Input: Source + Drop;
 
     type Output: Sink + Drop;
@@ -17,6 +23,7 @@ pub trait Kit {
 /// The objects of the outside that a run is handed, and hands back at its end.
 #[derive(Drop)]
 pub struct Host<K: Kit> {
+    pub files: K::Files,
     pub input: K::Input,
     pub output: K::Output,
 }
@@ -28,75 +35,89 @@ pub struct RunEnd<K: Kit> {
     pub host: Host<K>,
 }
 
-const DONE: u8 = 0;
-
-const NO_MEMORY: u8 = 1;
-
-const BAD_WORDS: u8 = 2;
-
-const INPUT_FAULT: u8 = 6;
-
-const OUTPUT_FAULT: u8 = 7;
-
-const BAD_LINE: u8 = 9;
-
-/// More octets than a script within its limits has: 512 lines of 256 octets and a line feed.
-const SCRIPT_OCTETS: u32 = 131_584;
-
 /// Does what the words say, over the objects of the host, and answers the status that the process is to end with.
 ///
-/// `script` reads a script from the input to its end and prints its answers and its commit log.
+/// `script` reads a script from the input to its end and prints its answers and its commit log. `check SCHEMA` reads the
+/// text of the file with this name as a schema and prints how many nodes it has, or its first fault.
 pub fn run<R, K: Kit>(rt: &R, alloc: Global, words: &[String], host: Host<K>) -> RunEnd<K>
-    // Other words are refused, and nothing is read.
-    ensures unread { result.status ≡ 2 → Takes 0 (K.Input.left host.input) (K.Input.left result.host.input) }
-    ensures bad_words { (result.status ≡ 2) ↔ (map (λ word. string_bytes word) words.now ≡ codes "script" ∷ [] → ⊥) }
+    // Other words are refused. Only `script` reads the input, and only `check` a file.
+    ensures bad_words { (result.status ≡ 2) ↔ (IsForm (map (λ word. string_bytes word) words.now) → ⊥) }
     ensures bad_words_line { result.status ≡ 2 → Says (K.Output.written host.output) (K.Output.written result.host.output) (K.Output.faults host.output) (K.Output.faults result.host.output) (codes "bad words\n") }
+    ensures unread { (IsScript (map (λ word. string_bytes word) words.now) → ⊥) → Takes 0 (K.Input.left host.input) (K.Input.left result.host.input) }
+    ensures unread_files { ((name : List ℕ) → IsCheck (map (λ word. string_bytes word) words.now) name → ⊥) → K.Files.text_faults result.host.files ≡ K.Files.text_faults host.files }
 
-    // At status 0 and 9 the output has what the script prints, of the whole input, and nothing else.
-    ensures script { (result.status ≡ 0) ⊎ (result.status ≡ 9) → IfSome (K.Input.left host.input) (λ script. AppendsScript (K.Output.written host.output) (K.Output.written result.host.output) script result.status) }
+    // At status 0 and 9 of `script` the output has what the script prints, of the whole input, and nothing else.
+    ensures script { IsScript (map (λ word. string_bytes word) words.now) → (result.status ≡ 0) ⊎ (result.status ≡ 9) → IfSome (K.Input.left host.input) (λ script. AppendsScript (K.Output.written host.output) (K.Output.written result.host.output) script result.status) }
 
     // Reading stops where the limits of a script are passed: 512 lines of 256 octets and a line feed.
     ensures read { Takes 131585 (K.Input.left host.input) (K.Input.left result.host.input) }
-    ensures printed { (result.status ≡ 0) ⊎ (result.status ≡ 9) → PrintsWhatItRead (K.Input.left host.input) (K.Input.left result.host.input) (K.Output.written host.output) (K.Output.written result.host.output) result.status }
+    ensures printed { IsScript (map (λ word. string_bytes word) words.now) → (result.status ≡ 0) ⊎ (result.status ≡ 9) → PrintsWhatItRead (K.Input.left host.input) (K.Input.left result.host.input) (K.Output.written host.output) (K.Output.written result.host.output) result.status }
     ensures input_fault_within { result.status ≡ 6 → Takes 131584 (K.Input.left host.input) (K.Input.left result.host.input) }
 
+    // At status 0 and 3 of `check` the output has what is printed of the file's text, and nothing else.
+    ensures checked { (name : List ℕ) → IsCheck (map (λ word. string_bytes word) words.now) name → (result.status ≡ 0) ⊎ (result.status ≡ 3) → ChecksText (K.Files.held host.files name) (K.Output.written host.output) (K.Output.written result.host.output) result.status }
+
     // 6 and 7 come only where the object failed.
-    ensures input_fault { result.status ≡ 6 → Rose (K.Input.faults host.input) (K.Input.faults result.host.input) }
+    ensures input_fault { IsScript (map (λ word. string_bytes word) words.now) → result.status ≡ 6 → Rose (K.Input.faults host.input) (K.Input.faults result.host.input) }
+    ensures file_fault { (name : List ℕ) → IsCheck (map (λ word. string_bytes word) words.now) name → result.status ≡ 6 → Rose (K.Files.text_faults host.files) (K.Files.text_faults result.host.files) }
     ensures input_fault_line { result.status ≡ 6 → Says (K.Output.written host.output) (K.Output.written result.host.output) (K.Output.faults host.output) (K.Output.faults result.host.output) (codes "input fault\n") }
     ensures output_fault { result.status ≡ 7 → Rose (K.Output.faults host.output) (K.Output.faults result.host.output) }
-    ensures output_fault_front { result.status ≡ 7 → IfSome (K.Input.left host.input) (λ script. AppendsScriptFront (K.Output.written host.output) (K.Output.written result.host.output) script) }
+    ensures output_fault_front { IsScript (map (λ word. string_bytes word) words.now) → result.status ≡ 7 → IfSome (K.Input.left host.input) (λ script. AppendsScriptFront (K.Output.written host.output) (K.Output.written result.host.output) script) }
+    ensures check_fault_front { (name : List ℕ) → IsCheck (map (λ word. string_bytes word) words.now) name → result.status ≡ 7 → ChecksFront (K.Files.held host.files name) (K.Output.written host.output) (K.Output.written result.host.output) }
 
     // An object that failed is never passed over.
     ensures quiet_input { result.status ≢ 6 → K.Input.faults result.host.input ≡ K.Input.faults host.input }
-    ensures quiet_output { (result.status ≡ 0) ⊎ (result.status ≡ 9) → K.Output.faults result.host.output ≡ K.Output.faults host.output }
+    ensures quiet_files { result.status ≢ 6 → K.Files.text_faults result.host.files ≡ K.Files.text_faults host.files }
+    ensures quiet_output { (result.status ≡ 0) ⊎ (result.status ≡ 3) ⊎ (result.status ≡ 9) → K.Output.faults result.host.output ≡ K.Output.faults host.output }
 
     // Want of memory is told where it can be.
     ensures memory_line { result.status ≡ 1 → Says (K.Output.written host.output) (K.Output.written result.host.output) (K.Output.faults host.output) (K.Output.faults result.host.output) (codes "no memory\n") }
 
-    ensures statuses { (result.status ≡ 0) ⊎ (result.status ≡ 1) ⊎ (result.status ≡ 2) ⊎ (result.status ≡ 6) ⊎ (result.status ≡ 7) ⊎ (result.status ≡ 9) }
+    ensures script_statuses { IsScript (map (λ word. string_bytes word) words.now) → (result.status ≡ 0) ⊎ (result.status ≡ 1) ⊎ (result.status ≡ 6) ⊎ (result.status ≡ 7) ⊎ (result.status ≡ 9) }
+    ensures check_statuses { (name : List ℕ) → IsCheck (map (λ word. string_bytes word) words.now) name → (result.status ≡ 0) ⊎ (result.status ≡ 1) ⊎ (result.status ≡ 3) ⊎ (result.status ≡ 6) ⊎ (result.status ≡ 7) }
 {
     let _ = rt;
     let Host {
+        mut files,
         mut input,
         mut output,
     } = host;
-    if !is_script(words) {
-        say(&mut output, b"bad words\n");
+    if is_script(words) {
+        let status = script(alloc, &mut input, &mut output);
         return RunEnd {
-            status: BAD_WORDS,
-            host: Host { input, output },
+            status,
+            host: Host {
+                files,
+                input,
+                output,
+            },
         };
     }
-    let status = script(alloc, &mut input, &mut output);
+    if let Some(name) = checked_name(words) {
+        let status = check(alloc, &mut files, name, &mut output);
+        return RunEnd {
+            status,
+            host: Host {
+                files,
+                input,
+                output,
+            },
+        };
+    }
+    say(&mut output, b"bad words\n");
     RunEnd {
-        status,
-        host: Host { input, output },
+        status: BAD_WORDS,
+        host: Host {
+            files,
+            input,
+            output,
+        },
     }
 }
 
 /// Whether the words are `script` alone.
 fn is_script(words: &[String]) -> bool
-    ensures { IsTrue result ↔ (map (λ word. string_bytes word) words.now ≡ codes "script" ∷ []) }
+    ensures { IsTrue result ↔ IsScript (map (λ word. string_bytes word) words.now) }
 {
     match words {
         [word] => word.as_str() == "script",
@@ -104,56 +125,18 @@ fn is_script(words: &[String]) -> bool
     }
 }
 
-/// Writes a line, as far as the output takes it.
-fn say<W: Sink>(output: &mut W, line: &[u8])
-    ensures { Says (W.written output.old) (W.written output.new) (W.faults output.old) (W.faults output.new) line.now }
+/// The name behind `check`, where the words are these two.
+fn checked_name(words: &[String]) -> Option<&str>
+    ensures name { IfSome result (λ name. IsCheck (map (λ word. string_bytes word) words.now) name.now) }
+    ensures none { IfNone result ((name : List ℕ) → IsCheck (map (λ word. string_bytes word) words.now) name → ⊥) }
 {
-    let _ = write_whole(output, line);
-}
-
-/// Reads a script to its end, or until it is past its limits, and prints what it prints.
-fn script<S: Source, W: Sink>(alloc: Global, input: &mut S, output: &mut W) -> u8
-    ensures read { Takes 131585 (S.left input.old) (S.left input.new) }
-    ensures printed { (result ≡ 0) ⊎ (result ≡ 9) → PrintsWhatItRead (S.left input.old) (S.left input.new) (W.written output.old) (W.written output.new) result }
-    ensures input_fault_within { result ≡ 6 → Takes 131584 (S.left input.old) (S.left input.new) }
-    ensures script { (result ≡ 0) ⊎ (result ≡ 9) → IfSome (S.left input.old) (λ script. AppendsScript (W.written output.old) (W.written output.new) script result) }
-    ensures input_fault { result ≡ 6 → Rose (S.faults input.old) (S.faults input.new) }
-    ensures input_fault_line { result ≡ 6 → Says (W.written output.old) (W.written output.new) (W.faults output.old) (W.faults output.new) (codes "input fault\n") }
-    ensures output_fault { result ≡ 7 → Rose (W.faults output.old) (W.faults output.new) }
-    ensures output_fault_front { result ≡ 7 → IfSome (S.left input.old) (λ script. AppendsScriptFront (W.written output.old) (W.written output.new) script) }
-    ensures quiet_input { result ≢ 6 → S.faults input.new ≡ S.faults input.old }
-    ensures quiet_output { (result ≡ 0) ⊎ (result ≡ 9) → W.faults output.new ≡ W.faults output.old }
-    ensures memory_line { result ≡ 1 → Says (W.written output.old) (W.written output.new) (W.faults output.old) (W.faults output.new) (codes "no memory\n") }
-    ensures statuses { (result ≡ 0) ⊎ (result ≡ 1) ⊎ (result ≡ 6) ⊎ (result ≡ 7) ⊎ (result ≡ 9) }
-{
-    match read_to_limit(alloc, input, SCRIPT_OCTETS) {
-        Err(ReadFault::Failed) => {
-            say(output, b"input fault\n");
-            INPUT_FAULT
+    match words {
+        [word, name] => {
+            if word.as_str() == "check" {
+                return Some(name.as_str());
+            }
+            None
         }
-        Err(ReadFault::NoMemory) => {
-            say(output, b"no memory\n");
-            NO_MEMORY
-        }
-        Ok(octets) => print_script(alloc, octets.items(), output),
+        _ => None,
     }
-}
-
-/// Prints what the script prints.
-fn print_script<W: Sink>(alloc: Global, script: &[u8], output: &mut W) -> u8
-    ensures printed { (result ≡ 0) ⊎ (result ≡ 9) → AppendsScript (W.written output.old) (W.written output.new) script.now result }
-    ensures output_fault { result ≡ 7 → Rose (W.faults output.old) (W.faults output.new) }
-    ensures output_fault_front { result ≡ 7 → AppendsScriptFront (W.written output.old) (W.written output.new) script.now }
-    ensures quiet_output { (result ≡ 0) ⊎ (result ≡ 9) → W.faults output.new ≡ W.faults output.old }
-    ensures memory_line { result ≡ 1 → Says (W.written output.old) (W.written output.new) (W.faults output.old) (W.faults output.new) (codes "no memory\n") }
-    ensures statuses { (result ≡ 0) ⊎ (result ≡ 1) ⊎ (result ≡ 7) ⊎ (result ≡ 9) }
-{
-    let Ok(transcript) = run_script(alloc, script) else {
-        say(output, b"no memory\n");
-        return NO_MEMORY;
-    };
-    if write_whole(output, transcript.text.items()).is_err() {
-        return OUTPUT_FAULT;
-    }
-    if transcript.is_whole { DONE } else { BAD_LINE }
 }

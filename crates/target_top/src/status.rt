@@ -1,0 +1,24 @@
+ghost use Rattle.target_top.specs.Runs.{Says};
+
+use edge_traits::{Sink, write_whole};
+
+pub const DONE: u8 = 0;
+
+pub const NO_MEMORY: u8 = 1;
+
+pub const BAD_WORDS: u8 = 2;
+
+pub const NO_SCHEMA: u8 = 3;
+
+pub const INPUT_FAULT: u8 = 6;
+
+pub const OUTPUT_FAULT: u8 = 7;
+
+pub const BAD_LINE: u8 = 9;
+
+/// Writes a line, as far as the output takes it.
+pub fn say<W: Sink>(output: &mut W, line: &[u8])
+    ensures { Says (W.written output.old) (W.written output.new) (W.faults output.old) (W.faults output.new) line.now }
+{
+    let _ = write_whole(output, line);
+}
