@@ -1,0 +1,5 @@
+pub mod IntegerLemmas
+pub mod TableLemmas
+pub mod FieldLemmas
+pub mod BlockLemmas
+pub mod WrittenLemmas

@@ -1,0 +1,8 @@
+use Rattle.std.proofs.Common.{◌≡◌, ℕ, ◌<◌, false, get_or}
+use Rattle.hpack_block.specs.StaticTable.{nothing, static_table}
+use Rattle.hpack_block.specs.Written.{is_pair}
+use Rattle.hpack_block.proofs.static_table.place_of_pair.Given as goal
+
+-- no earlier entry is it
+abbrev pub invariant-loop-place : goal.invariant-loop-place
+invariant-loop-place l = (k : ℕ) → k < l.place → is_pair l.header (get_or static_table k nothing) ≡ false

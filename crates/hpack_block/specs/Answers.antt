@@ -1,0 +1,60 @@
+-- What a decoder of header blocks is and answers.
+use Rattle.std.specs.Prelude.{◌≡◌, ℕ, ◌<◌, ◌≤◌, List, [], ◌∷◌, ◌++◌, nat_le, Option, Some, None, Result, Ok, Err, if◌then◌else◌}
+use Rattle.hpack_block.specs.declared.header.Header.{Header}
+use Rattle.hpack_block.specs.declared.header.BlockFault.{BlockFault}
+use Rattle.hpack_block.specs.declared.header.BlockFault.TheVariants.{Bad, TooLong, NoMemory}
+use Rattle.hpack_block.specs.Tables.{Table, size_of_all}
+use Rattle.hpack_block.specs.Block.{Block}
+
+-- The size of a header list counts as a table's does (SETTINGS_MAX_HEADER_LIST_SIZE, RFC 9113 section 6.5.2).
+abbrev pub largest_list : ℕ
+largest_list = 16384
+
+-- A decoder has its table, or the fault that it ended with.
+abbrev pub State : Type 0
+State = Result Table BlockFault
+
+abbrev pub state_of : Option BlockFault → Table → State
+state_of None table = Ok table
+state_of (Some fault) table = Err fault
+
+-- the block gives the headers, and the table is the last one then
+pub record IsRead (table : Table) (octets : List ℕ) (headers : List Header) (new : State) : Type 0 where
+  pub last : Table
+  pub block : Block octets table headers last
+  pub new_is : new ≡ Ok last
+  pub short : size_of_all headers ≤ largest_list
+
+-- the same, where the list of headers is too long
+pub record IsTooLong (table : Table) (octets : List ℕ) (new : State) : Type 0 where
+  pub headers : List Header
+  pub last : Table
+  pub block : Block octets table headers last
+  pub new_is : new ≡ Ok last
+  pub long : largest_list < size_of_all headers
+
+-- no headers stand in the block
+abbrev pub IsBad : Table → List ℕ → Type 0
+IsBad table octets = (headers : List Header) (last : Table) → Block octets table headers last → ⊥
+
+-- What a decoder says of a block's octets, and what it is then. After Bad or want of memory it answers that for ever.
+abbrev pub Answers : State → List ℕ → Result (List Header) BlockFault → State → Type 0
+Answers (Err fault) octets result new = (result ≡ Err fault) × (new ≡ Err fault)
+Answers (Ok table) octets (Ok headers) new = IsRead table octets headers new
+Answers (Ok table) octets (Err TooLong) new = IsTooLong table octets new
+Answers (Ok table) octets (Err Bad) new = IsBad table octets × (new ≡ Err Bad)
+Answers (Ok table) octets (Err NoMemory) new = new ≡ Err NoMemory
+
+-- headers that are kept while their list isn't too long
+abbrev pub gathered : List Header → Option (List Header)
+gathered headers = if nat_le (size_of_all headers) largest_list then Some headers else None
+
+-- one header more
+abbrev pub gathered_with : Header → Option (List Header) → Option (List Header)
+gathered_with header None = None
+gathered_with header (Some headers) = gathered (headers ++ header ∷ [])
+
+-- what a list of headers that was gathered answers
+abbrev pub listed : Option (List Header) → Result (List Header) BlockFault
+listed None = Err TooLong
+listed (Some headers) = Ok headers

@@ -1,0 +1,10 @@
+pub mod Integers
+pub mod Strings
+pub mod StaticTable
+pub mod Tables
+pub mod Fields
+pub mod Block
+pub mod Written
+pub mod Reading
+pub mod Answers
+pub mod Steps

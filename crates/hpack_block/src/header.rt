@@ -1,0 +1,48 @@
+ghost use Rattle.std.specs.Prelude.{◌≡◌, IfOk};
+
+use base_lists::{Bytes, Copied, NoMemory, Seq};
+use std::alloc::Global;
+
+/// A header: a pair of a name and a value.
+#[derive(Debug, Drop)]
+pub struct Header {
+    pub name: Bytes,
+    pub value: Bytes,
+}
+
+/// Headers, in their order in the block.
+pub type Headers = Seq<Header>;
+
+#[derive(Clone, Copy, Debug, PartialEq, Eq)]
+pub enum BlockFault {
+    Bad,
+    TooLong,
+    NoMemory,
+}
+
+impl From<NoMemory> for BlockFault {
+    ghost use Rattle.hpack_block.specs.declared.header.BlockFault.TheVariants.{NoMemory as OutOfMemory};
+
+    ghost from_gives = { λ _ fault. fault ≡ OutOfMemory };
+
+    fn from(_fault: NoMemory) -> BlockFault {
+        BlockFault::NoMemory
+    }
+}
+
+/// A copy of the octets.
+pub(crate) fn copy_of(alloc: Global, octets: &[u8]) -> Result<Bytes, NoMemory>
+    ensures { IfOk result (λ copy. copy ≡ octets.now) }
+{
+    let mut copy = Bytes::empty(alloc);
+    copy.extend_from_slice(octets)?;
+    Ok(copy)
+}
+
+impl Copied for Header {
+    fn copy(&self, alloc: Global) -> Result<Header, NoMemory> {
+        let name = copy_of(alloc, self.name.items())?;
+        let value = copy_of(alloc, self.value.items())?;
+        Ok(Header { name, value })
+    }
+}

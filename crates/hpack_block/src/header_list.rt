@@ -1,0 +1,95 @@
+ghost use Rattle.std.specs.Prelude.{◌≡◌, [], Some, OnOk};
+ghost use Rattle.hpack_block.specs.StaticTable.{pair};
+ghost use Rattle.hpack_block.specs.Answers.{gathered_with, listed};
+
+use crate::dynamic_table::room_beside;
+use crate::header::{BlockFault, Header, Headers, copy_of};
+use base_lists::NoMemory;
+use std::alloc::Global;
+use std::marker::Model;
+
+/// The largest size that a list of headers may have.
+const LARGEST_LIST: usize = 16_384;
+
+/// The headers of a block so far. Where their list is too long, none is kept.
+#[derive(Drop)]
+pub struct HeaderList {
+    headers: Option<Headers>,
+    /// What the headers leave of the largest size.
+    room: usize,
+}
+
+impl Model for HeaderList {
+    ghost use Rattle.std.specs.Prelude.{◌≡◌, ◌+◌, [], List, Option, unwrap_or};
+    ghost use Rattle.hpack_block.specs.declared.header.Header.{Header};
+    ghost use Rattle.hpack_block.specs.Tables.{size_of_all};
+    ghost use Rattle.hpack_block.specs.Answers.{largest_list};
+
+    ghost Value = { Option (List Header) };
+
+    ghost view = { λ l. l.headers };
+
+    ghost invariant = { λ l. size_of_all (unwrap_or l.headers []) + l.room ≡ largest_list };
+}
+
+impl HeaderList {
+    /// Takes no memory.
+    pub(crate) fn empty(alloc: Global) -> HeaderList
+        ensures { result ≡ Some [] }
+    {
+        HeaderList {
+            headers: Some(Headers::empty(alloc)),
+            room: LARGEST_LIST,
+        }
+    }
+
+    pub(crate) fn push(&mut self, header: Header) -> Result<(), NoMemory>
+        ensures { OnOk result (self.new ≡ gathered_with header self.old) }
+    {
+        match &mut self.headers {
+            None => Ok(()),
+            Some(headers) => {
+                match room_beside(self.room, header.name.items(), header.value.items()) {
+                    None => {
+                        self.headers = None;
+                        self.room = LARGEST_LIST;
+                    }
+                    Some(room) => {
+                        headers.push(header)?;
+                        self.room = room;
+                    }
+                }
+                Ok(())
+            }
+        }
+    }
+
+    /// A copy of a header, which is only made where it is kept.
+    pub(crate) fn push_copy(
+        &mut self,
+        alloc: Global,
+        name: &[u8],
+        value: &[u8],
+    ) -> Result<(), NoMemory>
+        ensures { OnOk result (self.new ≡ gathered_with (pair name.now value.now) self.old) }
+    {
+        if self.headers.is_none() {
+            return Ok(());
+        }
+        if room_beside(self.room, name, value).is_none() {
+            self.headers = None;
+            self.room = LARGEST_LIST;
+            return Ok(());
+        }
+        let name = copy_of(alloc, name)?;
+        let value = copy_of(alloc, value)?;
+        self.push(Header { name, value })
+    }
+
+    pub(crate) fn into_headers(self) -> Result<Headers, BlockFault>
+        ensures { result ≡ listed self }
+    {
+        let HeaderList { headers, room: _ } = self;
+        headers.ok_or(BlockFault::TooLong)
+    }
+}

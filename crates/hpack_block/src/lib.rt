@@ -1,0 +1,23 @@
+//! Header blocks of HTTP/2 (HPACK, RFC 7541): read against a dynamic table, and written in one form.
+#![tactic(auto)]
+
+mod decoder;
+mod dynamic_table;
+mod encoder;
+mod field;
+mod form;
+mod header;
+mod header_list;
+mod integer;
+mod laws;
+mod static_table;
+mod string;
+#[cfg(test)]
+mod tests;
+
+pub use decoder::Decoder;
+pub use encoder::encode_block;
+pub use header::{BlockFault, Header, Headers};
+pub use laws::{
+    answered_exactly, kept_entries, one_reading, read_back, worked_blocks, worked_tables,
+};
