@@ -35,7 +35,7 @@ happens (kinds.Extend deadline) open_before = open_before
 abbrev pub is_fit_id : List ℕ → Bool
 is_fit_id id = nat_le 1 (length id) && nat_le (length id) 64
 
--- a deadline is 1 s to 86,400 s behind its entry's stamp
+-- a deadline is above its entry's stamp by 1 s to 86,400 s
 abbrev pub is_fit_deadline : ℕ → ℕ → Bool
 is_fit_deadline stamp deadline = nat_le (stamp + 1000000000) deadline && nat_le deadline (stamp + 86400000000000)
 
@@ -57,7 +57,7 @@ has_trial h = is_open (world_of h).trial
 abbrev pub has_room : Limits → List Entry → Bool
 has_room limits h = if has_trial h then limited limits h 1 14 else limited limits h 0 0
 
--- The entry may stand behind the history. A stamp is behind the last reading, in the year 2100, by no more nanoseconds than
+-- The entry may stand behind the history. A stamp is above the greatest reading, in the year 2100, by no more nanoseconds than
 -- there are entries.
 pub record IsNext (limits : Limits) (h : List Entry) (entry : Entry) : Type 0 where
   pub number_is : entry.number ≡ length h + 1

@@ -1,5 +1,5 @@
 -- What a run of the program does with its words, its input and its output.
-use Rattle.std.specs.Prelude.{ℕ, ◌≤◌, List, length, take, Option, ◌⊎◌}
+use Rattle.std.specs.Prelude.{◌≡◌, ℕ, ◌≤◌, List, length, take, Option, ◌⊎◌}
 use Rattle.std.specs.Io.KnownBytes.{Appends, Consumes}
 use Rattle.edge_traits.specs.Faults.{Rose}
 use Rattle.target_top.specs.Scripts.{RunsScript}
@@ -12,9 +12,9 @@ Takes most old new = (octets : List ℕ) × (length octets ≤ most) × Consumes
 abbrev pub AppendsFront : Option (List ℕ) → Option (List ℕ) → List ℕ → Type 0
 AppendsFront old new text = (count : ℕ) × Appends old new (take count text)
 
--- the text was written, or the object failed behind a front of it
+-- the text was written and nothing failed, or the object failed behind a front of it
 abbrev pub Says : Option (List ℕ) → Option (List ℕ) → ℕ → ℕ → List ℕ → Type 0
-Says old new before now text = Appends old new text ⊎ (Rose before now × AppendsFront old new text)
+Says old new before now text = (Appends old new text × (now ≡ before)) ⊎ (Rose before now × AppendsFront old new text)
 
 -- what the script prints was written, all of it, and the run ends with the script's status
 abbrev pub AppendsScript : Option (List ℕ) → Option (List ℕ) → List ℕ → ℕ → Type 0

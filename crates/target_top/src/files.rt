@@ -1,4 +1,4 @@
-ghost use Rattle.std.specs.Prelude.{◌≡◌, ◌≢◌, ℕ, List, Option, IfOk, IfSome, IsErrOf};
+ghost use Rattle.std.specs.Prelude.{◌≡◌, ◌≢◌, ◌≤◌, ◌↔◌, ℕ, List, Option, None, IfOk, IfSome, IsErrOf};
 ghost use Rattle.edge_traits.specs.Faults.{Rose};
 
 use base_kinds::{Bytes, Copied, NoMemory};
@@ -33,6 +33,7 @@ pub trait Files {
     fn text(&mut self, alloc: Global, name: &str) -> Result<Bytes, TextFault>
         ensures octets { IfOk result (λ octets. IfSome (held self.old name.now) (λ text. octets ≡ text)) }
         ensures keeps { held self.new ≡ held self.old }
+        ensures later { text_faults self.old ≤ text_faults self.new }
         ensures failed { IsErrOf result TextFault.Failed → Rose (text_faults self.old) (text_faults self.new) }
         ensures quiet { (IsErrOf result TextFault.Failed → ⊥) → text_faults self.new ≡ text_faults self.old };
 }
@@ -50,7 +51,14 @@ impl Files for MemFiles {
     ghost text_faults = { λ f. f.faults };
 
     /// Fails exactly where there is no text.
-    fn text(&mut self, alloc: Global, name: &str) -> Result<Bytes, TextFault> {
+    fn text(&mut self, alloc: Global, name: &str) -> Result<Bytes, TextFault>
+        ensures octets { IfOk result (λ octets. IfSome self.old.text (λ text. octets ≡ text)) }
+        ensures keeps { (λ (_ : List ℕ). self.new.text) ≡ (λ (_ : List ℕ). self.old.text) }
+        ensures later { self.old.faults ≤ self.new.faults }
+        ensures failed { IsErrOf result TextFault.Failed → Rose self.old.faults self.new.faults }
+        ensures quiet { (IsErrOf result TextFault.Failed → ⊥) → self.new.faults ≡ self.old.faults }
+        ensures fails { IsErrOf result TextFault.Failed ↔ (self.old.text ≡ None) }
+    {
         let _ = name;
         match &self.text {
             Some(text) => Ok(text.copy(alloc)?),

@@ -44,7 +44,8 @@ pub fn run<R, K: Kit>(rt: &R, alloc: Global, words: &[String], host: Host<K>) ->
     ensures bad_words { (result.status ≡ 2) ↔ (IsForm (map (λ word. string_bytes word) words.now) → ⊥) }
     ensures bad_words_line { result.status ≡ 2 → Says (K.Output.written host.output) (K.Output.written result.host.output) (K.Output.faults host.output) (K.Output.faults result.host.output) (codes "bad words\n") }
     ensures unread { (IsScript (map (λ word. string_bytes word) words.now) → ⊥) → Takes 0 (K.Input.left host.input) (K.Input.left result.host.input) }
-    ensures unread_files { ((name : List ℕ) → IsCheck (map (λ word. string_bytes word) words.now) name → ⊥) → K.Files.text_faults result.host.files ≡ K.Files.text_faults host.files }
+    ensures quiet_unread { (IsScript (map (λ word. string_bytes word) words.now) → ⊥) → K.Input.faults result.host.input ≡ K.Input.faults host.input }
+    ensures unread_files { ((name : List ℕ) → IsCheck (map (λ word. string_bytes word) words.now) name → ⊥) → result.host.files ≡ host.files }
 
     // At status 0 and 9 of `script` the output has what the script prints, of the whole input, and nothing else.
     ensures script { IsScript (map (λ word. string_bytes word) words.now) → (result.status ≡ 0) ⊎ (result.status ≡ 9) → IfSome (K.Input.left host.input) (λ script. AppendsScript (K.Output.written host.output) (K.Output.written result.host.output) script result.status) }
