@@ -46,10 +46,10 @@ module _ (limits : Limits) (h : List Entry) (entry : Entry) (legal : IsLegalFor 
 
   pub record_put : (old new : Option Content) → Tells old (Holds limits h None) → Moved old new (PutsRecord limits h entry) → Tells new (IsStaged limits h entry) × LeavesOnly (IsJournalOr limits h (Some entry)) old new
   record_put old new holds moved = both old new holds moved (λ o n has put.
-    let stage = staged limits h entry o n has put in (
-      stage,
-      put_since (Leaves (IsJournalOr limits h (Some entry))) (length (front limits h) + 1) (record_of entry ++ 0 ∷ []) o n (before o.kept has.keeps) (before _ (touched_settled limits h (length (record_of entry ++ 0 ∷ [])) o.kept has.keeps)) (subst (λ m. Leaves (IsJournalOr limits h (Some entry)) m) put.kept (before n.kept (staged_settled limits h entry n stage).keeps)) put,
-    ))
+      let stage = staged limits h entry o n has put in (
+        stage,
+        put_since (Leaves (IsJournalOr limits h (Some entry))) (length (front limits h) + 1) (record_of entry ++ 0 ∷ []) o n (before o.kept has.keeps) (before _ (touched_settled limits h (length (record_of entry ++ 0 ∷ [])) o.kept has.keeps)) (subst (λ m. Leaves (IsJournalOr limits h (Some entry)) m) put.kept (before n.kept (staged_settled limits h entry n stage).keeps)) put,
+      ))
 
   module _ (next : IsNext limits h entry) (one : IsKept entry) where
     between : (mask : List (Option ℕ)) → IsInDoubt limits h entry mask → Leaves (IsJournalOr limits h (Some entry)) mask
@@ -60,32 +60,32 @@ module _ (limits : Limits) (h : List Entry) (entry : Entry) (legal : IsLegalFor 
 
     pub gate_failed : (old new : Option Content) → Tells old (IsStaged limits h entry) → Moved old new (FailsAtGate limits h) → Tells new (Holds limits h (Some entry)) × LeavesOnly (IsJournalOr limits h (Some entry)) old new
     gate_failed old new holds moved = both old new holds moved (λ o n stage changes.
-      let doubt = touched_staged limits h entry o stage in (
-        changed_doubt limits h entry o n doubt changes,
-        changes_since (Leaves (IsJournalOr limits h (Some entry))) _ o n (before o.kept (staged_settled limits h entry o stage).keeps) (between _ doubt) changes,
-      ))
+        let doubt = touched_staged limits h entry o stage in (
+          changed_doubt limits h entry o n doubt changes,
+          changes_since (Leaves (IsJournalOr limits h (Some entry))) _ o n (before o.kept (staged_settled limits h entry o stage).keeps) (between _ doubt) changes,
+        ))
 
     pub gate_opened : (old new : Option Content) → Tells old (IsStaged limits h entry) → Moved old new (PutsGate limits h 165) → Tells new (Holds limits (h ++ entry ∷ []) None) × LeavesOnly (IsJournalOr limits h (Some entry)) old new
     gate_opened old new holds moved = both old new holds moved (λ o n stage put.
-      let doubt = touched_staged limits h entry o stage in
-      let stands = opened limits h entry o n stage put in (
-        stands,
-        put_since (Leaves (IsJournalOr limits h (Some entry))) (length (front limits h)) (165 ∷ []) o n (before o.kept (staged_settled limits h entry o stage).keeps) (between _ doubt) (subst (λ m. Leaves (IsJournalOr limits h (Some entry)) m) put.kept (after n.kept stands.keeps)) put,
-      ))
+        let doubt = touched_staged limits h entry o stage in
+        let stands = opened limits h entry o n stage put in (
+          stands,
+          put_since (Leaves (IsJournalOr limits h (Some entry))) (length (front limits h)) (165 ∷ []) o n (before o.kept (staged_settled limits h entry o stage).keeps) (between _ doubt) (subst (λ m. Leaves (IsJournalOr limits h (Some entry)) m) put.kept (after n.kept stands.keeps)) put,
+        ))
 
     pub close_failed : (old new : Option Content) → Tells old (Holds limits h (Some entry)) → Moved old new (FailsAtGate limits h) → Tells new (Holds limits h (Some entry)) × LeavesOnly (IsJournalOr limits h (Some entry)) old new
     close_failed old new holds moved = both old new holds moved (λ o n has changes.
-      let doubt = touched_doubt limits h entry o.kept has.keeps in (
-        changed_doubt limits h entry o n doubt changes,
-        changes_since (Leaves (IsJournalOr limits h (Some entry))) _ o n (between o.kept has.keeps) (between _ doubt) changes,
-      ))
+        let doubt = touched_doubt limits h entry o.kept has.keeps in (
+          changed_doubt limits h entry o n doubt changes,
+          changes_since (Leaves (IsJournalOr limits h (Some entry))) _ o n (between o.kept has.keeps) (between _ doubt) changes,
+        ))
 
     pub gate_closed : (old new : Option Content) → Tells old (Holds limits h (Some entry)) → Moved old new (PutsGate limits h 0) → Tells new (Holds limits h None) × LeavesOnly (IsJournalOr limits h (Some entry)) old new
     gate_closed old new holds moved = both old new holds moved (λ o n has put.
-      let shut = closed limits h entry o n has put in (
-        shut,
-        put_since (Leaves (IsJournalOr limits h (Some entry))) (length (front limits h)) (0 ∷ []) o n (between o.kept has.keeps) (between _ (touched_doubt limits h entry o.kept has.keeps)) (subst (λ m. Leaves (IsJournalOr limits h (Some entry)) m) put.kept (before n.kept shut.keeps)) put,
-      ))
+        let shut = closed limits h entry o n has put in (
+          shut,
+          put_since (Leaves (IsJournalOr limits h (Some entry))) (length (front limits h)) (0 ∷ []) o n (between o.kept has.keeps) (between _ (touched_doubt limits h entry o.kept has.keeps)) (subst (λ m. Leaves (IsJournalOr limits h (Some entry)) m) put.kept (before n.kept shut.keeps)) put,
+        ))
 
 -- the same write, at a place and of a piece that are told otherwise
 changes_as : (old new : Option Content) (place there : ℕ) (piece same : List ℕ) → place ≡ there → piece ≡ same → Moved old new (λ o n. Changes (touched place (length piece) o.kept) o n) → Moved old new (λ o n. Changes (touched there (length same) o.kept) o n)

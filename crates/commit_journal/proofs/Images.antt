@@ -38,14 +38,14 @@ module _ (limits : Limits) (h : List Entry) (legal : IsLegalFor limits h) (kept 
       elim (cases_eq gate 165) [
         | inl is_open ↦
             inr
-              record {
-                gate = 0;
-                rest = record_parts.0;
-                parts = is ∙ ap (λ g. front limits h ++ g ∷ rest) is_open ∙ ap (λ l. front limits h ++ 165 ∷ l) (record_parts.1 ∙ append_assoc (record_of attempt) (0 ∷ []) record_parts.0) ∙ sym (front_more limits h attempt (0 ∷ record_parts.0));
-                is_closed = omega arith;
-                legal = legal_more limits h attempt legal next;
-                kept = kept_more h attempt kept one;
-              }
+            record {
+              gate = 0;
+              rest = record_parts.0;
+              parts = is ∙ ap (λ g. front limits h ++ g ∷ rest) is_open ∙ ap (λ l. front limits h ++ 165 ∷ l) (record_parts.1 ∙ append_assoc (record_of attempt) (0 ∷ []) record_parts.0) ∙ sym (front_more limits h attempt (0 ∷ record_parts.0));
+              is_closed = omega arith;
+              legal = legal_more limits h attempt legal next;
+              kept = kept_more h attempt kept one;
+            }
         | inr is_closed ↦ inl record { gate = gate; rest = rest; parts = is; is_closed = is_closed; legal = legal; kept = kept }
       ]
 

@@ -30,7 +30,8 @@ limited_size limits h entries octets is = grind (arith, is)
 room_size : (limits : Limits) (h : List Entry) → IsTrue (has_room limits h) → size_of h ≤ limits.octets
 room_size limits h room =
     elim (has_trial h) as (λ b. IsTrue (if b then limited limits h 1 14 else limited limits h 0 0) → size_of h ≤ limits.octets) [
-      true ↦ λ is. limited_size limits h 1 14 is | false ↦ λ is. limited_size limits h 0 0 is
+      | true ↦ λ is. limited_size limits h 1 14 is
+      | false ↦ λ is. limited_size limits h 0 0 is
     ] room
 
 follow_size : (limits : Limits) (before h : List Entry) → FollowInTurn limits before h → size_of before ≤ limits.octets → size_of (before ++ h) ≤ limits.octets

@@ -38,11 +38,13 @@ fn open<D: Disk>(alloc: Global, disk: D, octets: &[u8]) -> Opening<D>
     ensures finds { FindsAll octets.now result }
 {
     match read_journal(alloc, octets) {
-        Ok(Journal {
-            limits,
-            entries,
-            gate,
-        }) => {
+        Ok(
+            Journal {
+                limits,
+                entries,
+                gate,
+            },
+        ) => {
             let ledger = Ledger {
                 disk,
                 limits,

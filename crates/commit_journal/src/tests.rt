@@ -249,7 +249,10 @@ fn failed_creation(alloc: Global, failing: u64) -> Result<Result<(), CreateFault
 fn only_an_empty_disk_takes_a_new_journal(rt: HostRuntime) -> Result<(), CreateFault> {
     let mut disk = new_journal(rt.alloc())?;
     assert_eq!(rt; disk.octets(), b"GNMIJRN1\0\0\0\x02\0\0\x10\0\0".as_slice());
-    assert_eq!(rt; Ledger::create(rt.alloc(), &mut disk, &LIMITS), Err(CreateFault::NotEmpty));
+    assert_eq!(rt;
+        Ledger::create(rt.alloc(), &mut disk, &LIMITS),
+        Err(CreateFault::NotEmpty)
+    );
     for failing in 0..3 {
         let failed = failed_creation(rt.alloc(), failing)?;
         assert_eq!(rt; failed, Err(CreateFault::DiskFault), "at {failing}");

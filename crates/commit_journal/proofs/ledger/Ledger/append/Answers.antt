@@ -65,16 +65,14 @@ returns-clause-calls g c =
 
 pub returns-in_err-put_synced-clause-failed : goal.returns-in_err-put_synced-clause-failed
 returns-in_err-put_synced-clause-failed g c = λ is.
-    inl
-    (
+    inl (
       undoubted (g.D.Disk.told) c.self.view_is c.self.invariant c.args.entry.now c.requires.settled c.requires.next,
       (ends_at_record (g.D.Disk.told) c.self.view_is c.self.invariant _ c.requires.settled c.requires.next _ (c.deref.ensures.value ∙ c.in_ok-put_record.ensures.ok) _ c.in_err-put_synced.ensures.err).moved,
     )
 
 pub returns-in_default-clause-failed : goal.returns-in_default-clause-failed
 returns-in_default-clause-failed g c = λ is.
-    inr
-    (
+    inr (
       ap Some c.of.ensures,
       (ends_at_gate (g.D.Disk.told) c.self.view_is c.self.invariant _ c.requires.settled c.requires.next _ (c.deref.ensures.value ∙ c.in_ok-put_record.ensures.ok) c.in_ok-put_record.ensures.kept _ _ c.in_ok-put_synced.ensures.ok _ _ c.of.ensures refl c.in_default.ensures.err).moved,
     )
