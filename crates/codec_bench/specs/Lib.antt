@@ -1,3 +1,4 @@
 pub mod Checksum
 pub mod Fields
 pub mod Huffman
+pub mod Blocks

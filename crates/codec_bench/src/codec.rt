@@ -1,4 +1,4 @@
-use crate::{fields, frames, huffman};
+use crate::{blocks, fields, frames, huffman};
 use base_lists::NoMemory;
 use std::alloc::Global;
 
@@ -7,9 +7,10 @@ pub enum Codec {
     Frames,
     Huffman,
     Fields,
+    Blocks,
 }
 
-pub const CODECS: [Codec; 3] = [Codec::Frames, Codec::Huffman, Codec::Fields];
+pub const CODECS: [Codec; 4] = [Codec::Frames, Codec::Huffman, Codec::Fields, Codec::Blocks];
 
 /// What a codec did in all its rounds.
 #[derive(Clone, Copy, Debug)]
@@ -37,6 +38,7 @@ impl Codec {
             "frames" => Some(Codec::Frames),
             "huffman" => Some(Codec::Huffman),
             "fields" => Some(Codec::Fields),
+            "blocks" => Some(Codec::Blocks),
             _ => None,
         }
     }
@@ -46,6 +48,7 @@ impl Codec {
             Codec::Frames => "frames",
             Codec::Huffman => "huffman",
             Codec::Fields => "fields",
+            Codec::Blocks => "blocks",
         }
     }
 
@@ -54,6 +57,7 @@ impl Codec {
             Codec::Frames => Ok(frames::run(alloc, rounds)?),
             Codec::Huffman => huffman::run(alloc, rounds),
             Codec::Fields => fields::run(alloc, rounds),
+            Codec::Blocks => blocks::run(alloc, rounds),
         }
     }
 }

@@ -2,6 +2,7 @@
 //! Words: a codec's name and how many rounds. Without words: one round of each codec.
 #![tactic(auto)]
 
+mod blocks;
 mod checksum;
 mod codec;
 mod draws;
