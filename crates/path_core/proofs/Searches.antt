@@ -1,15 +1,13 @@
 -- What matching goes by, element after element.
-use Rattle.std.proofs.Common.{◌≡◌, List, [], ◌∷◌, Bool, true, false, ◌&&◌, ◌||◌, map, codes, refl, sym, ap, ◌∙◌}
+use Rattle.std.proofs.Common.{◌≡◌, ◌+◌, ◌≤◌, length, arith, List, [], ◌∷◌, Bool, true, false, ◌&&◌, ◌||◌, map, codes, refl, sym, ap, ◌∙◌}
 use Rattle.std.specs.List.{list_any}
 use Rattle.std.specs.Str.{bytes_eq}
-use Rattle.std.proofs.lemmas.Bool.{or_parts, or_from, and_left, and_right, and_from}
+use Rattle.std.proofs.lemmas.Bool.{or_parts, or_from, and_left, and_right}
 use Rattle.base_kinds.specs.declared.path.Elem.{Elem}
 use Rattle.base_kinds.specs.Match.{rests, fronts, elem_matches, first_matches, matches, covers}
 use Rattle.path_core.specs.declared.matching.Extent.{Extent}
 use Rattle.path_core.specs.declared.matching.Extent.TheVariants.{Whole, Front}
-use Rattle.path_core.specs.declared.matching.Found.{Found}
-use Rattle.path_core.specs.declared.matching.Found.TheVariants.{Match, Differs, Never}
-use Rattle.path_core.specs.Searching.{test_by, IsFound}
+use Rattle.path_core.specs.Searching.{test_by, IsSkip}
 
 -- ---- tests of some item
 
@@ -95,22 +93,21 @@ test_one : (extent : Extent) (first : Elem) (others path : List Elem) → is_man
 test_one Whole first others path one = whole_one first others path one
 test_one Front first others path one = front_one first others path one
 
--- ---- what a search finds
+-- ---- going through the rests
 
-pub found_many : (extent : Extent) (pattern : List Elem) (first : Elem) (others path : List Elem) → pattern ≡ first ∷ others → is_many first ≡ true → list_any (test_by extent others) (rests path) ≡ true → test_by extent pattern path ≡ true
-found_many extent pattern first others path is many some = rw is (test_many extent first others path many ∙ some)
+first_rest : (g : List Elem → Bool) (path : List Elem) → g path ≡ true → list_any g (rests path) ≡ true
+first_rest g [] here = rw here refl
+first_rest g (elem ∷ elems) here = rw here refl
 
-pub never_many : (extent : Extent) (pattern : List Elem) (first : Elem) (others path : List Elem) → pattern ≡ first ∷ others → is_many first ≡ true → list_any (test_by extent others) (rests path) ≡ false → list_any (test_by extent pattern) (rests path) ≡ false
-never_many extent pattern first others path is many none =
-    rw is (any_same (test_by extent (first ∷ others)) (λ rest. list_any (test_by extent others) (rests rest)) (λ rest. test_many extent first others rest many) (rests path) ∙ rests_again (test_by extent others) path none)
+rests_as_here : (b : Bool) (g : List Elem → Bool) (path : List Elem) → g path ≡ b → (b ≡ false → list_any g (rests path) ≡ false) → list_any g (rests path) ≡ b
+rests_as_here true g path here none = first_rest g path here
+rests_as_here false g path here none = none refl
 
-pub never_at_end : (extent : Extent) (pattern : List Elem) (first : Elem) (others path : List Elem) → pattern ≡ first ∷ others → is_many first ≡ false → path ≡ [] → list_any (test_by extent pattern) (rests path) ≡ false
-never_at_end extent pattern first others path is one ended =
-    rw (is, ended) (ap (λ b. b || false) (test_one extent first others [] one))
+-- ---- what a step finds
 
-pub differs_here : (extent : Extent) (pattern : List Elem) (first : Elem) (others path : List Elem) (elem : Elem) (rest : List Elem) → pattern ≡ first ∷ others → is_many first ≡ false → path ≡ elem ∷ rest → elem_matches first elem ≡ false → test_by extent pattern path ≡ false
-differs_here extent pattern first others path elem rest is one ended fails =
-    rw (is, ended) (test_one extent first others (elem ∷ rest) one ∙ and_left (elem_matches first elem) (test_by extent others rest) fails)
+never_many : (extent : Extent) (first : Elem) (others path : List Elem) → is_many first ≡ true → list_any (test_by extent others) (rests path) ≡ false → list_any (test_by extent (first ∷ others)) (rests path) ≡ false
+never_many extent first others path many none =
+    any_same (test_by extent (first ∷ others)) (λ rest. list_any (test_by extent others) (rests rest)) (λ rest. test_many extent first others rest many) (rests path) ∙ rests_again (test_by extent others) path none
 
 never_below : (first : Elem) (g : List Elem → Bool) (elem : Elem) (rest : List Elem) → list_any g (rests rest) ≡ false → list_any (first_matches first g) (rests (elem ∷ rest)) ≡ false
 never_below first g elem [] none =
@@ -120,41 +117,53 @@ never_below first g elem (other ∷ rest) none =
     let parts = or_parts (g (other ∷ rest)) (list_any g (rests rest)) none in
     or_none (elem_matches first elem && g (other ∷ rest)) (list_any (first_matches first g) (rests (other ∷ rest))) (and_right (elem_matches first elem) (g (other ∷ rest)) parts.0) (never_below first g other rest parts.1)
 
-step : (found : Found) (extent : Extent) (first : Elem) (others : List Elem) (elem : Elem) (rest : List Elem) → is_many first ≡ false → elem_matches first elem ≡ true → IsFound found extent others rest → IsFound found extent (first ∷ others) (elem ∷ rest)
-step Match extent first others elem rest one here below = test_one extent first others (elem ∷ rest) one ∙ and_from (elem_matches first elem) (test_by extent others rest) here below
-step Differs extent first others elem rest one here below = test_one extent first others (elem ∷ rest) one ∙ and_right (elem_matches first elem) (test_by extent others rest) below
-step Never extent first others elem rest one here below =
-    any_same (test_by extent (first ∷ others)) (first_matches first (test_by extent others)) (λ path. test_one extent first others path one) (rests (elem ∷ rest)) ∙ never_below first (test_by extent others) elem rest below
+-- what a step has come to: the pattern passes on the path where what is left of the one passes on what is left of the
+-- other, and on no rest of the path where it passes on none of those
+pub record CameTo (extent : Extent) (pattern path patterns left : List Elem) : Type 0 where
+  pub same : test_by extent pattern path ≡ test_by extent patterns left
+  pub below : list_any (test_by extent patterns) (rests left) ≡ false → list_any (test_by extent pattern) (rests path) ≡ false
+  pub shorter : length patterns + length left ≤ length pattern + length path
 
-pub found_below : (found : Found) (extent : Extent) (pattern : List Elem) (first : Elem) (others path : List Elem) (elem : Elem) (rest : List Elem) → pattern ≡ first ∷ others → is_many first ≡ false → path ≡ elem ∷ rest → elem_matches first elem ≡ true → IsFound found extent others rest → IsFound found extent pattern path
-found_below found extent pattern first others path elem rest is one goes here below = rw (is, goes) (step found extent first others elem rest one here below)
+pub came_further : (extent : Extent) (pattern path patterns left : List Elem) (first : Elem) (others : List Elem) (elem : Elem) (elems : List Elem) → CameTo extent pattern path patterns left → patterns ≡ first ∷ others → is_many first ≡ false → left ≡ elem ∷ elems → elem_matches first elem ≡ true → CameTo extent pattern path others elems
+came_further extent pattern path patterns left first others elem elems came is one goes here =
+    let one_less : test_by extent patterns left ≡ test_by extent others elems = rw (is, goes) (test_one extent first others (elem ∷ elems) one ∙ ap (λ b. b && test_by extent others elems) here) in
+    record {
+      same = came.same ∙ one_less;
+      below = λ none. came.below (rw (is, goes) (any_same (test_by extent (first ∷ others)) (first_matches first (test_by extent others)) (λ p. test_one extent first others p one) (rests (elem ∷ elems)) ∙ never_below first (test_by extent others) elem elems none));
+      shorter = omega (arith, came.shorter, ap length is, ap length goes);
+    }
+
+pub skips_here : (extent : Extent) (pattern path patterns left : List Elem) (first : Elem) (others : List Elem) → CameTo extent pattern path patterns left → patterns ≡ first ∷ others → is_many first ≡ true → IsSkip extent pattern path others left
+skips_here extent pattern path patterns left first others came is many =
+    let here : test_by extent pattern path ≡ list_any (test_by extent others) (rests left) = came.same ∙ rw is (test_many extent first others left many) in
+    record {
+      here = here;
+      below = rests_as_here (list_any (test_by extent others) (rests left)) (test_by extent pattern) path here (λ none. came.below (rw is (never_many extent first others left many none)));
+      shorter = omega (arith, came.shorter, ap length is);
+    }
+
+pub differs_here : (extent : Extent) (pattern path patterns left : List Elem) (first : Elem) (others : List Elem) (elem : Elem) (elems : List Elem) → CameTo extent pattern path patterns left → patterns ≡ first ∷ others → is_many first ≡ false → left ≡ elem ∷ elems → elem_matches first elem ≡ false → test_by extent pattern path ≡ false
+differs_here extent pattern path patterns left first others elem elems came is one goes fails =
+    came.same ∙ rw (is, goes) (test_one extent first others (elem ∷ elems) one ∙ and_left (elem_matches first elem) (test_by extent others elems) fails)
 
 -- ---- the end of the pattern
-
-pub no_elem_left : (path : List Elem) → path ≡ [] → matches [] path ≡ true
-no_elem_left path ended = rw ended refl
-
-pub end_differs : (path : List Elem) → (path ≡ [] → ⊥) → matches [] path ≡ false
-end_differs [] some = absurd (some refl)
-end_differs (elem ∷ elems) some = refl
 
 pub end_covers : (path : List Elem) → covers [] path ≡ true
 end_covers [] = refl
 end_covers (elem ∷ elems) = refl
 
--- ---- going through the rests
+-- ---- going on from step to step
 
-pub first_rest : (g : List Elem → Bool) (path : List Elem) → g path ≡ true → list_any g (rests path) ≡ true
-first_rest g [] here = rw here refl
-first_rest g (elem ∷ elems) here = rw here refl
+-- before its first `...` the pattern has to pass on this very path, and behind one on some rest of it
+abbrev pub passes_from : Bool → Extent → List Elem → List Elem → Bool
+passes_from true extent pattern path = test_by extent pattern path
+passes_from false extent pattern path = list_any (test_by extent pattern) (rests path)
 
-pub last_rest : (g : List Elem → Bool) (path : List Elem) → path ≡ [] → g path ≡ false → list_any g (rests path) ≡ false
-last_rest g [] ended fails = rw fails refl
-last_rest g (elem ∷ elems) ended fails = absurd (cc)
+pub match_passes : (anchored : Bool) (extent : Extent) (pattern path : List Elem) → test_by extent pattern path ≡ true → passes_from anchored extent pattern path ≡ true
+match_passes true extent pattern path here = here
+match_passes false extent pattern path here = first_rest (test_by extent pattern) path here
 
-pub next_rest : (g : List Elem → Bool) (path : List Elem) (elem : Elem) (rest : List Elem) → path ≡ elem ∷ rest → g path ≡ false → list_any g (rests path) ≡ list_any g (rests rest)
-next_rest g path elem rest is fails = let here : g (elem ∷ rest) ≡ false = rw is at fails in rw (is, here) refl
-
-pub never_here : (g : List Elem → Bool) (path : List Elem) → list_any g (rests path) ≡ false → g path ≡ false
-never_here g [] none = (or_parts (g []) false none).0
-never_here g (elem ∷ elems) none = (or_parts (g (elem ∷ elems)) (list_any g (rests elems)) none).0
+pub never_passes : (anchored : Bool) (extent : Extent) (pattern path : List Elem) → list_any (test_by extent pattern) (rests path) ≡ false → passes_from anchored extent pattern path ≡ false
+never_passes true extent pattern [] none = (or_parts (test_by extent pattern []) false none).0
+never_passes true extent pattern (elem ∷ elems) none = (or_parts (test_by extent pattern (elem ∷ elems)) (list_any (test_by extent pattern) (rests elems)) none).0
+never_passes false extent pattern path none = none

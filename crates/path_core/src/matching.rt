@@ -1,10 +1,10 @@
-// Patterns over paths. Each `...` of a pattern is tried once: where what follows it passes on no rest of the path, no
-// earlier `...` needs to try again with a shorter one.
+// Patterns over paths. A pattern is taken in steps, each up to its next `...`. Behind a `...` a step is tried at one place
+// of the path after another, and the first at which it passes serves: a later one leaves a rest of the same rest.
 ghost use Rattle.std.specs.Prelude.{◌≡◌, [], ◌&&◌};
 ghost use Rattle.std.specs.Str.{bytes_eq};
 ghost use Rattle.std.specs.List.{list_any, list_all};
-ghost use Rattle.base_kinds.specs.Match.{matches, covers, elem_matches, key_matches, rests};
-ghost use Rattle.path_core.specs.Searching.{test_by, IsFound};
+ghost use Rattle.base_kinds.specs.Match.{matches, covers, elem_matches, key_matches};
+ghost use Rattle.path_core.specs.Searching.{test_by, IsStep};
 
 use base_kinds::{Elem, Path, Text};
 
@@ -16,13 +16,14 @@ enum Extent {
     Front,
 }
 
-/// What a search found out.
-#[derive(Clone, Copy)]
-enum Found {
+/// What a step found out.
+enum Step<'a> {
     Match,
     Differs,
     /// Neither the path passes, nor what is left of it behind any of its fronts.
     Never,
+    /// What follows the pattern's `...`, and the path from where it stands: some rest of this has to pass.
+    Skips(&'a [Elem], &'a [Elem]),
 }
 
 /// Whether the pattern matches the whole path. Takes no memory.
@@ -42,67 +43,65 @@ pub fn covers(pattern: &Path, path: &Path) -> bool
 fn passes(extent: Extent, pattern: &[Elem], path: &[Elem]) -> bool
     ensures { result ≡ test_by extent pattern.now path.now }
 {
-    match search(extent, pattern, path) {
-        Found::Match => true,
-        Found::Differs => false,
-        Found::Never => false,
-    }
-}
-
-#[cycle(search)]
-fn search(extent: Extent, pattern: &[Elem], path: &[Elem]) -> Found
-    ensures { IsFound result extent pattern.now path.now }
-{
-    let Some((first, others)) = pattern.split_first() else {
-        return at_pattern_end(extent, path);
-    };
-    if is_text(&first.name, b"...") {
-        return if passes_below(extent, others, path) {
-            Found::Match
-        } else {
-            Found::Never
-        };
-    }
-    let Some((elem, rest)) = path.split_first() else {
-        return Found::Never;
-    };
-    if !matches_elem(first, elem) {
-        return Found::Differs;
-    }
-    search(extent, others, rest)
-}
-
-fn at_pattern_end(extent: Extent, path: &[Elem]) -> Found
-    ensures { IsFound result extent [] path.now }
-{
-    match extent {
-        Extent::Whole => {
-            if path.is_empty() {
-                Found::Match
-            } else {
-                Found::Differs
+    let mut patterns = pattern;
+    let mut rest = path;
+    let mut anchored = true;
+    loop {
+        match take_step(extent, patterns, rest) {
+            Step::Match => return true,
+            Step::Never => return false,
+            Step::Differs => {
+                if anchored {
+                    return false;
+                }
+                let Some((_, elems)) = rest.split_first() else {
+                    return false;
+                };
+                rest = elems;
+            }
+            Step::Skips(others, elems) => {
+                patterns = others;
+                rest = elems;
+                anchored = false;
             }
         }
-        Extent::Front => Found::Match,
     }
 }
 
-/// Whether some rest of the path passes.
-#[cycle(search)]
-fn passes_below(extent: Extent, pattern: &[Elem], path: &[Elem]) -> bool
-    ensures { result ≡ list_any (test_by extent pattern.now) (rests path.now) }
+/// Compares the path with the pattern up to the next `...`.
+fn take_step<'a>(extent: Extent, pattern: &'a [Elem], path: &'a [Elem]) -> Step<'a>
+    ensures { IsStep result extent pattern.now path.now }
 {
+    let mut patterns = pattern;
     let mut rest = path;
     loop {
-        match search(extent, pattern, rest) {
-            Found::Match => return true,
-            Found::Never => return false,
-            Found::Differs => {}
+        let Some((first, others)) = patterns.split_first() else {
+            return if passes_at_end(extent, rest) {
+                Step::Match
+            } else {
+                Step::Differs
+            };
+        };
+        if is_text(&first.name, b"...") {
+            return Step::Skips(others, rest);
         }
-        match rest.split_first() {
-            None => return false,
-            Some((_, others)) => rest = others,
+        let Some((elem, elems)) = rest.split_first() else {
+            return Step::Never;
+        };
+        if !matches_elem(first, elem) {
+            return Step::Differs;
         }
+        patterns = others;
+        rest = elems;
+    }
+}
+
+fn passes_at_end(extent: Extent, path: &[Elem]) -> bool
+    ensures { result ≡ test_by extent [] path.now }
+{
+    match extent {
+        Extent::Whole => path.is_empty(),
+        Extent::Front => true,
     }
 }
 

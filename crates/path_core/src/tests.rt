@@ -181,7 +181,7 @@ fn an_empty_name_is_written_as_no_octets(rt: HostRuntime) -> Result<(), Fail> {
 }
 
 /// A pattern, a path, whether it matches, and whether it covers.
-const PATTERNS: [(&str, &str, bool, bool); 24] = [
+const PATTERNS: [(&str, &str, bool, bool); 27] = [
     ("/", "/", true, true),
     ("/", "/a", false, true),
     ("/a", "/", false, false),
@@ -199,6 +199,9 @@ const PATTERNS: [(&str, &str, bool, bool); 24] = [
     ("/.../a/b/.../b/c", "/a/b/a/b/c", true, true),
     ("/.../a/b/.../b/c", "/a/b/c/b/a/c", false, false),
     ("/.../b/...", "/a/b", true, true),
+    ("/.../a/a/b", "/a/a/a/b", true, true),
+    ("/a/.../b", "/c/a/b", false, false),
+    ("/.../b", "/", false, false),
     ("/l[k=x]", "/l[k=x]/m", false, true),
     ("/l[k=x]", "/l[k=y]", false, false),
     ("/l[k=*]", "/l[k=y]", true, true),

@@ -1,5 +1,0 @@
-use Rattle.path_core.proofs.Searches.{end_covers}
-use Rattle.path_core.proofs.matching.at_pattern_end.Goals as goal
-
-pub returns-in-Front : goal.returns-in-Front
-returns-in-Front c = rw c.in-Front.is (end_covers c.args.path.now)
