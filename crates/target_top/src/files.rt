@@ -53,7 +53,7 @@ impl Files for MemFiles {
     /// Fails exactly where there is no text.
     fn text(&mut self, alloc: Global, name: &str) -> Result<Bytes, TextFault>
         ensures octets { IfOk result (λ octets. IfSome self.old.text (λ text. octets ≡ text)) }
-        ensures keeps { (λ (_ : List ℕ). self.new.text) ≡ (λ (_ : List ℕ). self.old.text) }
+        ensures keeps { ◌≡◌ {A = List ℕ → Option (List ℕ)} (λ _. self.new.text) (λ _. self.old.text) }
         ensures later { self.old.faults ≤ self.new.faults }
         ensures failed { IsErrOf result TextFault.Failed → Rose self.old.faults self.new.faults }
         ensures quiet { (IsErrOf result TextFault.Failed → ⊥) → self.new.faults ≡ self.old.faults }
