@@ -56,6 +56,16 @@ pub struct SetAsk {
     pub unsupported: bool,
 }
 
+/// How long a subscription lasts (gNMI 3.5.1.5).
+#[derive(Clone, Copy, Debug, PartialEq, Eq)]
+pub enum ListMode {
+    Stream,
+    Once,
+    Poll,
+    /// A number that stands for no mode.
+    Other,
+}
+
 /// When a subscription sends (gNMI 3.5.1.3).
 #[derive(Clone, Copy, Debug, PartialEq, Eq)]
 pub enum SubMode {

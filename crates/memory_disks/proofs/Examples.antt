@@ -1,7 +1,7 @@
 -- The machine of arming, and what a stop leaves, on small cases.
 use Rattle.std.proofs.Common.{◌≡◌, [], ◌∷◌, refl}
 use Rattle.memory_disks.specs.declared.arming.Way.TheVariants.{Passes, Fails, Stops}
-use Rattle.memory_disks.specs.declared.fill.Fill.TheVariants.{Old, New, Octet}
+use Rattle.base_kinds.specs.declared.fill.Fill.TheVariants.{Old, New, Octet}
 use Rattle.memory_disks.specs.Armings.{again, after_calls, armed_by, ways, fails_too, stops_too}
 use Rattle.memory_disks.specs.Octets.{laid, left_by}
 

@@ -2,8 +2,8 @@
 use Rattle.std.proofs.Common.{◌≡◌, ℕ, zero, suc, List, [], ◌∷◌, ◌++◌, length, take, Option, Some, None, refl}
 use Rattle.disk_model.specs.Images.{IsImage, touched, painted}
 use Rattle.disk_model.proofs.Images.{image_of_touched, image_of_written}
-use Rattle.memory_disks.specs.declared.fill.Fill.{Fill}
-use Rattle.memory_disks.specs.declared.fill.Fill.TheVariants.{Old, New, Octet}
+use Rattle.base_kinds.specs.declared.fill.Fill.{Fill}
+use Rattle.base_kinds.specs.declared.fill.Fill.TheVariants.{Old, New, Octet}
 use Rattle.memory_disks.specs.Kept.{IsFree, AllFree}
 use Rattle.memory_disks.specs.Octets.{left_by, all_painted, laid}
 use Rattle.memory_disks.proofs.Laid.{wrote_laid}

@@ -2,7 +2,7 @@
 use Rattle.std.proofs.Common.{◌≡◌, ℕ, Bool, true, false, List, [], ◌∷◌, ◌++◌, length, take, Option, Some, None, refl, ap, subst, sym, ◌∙◌}
 use Rattle.disk_model.specs.Images.{IsImage, touched, synced}
 use Rattle.disk_model.proofs.Images.{image_of_touched, image_of_front, image_of_cut, image_of_written, image_self}
-use Rattle.memory_disks.specs.declared.fill.Fill.{Fill}
+use Rattle.base_kinds.specs.declared.fill.Fill.{Fill}
 use Rattle.memory_disks.specs.Kept.{IsFused, AllFree, HasBase, LeftAfter, base_of, seen_of, left_of}
 use Rattle.memory_disks.specs.Octets.{laid, left_by}
 use Rattle.memory_disks.proofs.Laid.{wrote_laid}

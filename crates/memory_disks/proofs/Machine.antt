@@ -2,7 +2,7 @@
 use Rattle.std.proofs.Common.{◌≡◌, ◌≢◌, ℕ, zero, suc, ◌<◌, [], ◌∷◌, true, refl, ap, ◌∙◌, arith}
 use Rattle.memory_disks.specs.declared.arming.Arming.{Arming}
 use Rattle.memory_disks.specs.declared.arming.Way.TheVariants.{Passes, Fails, Stops}
-use Rattle.memory_disks.specs.declared.fill.Fill.{Fill}
+use Rattle.base_kinds.specs.declared.fill.Fill.{Fill}
 use Rattle.memory_disks.specs.Armings.{way_of, after, after_calls, armed_by}
 
 pub unarmed : (calls : ℕ) → way_of (after_calls calls (armed_by [] [])) ≡ Passes

@@ -1,6 +1,6 @@
 -- When a disk is to fail and to stop, as a machine that each call of the disk steps on.
 use Rattle.std.specs.Prelude.{ℕ, zero, suc, false, if◌then◌else◌, List, [], ◌∷◌, ◌++◌, Option, Some, None, is_some}
-use Rattle.memory_disks.specs.declared.fill.Fill.{Fill}
+use Rattle.base_kinds.specs.declared.fill.Fill.{Fill}
 use Rattle.memory_disks.specs.declared.arming.Arming.{Arming}
 use Rattle.memory_disks.specs.declared.arming.Way.{Way}
 use Rattle.memory_disks.specs.declared.arming.Way.TheVariants.{Passes, Fails, Stops}

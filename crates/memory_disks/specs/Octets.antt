@@ -2,8 +2,8 @@
 use Rattle.std.specs.Prelude.{ℕ, ◌+◌, List, [], ◌∷◌, ◌++◌, length, take, drop, replicate}
 use Rattle.disk_model.specs.Content.{gap_length}
 use Rattle.disk_model.specs.Images.{painted}
-use Rattle.memory_disks.specs.declared.fill.Fill.{Fill}
-use Rattle.memory_disks.specs.declared.fill.Fill.TheVariants.{Old, New, Octet}
+use Rattle.base_kinds.specs.declared.fill.Fill.{Fill}
+use Rattle.base_kinds.specs.declared.fill.Fill.TheVariants.{Old, New, Octet}
 
 -- a piece at its place, and zeros before it where it begins past the end
 abbrev pub laid : ℕ → List ℕ → List ℕ → List ℕ

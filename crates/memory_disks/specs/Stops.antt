@@ -1,7 +1,7 @@
 -- A disk that stops and fails in the calls for which it is armed.
 use Rattle.std.specs.Prelude.{◌≡◌, ◌⊎◌, ℕ, Bool, true, List, [], ◌∷◌, ◌++◌, length, Option, Some, None, Result, MatchResult, IsErr, unwrap_or}
 use Rattle.disk_model.specs.Content.{Content}
-use Rattle.memory_disks.specs.declared.fill.Fill.{Fill}
+use Rattle.base_kinds.specs.declared.fill.Fill.{Fill}
 use Rattle.memory_disks.specs.declared.arming.Arming.{Arming}
 use Rattle.memory_disks.specs.declared.arming.Way.{Way}
 use Rattle.memory_disks.specs.declared.arming.Way.TheVariants.{Passes, Fails, Stops}

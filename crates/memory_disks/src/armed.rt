@@ -2,7 +2,7 @@ ghost use Rattle.std.specs.Prelude.{◌≡◌, Bool, true, OnOk, OnErr};
 ghost use Rattle.memory_disks.specs.declared.arming.Arming.{Arming};
 ghost use Rattle.memory_disks.specs.Armings.{fails_too, stops_too};
 
-use crate::fill::Fill;
+use base_kinds::Fill;
 use base_lists::NoMemory;
 use disk_model::Disk;
 

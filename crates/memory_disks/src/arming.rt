@@ -1,7 +1,7 @@
 ghost use Rattle.std.specs.Prelude.{◌≡◌, ◌↔◌, [], ◌∷◌, false, IsTrue, OnOk, OnErr};
 
-use crate::fill::Fill;
 use crate::queue::Queue;
+use base_kinds::Fill;
 use base_lists::NoMemory;
 use std::alloc::Global;
 

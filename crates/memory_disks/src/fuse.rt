@@ -6,11 +6,11 @@ ghost use Rattle.memory_disks.specs.Calls.{wrote, write_failed, cut_to, cut_fail
 
 use crate::armed::Armed;
 use crate::arming::{Arming, Way};
-use crate::fill::Fill;
 use crate::leaving::{keep_base, leave, leave_written, write_noted};
 use crate::log::Log;
 use crate::memory::MemDisk;
 use crate::octets::copy_from;
+use base_kinds::Fill;
 use base_lists::NoMemory;
 use disk_model::Disk;
 use edge_traits::Failed;

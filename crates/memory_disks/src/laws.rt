@@ -1,7 +1,7 @@
 // What a disk's arming means for its calls.
 ghost use Rattle.std.specs.Prelude.{◌≡◌, ◌<◌, ◌≢◌, ℕ, [], ◌∷◌, false};
 ghost use Rattle.memory_disks.specs.declared.arming.Arming.{Arming};
-ghost use Rattle.memory_disks.specs.declared.fill.Fill.{Fill};
+ghost use Rattle.base_kinds.specs.declared.fill.Fill.{Fill};
 ghost use Rattle.memory_disks.specs.Armings.{way_of, after_calls, armed_by};
 
 use crate::arming::Way;

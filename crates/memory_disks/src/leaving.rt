@@ -4,8 +4,8 @@ ghost use Rattle.std.specs.Vec.{vec_capacity};
 ghost use Rattle.memory_disks.specs.Kept.{base_of};
 ghost use Rattle.memory_disks.specs.Octets.{laid, left_by, all_painted};
 
-use crate::fill::Fill;
 use crate::octets::{paint, paint_all, write_over};
+use base_kinds::Fill;
 use std::alloc::{AllocError, Global};
 
 /// Takes a copy before the first change since the last sync.

@@ -3,7 +3,6 @@
 
 mod armed;
 mod arming;
-mod fill;
 mod fuse;
 mod laws;
 mod leaving;
@@ -14,7 +13,7 @@ mod queue;
 
 pub use armed::Armed;
 pub use arming::{Arming, Way};
-pub use fill::Fill;
+pub use base_kinds::Fill;
 pub use fuse::FuseDisk;
 pub use laws::{failure_hits_its_call, stop_hits_its_call, unarmed_passes};
 pub use memory::MemDisk;
