@@ -6,3 +6,4 @@ pub mod Passed
 pub mod Runs
 pub mod Searches
 pub mod Spellings
+pub mod ValueTexts

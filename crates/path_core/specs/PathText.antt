@@ -7,7 +7,7 @@ use Rattle.std.specs.declared.cmp.Ordering.{Ordering}
 use Rattle.base_kinds.specs.declared.path.Elem.{Elem}
 use Rattle.base_kinds.specs.Legal.{rises}
 use Rattle.base_kinds.specs.Paths.{text_cmp}
-use Rattle.base_kinds.specs.Texts.{path_text}
+use Rattle.base_kinds.specs.Texts.{is_key_octet, escaped, path_text}
 
 -- keys in the order of their names
 abbrev pub name_cmp : List ℕ × List ℕ → List ℕ × List ℕ → Ordering
@@ -31,3 +31,8 @@ AreElems path = AllByRecursion IsElem path
 pub record IsPathText (text : List ℕ) (path : List Elem) : Type 0 where
   pub elems : AreElems path
   pub spelled : text ≡ path_text path
+
+-- The octets are the spelling of a text as it stands for the value of a key; the text may be empty.
+pub record IsValueText (text value : List ℕ) : Type 0 where
+  pub utf8 : IsUtf8 value
+  pub spelled : text ≡ escaped is_key_octet value

@@ -1,7 +1,7 @@
 // The text of a path, read in one pass.
 ghost use Rattle.std.specs.Prelude.{◌≡◌, ◌<◌, ◌≤◌, [], ◌∷◌, List, ℕ, length, IfOk, IfSome, IfNone, IsTrue, ◌↔◌, IsErrOf};
 ghost use Rattle.base_kinds.specs.declared.path.Elem.{Elem as PathElem};
-ghost use Rattle.path_core.specs.PathText.{name_cmp, IsPathText};
+ghost use Rattle.path_core.specs.PathText.{name_cmp, IsPathText, IsValueText};
 ghost use Rattle.path_core.specs.Reading.{AreOctetsAt, IsTextAt, IsKeyAt, AreKeysAt, IsElemAt, BeginsOrEnds, Lacks, ends_below};
 
 use crate::fault::PathFault;
@@ -47,6 +47,18 @@ fn read_text(alloc: Global, part: Part, text: &[u8]) -> Result<(Text, &[u8]), Pa
         Err(TextOfFault::NotUtf8) => Err(PathFault::BadPath),
         Err(TextOfFault::NoMemory) => Err(PathFault::NoMemory),
     }
+}
+
+/// The text that the octets spell, in the form in which a path's text has the values of its keys.
+pub fn read_value_text(alloc: Global, text: &[u8]) -> Result<Text, PathFault>
+    ensures ok { IfOk result (λ value. IsValueText text.now value) }
+    ensures bad { IsErrOf result PathFault.BadPath → (value : List ℕ) → IsValueText text.now value → ⊥ }
+{
+    let (value, rest) = read_text(alloc, Part::Value, text)?;
+    if !rest.is_empty() {
+        return Err(PathFault::BadPath);
+    }
+    Ok(value)
 }
 
 /// `NAME=VALUE]`, what follows the `[` of a key.

@@ -1,4 +1,7 @@
-use crate::{PathFault, cmp_paths, covers, join_prefix, matches, read_path_text, write_path_text};
+use crate::{
+    PathFault, cmp_paths, covers, join_prefix, matches, read_path_text, read_value_text,
+    write_path_text,
+};
 use base_kinds::{Bytes, Elem, Keys, Path, Text};
 use std::alloc::Global;
 use std::process::Abort;
@@ -164,6 +167,50 @@ fn other_octets_are_refused(rt: HostRuntime) {
     for text in REFUSED {
         assert_eq!(rt;
             read_path_text(rt.alloc(), text),
+            Err(PathFault::BadPath),
+            "{text:?}"
+        );
+    }
+}
+
+/// Texts of values by themselves, and what they say.
+const VALUES: [(&str, &str); 8] = [
+    ("", ""),
+    ("a", "a"),
+    ("!~", "!~"),
+    ("[=/*\"", "[=/*\""),
+    ("a\\20b", "a b"),
+    ("\\5c\\5d", "\\]"),
+    ("\\c3\\a9", "\u{e9}"),
+    ("\\00\\7f", "\0\u{7f}"),
+];
+
+const NO_VALUES: [&[u8]; 10] = [
+    b"a]",
+    b"a b",
+    b"\\",
+    b"\\5",
+    b"\\5D",
+    b"\\61",
+    b"\\c3",
+    b"\xc3\xa9",
+    b"\\5d]",
+    b"\x7f",
+];
+
+#[test]
+fn values_are_read_alone(rt: HostRuntime) {
+    let alloc = rt.alloc();
+    for (text, value) in VALUES {
+        assert_eq!(rt;
+            read_value_text(alloc, text.as_bytes()),
+            Ok(text_of(&rt, alloc, value)),
+            "{text}"
+        );
+    }
+    for text in NO_VALUES {
+        assert_eq!(rt;
+            read_value_text(alloc, text),
             Err(PathFault::BadPath),
             "{text:?}"
         );
