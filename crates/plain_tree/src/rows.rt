@@ -1,0 +1,97 @@
+// Changes of a list of rows, and what a tree's operations ask of it.
+ghost use Rattle.std.specs.Prelude.{◌≡◌, ◌<◌, length, slice_index_or, IfOk, IfErr, OnOk};
+ghost use Rattle.base_kinds.specs.Paths.{path_cmp};
+ghost use Rattle.base_kinds.specs.Parts.{is_covered, part};
+ghost use Rattle.base_kinds.specs.Tree.{set_row, set_rows, uncovered};
+ghost use Rattle.history_laws.specs.Rising.{IsRising};
+ghost use Rattle.plain_tree.specs.Places.{IsGap};
+
+use base_kinds::{Copied, NoMemory, Path, Paths, Row};
+use path_core::{cmp_paths, covers};
+use std::alloc::Global;
+use std::cmp::Ordering;
+
+pub fn copies(alloc: Global, rows: &[Row]) -> Result<Vec<Row>, NoMemory>
+    ensures { IfOk result (λ copies. copies.items ≡ rows.now) }
+{
+    let mut copies = Vec::with_capacity(alloc, rows.len())?;
+    for row in rows {
+        copies.push(row.copy(alloc)?)?;
+    }
+    Ok(copies)
+}
+
+/// Copies of the rows that some pattern covers.
+#[tactic(auto, using(crate::proofs::Chosen::part_with, crate::proofs::Chosen::part_without))]
+pub fn covered(alloc: Global, rows: &[Row], patterns: &Paths) -> Result<Vec<Row>, NoMemory>
+    ensures { IfOk result (λ found. found.items ≡ part patterns.now rows.now) }
+{
+    let mut found = Vec::new(alloc);
+    for row in rows {
+        if is_covered(patterns.items(), &row.path) {
+            found.push(row.copy(alloc)?)?;
+        }
+    }
+    Ok(found)
+}
+
+fn is_covered(patterns: &[Path], path: &Path) -> bool
+    ensures { result ≡ is_covered patterns.now path.now }
+{
+    patterns.iter().any(|pattern| covers(pattern, path))
+}
+
+/// Removes the rows that the pattern covers.
+pub fn remove_covered(tree: &mut Vec<Row>, pattern: &Path)
+    requires { IsRising tree.old.items }
+    ensures rows { tree.new.items ≡ uncovered pattern.now tree.old.items }
+    ensures rising { IsRising tree.new.items }
+{
+    tree.retain(|row| !covers(pattern, &row.path));
+}
+
+/// Sets each row, in order. After want of memory the first of them are set.
+pub fn put_rows(alloc: Global, tree: &mut Vec<Row>, rows: &[Row]) -> Result<(), NoMemory>
+    requires { IsRising tree.old.items }
+    ensures rows { OnOk result (tree.new.items ≡ set_rows rows.now tree.old.items) }
+    ensures rising { IsRising tree.new.items }
+{
+    for row in rows {
+        put_row(alloc, tree, row)?;
+    }
+    Ok(())
+}
+
+#[tactic(auto, using(crate::proofs::Placing::set_there, crate::proofs::Placing::set_in_gap, crate::proofs::Placing::rising_there, crate::proofs::Placing::rising_in_gap))]
+fn put_row(alloc: Global, tree: &mut Vec<Row>, row: &Row) -> Result<(), NoMemory>
+    requires { IsRising tree.old.items }
+    ensures row { OnOk result (tree.new.items ≡ set_row row.now tree.old.items) }
+    ensures rising { IsRising tree.new.items }
+{
+    let copy = row.copy(alloc)?;
+    match place_of(tree, row) {
+        Ok(place) => tree[place] = copy,
+        Err(gap) => tree.insert(gap, copy)?,
+    }
+    Ok(())
+}
+
+/// Where the row of the same path stands, or else the gap where the row belongs.
+#[tactic(auto, using(crate::proofs::Gaps::whole, crate::proofs::Gaps::before_middle, crate::proofs::Gaps::behind_middle))]
+fn place_of(rows: &[Row], row: &Row) -> Result<usize, usize>
+    requires { IsRising rows.now }
+    ensures inside { IfOk result (λ place. place < length rows.now) }
+    ensures there { IfOk result (λ place. path_cmp (slice_index_or rows.now place row.now).path row.now.path ≡ Ordering.Equal) }
+    ensures gap { IfErr result (λ gap. IsGap row.now rows.now gap gap) }
+{
+    let (mut low, mut high) = (0, rows.len());
+    while low < high {
+        let middle = low + (high - low) / 2;
+        match cmp_paths(&rows[middle].path, &row.path) {
+            Ordering::Equal => return Ok(middle),
+            Ordering::Less => low = middle + 1,
+            Ordering::Greater => high = middle,
+        }
+    }
+    Err(low)
+}
