@@ -1,0 +1,17 @@
+//! Three of the rules of a valid tree: keys, mandatory leaves and references, over rows that rise by path.
+#![tactic(auto)]
+
+mod keyed;
+mod leaf;
+mod mandatory;
+mod referring;
+mod scalar;
+mod seen;
+#[cfg(test)]
+mod tests;
+
+pub use keyed::all_keyed;
+pub use leaf::find_leaf;
+pub use mandatory::all_stand;
+pub use referring::all_refer;
+pub use scalar::{Scalar, scalar_of};

@@ -1,0 +1,299 @@
+ghost use Rattle.std.specs.Prelude.{◌≡◌};
+ghost use Rattle.base_kinds.specs.Legal.{rises};
+ghost use Rattle.history_laws.specs.Rising.{row_cmp, IsRising};
+
+use crate::{all_keyed, all_refer, all_stand, find_leaf};
+use base_kinds::{Copied, Elem, Path, Row, Rows, Seq, Shape, Text, Texts, Value};
+use history_laws::rising_is_tested;
+use schema_core::{MOST_NODES, Node, Schema};
+use std::alloc::Global;
+use std::cmp::Ordering;
+use std::process::Abort;
+use std::test::Fail;
+
+/// A node on each line: its names, what it is, and the names of its keys or of the leaf that it refers to.
+const NODES: [(&str, &str, &str); 17] = [
+    ("if", "list", "name"),
+    ("if name", "leaf", ""),
+    ("if mtu", "mandatory", ""),
+    ("if config", "container", ""),
+    ("if config mode", "mandatory", ""),
+    ("if config up", "leaf", ""),
+    ("route", "list", "from to"),
+    ("route from", "leaf", ""),
+    ("route to", "leaf", ""),
+    ("route via", "reference", "if name"),
+    ("route hop", "list", "name"),
+    ("route hop name", "leaf", ""),
+    ("route kind", "reference", "kinds"),
+    ("kinds", "leaf", ""),
+    ("lost", "reference", "nowhere"),
+    ("self", "reference", "self"),
+    ("tags", "list", ""),
+];
+
+/// Rows on each line, with the answer whether the keys of each element have their leaves.
+const KEYED: [(&str, bool); 15] = [
+    ("", true),
+    ("kinds=x", true),
+    ("if[name:x]/name=x", true),
+    ("if[name:x]/name=y", false),
+    ("if[name:x]/name=name", false),
+    ("if[name:x]/mtu=1", false),
+    ("if[name:7]/name=#7", true),
+    ("if[name:07]/name=#7", false),
+    ("if[name:]/name=&", true),
+    ("if[name:x]/mtu=1 if[name:y]/name=x", false),
+    ("if[name:x]/name=x if[name:y]/mtu=1", false),
+    ("route[from:a][to:b]/from=a route[from:a][to:b]/to=b", true),
+    ("route[from:a][to:b]/from=a route[from:a][to:b]/to=a", false),
+    ("route[from:a][to:b]/from=a", false),
+    ("route[from:a][to:b]/hop[name:c]/name=c", false),
+];
+
+/// Rows on each line, with the answer whether each mandatory leaf stands where it has to.
+const STANDING: [(&str, bool); 9] = [
+    ("", true),
+    ("kinds=x", true),
+    ("if[name:x]/mtu=1", true),
+    ("if[name:x]/name=x", false),
+    ("if[name:x]/mtu=1 if[name:y]/name=y", false),
+    ("if[name:x]/config/mode=m if[name:x]/mtu=1", true),
+    ("if[name:x]/config/mode=m", false),
+    ("if[name:x]/config/up=t if[name:x]/mtu=1", false),
+    (
+        "if[name:x]/config/mode=m if[name:x]/mtu=1 if[name:y]/config/up=t if[name:y]/mtu=1",
+        false,
+    ),
+];
+
+/// Rows on each line, with the answer whether each reference has its row.
+const REFERRING: [(&str, bool); 14] = [
+    ("", true),
+    ("kinds=x", true),
+    ("if[name:x]/name=x route[from:a][to:b]/via=x", true),
+    ("if[name:x]/name=x route[from:a][to:b]/via=y", false),
+    ("if[name:x]/mtu=x route[from:a][to:b]/via=x", false),
+    ("route[from:a][to:b]/via=x", false),
+    (
+        "if[name:x]/name=x if[name:y]/name=y route[from:a][to:b]/via=y route[from:b][to:b]/via=x",
+        true,
+    ),
+    (
+        "if[name:x]/name=x if[name:y]/name=y route[from:a][to:b]/via=y route[from:b][to:b]/via=z",
+        false,
+    ),
+    ("if[name:x]/name=#7 route[from:a][to:b]/via=#7", true),
+    ("if[name:x]/name=#7 route[from:a][to:b]/via=7", false),
+    ("if[name:x]/name=& route[from:a][to:b]/via=&", false),
+    ("lost=x", false),
+    ("self=x", true),
+    ("stranger=x", false),
+];
+
+fn text_of(alloc: Global, word: &str) -> Result<Text, Fail> {
+    Ok(Text::of(alloc, word.as_bytes())?)
+}
+
+fn texts_of(alloc: Global, line: &str) -> Result<Texts, Fail> {
+    let mut texts = Seq::empty(alloc);
+    for word in line.split_whitespace() {
+        texts.push(text_of(alloc, word)?)?;
+    }
+    Ok(texts)
+}
+
+fn node_of(alloc: Global, line: &str, word: &str, other: &str) -> Result<Node, Fail> {
+    let module = text_of(alloc, "m")?;
+    let names = texts_of(alloc, line)?;
+    Ok(match word {
+        "container" => Node::container(alloc, module, names),
+        "list" => Node::list(module, names, texts_of(alloc, other)?, None),
+        "mandatory" => Node::leaf(alloc, module, names, Shape::Text, true, None),
+        "reference" => {
+            let target = texts_of(alloc, other)?;
+            Node::leaf(alloc, module, names, Shape::Text, false, Some(target))
+        }
+        _ => Node::leaf(alloc, module, names, Shape::Text, false, None),
+    })
+}
+
+fn schema_of(rt: &impl Abort, alloc: Global, lines: &[(&str, &str, &str)]) -> Result<Schema, Fail> {
+    let mut schema = Schema::empty(alloc);
+    for (line, word, other) in lines {
+        let node = node_of(alloc, line, word, other)?;
+        let is_room = schema.nodes() < MOST_NODES;
+        let has_parent = schema.has_parent(node.names().items());
+        let found = schema.find_names(node.names().items());
+        assert!(rt; is_room && has_parent && found.is_none(), "{line}");
+        schema.add(node)?;
+    }
+    Ok(schema)
+}
+
+/// The element of a text as `route[from:a][to:b]`.
+fn elem_of(alloc: Global, text: &str) -> Result<Elem, Fail> {
+    let mut keys = Seq::empty(alloc);
+    let mut parts = text.split('[');
+    let name = text_of(alloc, parts.next().unwrap_or(""))?;
+    for part in parts {
+        let (key, value) = part.split_once(':').ok_or("a key")?;
+        let value = value.split(']').next().unwrap_or("");
+        keys.push((text_of(alloc, key)?, text_of(alloc, value)?))?;
+    }
+    Ok(Elem { name, keys })
+}
+
+fn path_of(alloc: Global, text: &str) -> Result<Path, Fail> {
+    let mut path = Seq::empty(alloc);
+    for part in text.split('/') {
+        path.push(elem_of(alloc, part)?)?;
+    }
+    Ok(path)
+}
+
+/// A number behind `#`, a list without values for `&`, and else a text.
+fn value_of(alloc: Global, text: &str) -> Result<Value, Fail> {
+    if text == "&" {
+        return Ok(Value::List(Seq::empty(alloc)));
+    }
+    match text.split_once('#') {
+        Some((_, digits)) => Ok(Value::Uint(digits.parse()?)),
+        None => Ok(Value::Text(text_of(alloc, text)?)),
+    }
+}
+
+fn rows_of(alloc: Global, line: &str) -> Result<Rows, Fail> {
+    let mut rows = Seq::empty(alloc);
+    for word in line.split_whitespace() {
+        let (path, value) = word.split_once('=').ok_or("a value")?;
+        rows.push(Row {
+            path: path_of(alloc, path)?,
+            value: value_of(alloc, value)?,
+        })?;
+    }
+    Ok(rows)
+}
+
+/// Whether each row's path is above that of the row before it.
+fn are_rising(rows: &[Row]) -> bool
+    ensures { result ≡ rises row_cmp rows.now }
+{
+    let Some((row, others)) = rows.split_first() else {
+        return true;
+    };
+    let Some((other, _)) = others.split_first() else {
+        return true;
+    };
+    row.path.cmp(&other.path).is_lt() && are_rising(others)
+}
+
+#[test]
+fn keys_have_their_leaves(rt: HostRuntime) -> Result<(), Fail> {
+    let alloc = rt.alloc();
+    rising_is_tested();
+    for (line, wanted) in KEYED {
+        let rows = rows_of(alloc, line)?;
+        assert!(rt; are_rising(rows.items()), "{line}");
+        let found = all_keyed(alloc, rows.items())?;
+        assert_eq!(rt; found, wanted, "{line}");
+    }
+    Ok(())
+}
+
+#[test]
+fn mandatory_leaves_stand(rt: HostRuntime) -> Result<(), Fail> {
+    let alloc = rt.alloc();
+    rising_is_tested();
+    let schema = schema_of(&rt, alloc, &NODES)?;
+    for (line, wanted) in STANDING {
+        let rows = rows_of(alloc, line)?;
+        assert!(rt; are_rising(rows.items()), "{line}");
+        let found = all_stand(alloc, &schema, rows.items())?;
+        assert_eq!(rt; found, wanted, "{line}");
+    }
+    Ok(())
+}
+
+#[test]
+fn a_mandatory_leaf_of_the_root_stands_in_every_tree_with_rows(
+    rt: HostRuntime,
+) -> Result<(), Fail> {
+    let alloc = rt.alloc();
+    rising_is_tested();
+    let schema = schema_of(
+        &rt,
+        alloc,
+        &[("host", "mandatory", ""), ("motd", "leaf", "")],
+    )?;
+    for (line, wanted) in [
+        ("", true),
+        ("host=x", true),
+        ("motd=x", false),
+        ("host=x motd=x", true),
+    ] {
+        let rows = rows_of(alloc, line)?;
+        assert!(rt; are_rising(rows.items()), "{line}");
+        let found = all_stand(alloc, &schema, rows.items())?;
+        assert_eq!(rt; found, wanted, "{line}");
+    }
+    Ok(())
+}
+
+#[test]
+fn references_have_a_row_of_their_value(rt: HostRuntime) -> Result<(), Fail> {
+    let alloc = rt.alloc();
+    let schema = schema_of(&rt, alloc, &NODES)?;
+    for (line, wanted) in REFERRING {
+        let rows = rows_of(alloc, line)?;
+        let found = all_refer(alloc, &schema, rows.items())?;
+        assert_eq!(rt; found, wanted, "{line}");
+    }
+    Ok(())
+}
+
+/// Three leaves below each of a hundred entries of a list, each with a number of its own.
+fn many_rows(alloc: Global) -> Result<Rows, Fail> {
+    let mut rows = Seq::empty(alloc);
+    for number in 0..300u64 {
+        let name = ["a", "c", "e"][(number % 3) as usize];
+        let path = format!(in alloc; "l[k:{}]/{name}", 100 + number / 3)?;
+        rows.push(Row {
+            path: path_of(alloc, path.as_str())?,
+            value: Value::Uint(number),
+        })?;
+    }
+    Ok(rows)
+}
+
+/// Whether the leaf that is found is the one that a scan finds.
+fn is_as_scanned(alloc: Global, rows: &[Row], key: u64, name: &str) -> Result<bool, Fail>
+    requires { IsRising rows.now }
+{
+    let instance = format!(in alloc; "l[k:{key}]")?;
+    let instance = path_of(alloc, instance.as_str())?;
+    let mut path = instance.copy(alloc)?;
+    path.push(elem_of(alloc, name)?)?;
+    let found = find_leaf(rows, instance.items(), name.as_bytes());
+    for row in rows {
+        if row.path.cmp(&path) == Ordering::Equal {
+            return Ok(found.is_some_and(|other| other.value == row.value));
+        }
+    }
+    Ok(found.is_none())
+}
+
+#[test]
+fn a_leaf_is_found_among_many_rows(rt: HostRuntime) -> Result<(), Fail> {
+    let alloc = rt.alloc();
+    rising_is_tested();
+    let rows = many_rows(alloc)?;
+    assert!(rt; are_rising(rows.items()));
+    for key in 99..201u64 {
+        for name in ["", "a", "b", "c", "d", "e", "f"] {
+            let is = is_as_scanned(alloc, rows.items(), key, name)?;
+            assert!(rt; is, "{key} {name}");
+        }
+    }
+    Ok(())
+}
