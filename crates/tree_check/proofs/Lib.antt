@@ -1,0 +1,5 @@
+pub mod Fronts
+pub mod Runs
+pub mod Nodes
+pub mod Neighbours
+pub mod Differing

@@ -1,0 +1,10 @@
+use Rattle.std.proofs.Common.{◌≡◌, length}
+use Rattle.base_kinds.specs.Legal.{rises}
+use Rattle.history_laws.specs.Rising.{row_cmp}
+use Rattle.tree_check.proofs.rising.rise.Given as goal
+
+abbrev pub invariant-loop-row : goal.invariant-loop-row
+invariant-loop-row l = rises row_cmp l.rest ≡ rises row_cmp l.rows
+
+abbrev pub decreases-loop-row : goal.decreases-loop-row
+decreases-loop-row l = length l.rest

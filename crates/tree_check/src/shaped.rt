@@ -1,0 +1,53 @@
+// Each value has its node's shape (RFC 7950 4.2.4); a leaf-list has a list of such values, no two of them equal (7.7).
+ghost use Rattle.std.specs.Prelude.{◌≡◌, IfOk};
+ghost use Rattle.std.specs.List.{list_all};
+ghost use Rattle.base_kinds.specs.Values.{has_shape};
+ghost use Rattle.base_kinds.specs.Valid.{is_taken, row_shaped, all_shaped};
+
+use crate::values::{all_differ, is_list, values_in};
+use base_kinds::{NoMemory, Row, Shape, Sort, Value};
+use schema_core::Schema;
+use std::alloc::Global;
+use value_core::check_value;
+
+pub(crate) fn all_shaped(alloc: Global, schema: &Schema, rows: &[Row]) -> Result<bool, NoMemory>
+    ensures { IfOk result (λ is. is ≡ all_shaped schema.now rows.now) }
+{
+    for row in rows {
+        if !row_shaped(alloc, schema, row)? {
+            return Ok(false);
+        }
+    }
+    Ok(true)
+}
+
+fn row_shaped(alloc: Global, schema: &Schema, row: &Row) -> Result<bool, NoMemory>
+    ensures { IfOk result (λ is. is ≡ row_shaped schema.now row.now) }
+{
+    match schema.find(&row.path) {
+        None => Ok(false),
+        Some(id) => match schema.shape_of(id) {
+            None => Ok(false),
+            Some(shape) => is_taken(alloc, schema.sort_of(id), shape, &row.value),
+        },
+    }
+}
+
+fn is_taken(alloc: Global, sort: Sort, shape: &Shape, value: &Value) -> Result<bool, NoMemory>
+    ensures { IfOk result (λ is. is ≡ is_taken sort shape.now value.now) }
+{
+    match sort {
+        Sort::Leaf => Ok(check_value(shape, value)),
+        Sort::LeafList => {
+            let values = values_in(value);
+            Ok(is_list(value) && have_shape(shape, values) && all_differ(alloc, values)?)
+        }
+        Sort::Container | Sort::List => Ok(false),
+    }
+}
+
+fn have_shape(shape: &Shape, values: &[Value]) -> bool
+    ensures { result ≡ list_all (has_shape shape.now) values.now }
+{
+    values.iter().all(|value| check_value(shape, value))
+}

@@ -1,0 +1,359 @@
+use crate::{CheckFault, are_rising, check};
+use base_kinds::{Bytes, Row, Rows, Shape, Text, Texts, Value, Values};
+use path_core::read_path_text;
+use schema_core::{MOST_NODES, Node, Schema};
+use std::alloc::Global;
+use std::process::Abort;
+use std::test::Fail;
+
+/// The names of each node, its sort or its shape, and the keys, the leaf that it refers to, or the maximum.
+const NODES: [(&str, &str, &str, Option<u32>); 20] = [
+    ("host", "container", "", None),
+    ("host blob", "binary", "", None),
+    ("host mtu", "uint16", "", None),
+    ("host name", "mandatory", "", None),
+    ("host on", "bool", "", None),
+    ("links", "container", "", None),
+    ("links link", "list", "a b", None),
+    ("links link a", "text", "", None),
+    ("links link b", "text", "", None),
+    ("ports", "container", "", None),
+    ("ports port", "list", "name", Some(2)),
+    ("ports port name", "text", "", None),
+    ("ports port speed", "uint8", "", None),
+    ("ports port tags", "leaf-list", "", Some(3)),
+    ("ports port vlan", "list", "id", Some(1)),
+    ("ports port vlan id", "uint16", "", None),
+    ("ports port vlan label", "mandatory", "", None),
+    ("words", "leaf-list", "", None),
+    ("uplink", "reference", "ports port name", None),
+    ("version", "uint8", "", None),
+];
+
+/// Trees that are valid and small enough, a row in each line: its path and its value.
+const TAKEN: [&str; 12] = [
+    "",
+    "/version 255",
+    "/host/name r1",
+    "/host/mtu 65535;/host/name r1;/host/on true",
+    "/ports/port[name=p1]/name p1",
+    "/ports/port[name=p1]/name p1;/ports/port[name=p1]/tags [a,b,c]",
+    "/ports/port[name=p1]/name p1;/ports/port[name=p1]/speed 1;/ports/port[name=p2]/name p2;/ports/port[name=p2]/speed 1",
+    "/ports/port[name=p1]/name p1;/ports/port[name=p1]/vlan[id=7]/id 7;/ports/port[name=p1]/vlan[id=7]/label x;/ports/port[name=p2]/name p2;/ports/port[name=p2]/vlan[id=7]/id 7;/ports/port[name=p2]/vlan[id=7]/label x",
+    "/links/link[a=x][b=x]/a x;/links/link[a=x][b=x]/b x;/links/link[a=x][b=y]/a x;/links/link[a=x][b=y]/b y;/links/link[a=y][b=x]/a y;/links/link[a=y][b=x]/b x",
+    "/ports/port[name=p1]/name p1;/uplink p1",
+    "/ports/port[name=p1]/name p1;/ports/port[name=p2]/name p2;/uplink p2",
+    "/words []",
+];
+
+/// Trees that break one rule each.
+const REFUSED: [(&str, &str); 34] = [
+    ("no node", "/nothing x"),
+    ("no node below a leaf", "/version/x 1"),
+    ("the root", "/ x"),
+    ("a container", "/host x"),
+    ("a list", "/ports/port[name=p1] x"),
+    ("no key", "/ports/port/name p1"),
+    ("a key more", "/ports/port[name=p1][z=1]/name p1"),
+    ("another key", "/ports/port[nam=p1]/name p1"),
+    ("a key of a container", "/host[name=r1]/name r1"),
+    ("a key of a leaf", "/host/name[name=r1] r1"),
+    ("one key of two", "/links/link[a=x]/a x"),
+    ("a number too large", "/version 256"),
+    ("a text for a number", "/version x"),
+    ("a number for a text", "/host/name 1"),
+    ("a list for a leaf", "/version [1]"),
+    ("a text for a list", "/words a"),
+    ("a number among texts", "/words [a,1]"),
+    ("a value twice", "/words [a,b,a]"),
+    ("a value twice at the end", "/words [a,b,b]"),
+    ("no key leaf", "/ports/port[name=p1]/speed 1"),
+    ("another key leaf", "/ports/port[name=p1]/name p2"),
+    (
+        "the key leaf of another entry",
+        "/ports/port[name=p1]/name p1;/ports/port[name=p2]/speed 1",
+    ),
+    (
+        "the first of two key leaves alone",
+        "/links/link[a=x][b=y]/a x",
+    ),
+    (
+        "the second of two key leaves alone",
+        "/links/link[a=x][b=y]/b y",
+    ),
+    (
+        "key leaves the other way round",
+        "/links/link[a=x][b=y]/a y;/links/link[a=x][b=y]/b x",
+    ),
+    ("no mandatory leaf", "/host/mtu 1500"),
+    (
+        "no mandatory leaf in an entry",
+        "/ports/port[name=p1]/name p1;/ports/port[name=p1]/vlan[id=7]/id 7",
+    ),
+    (
+        "a mandatory leaf in another entry",
+        "/ports/port[name=p1]/name p1;/ports/port[name=p1]/vlan[id=7]/id 7;/ports/port[name=p1]/vlan[id=7]/label x;/ports/port[name=p2]/name p2;/ports/port[name=p2]/vlan[id=7]/id 7",
+    ),
+    ("a reference to nothing", "/uplink p1"),
+    (
+        "a reference to no value",
+        "/ports/port[name=p1]/name p1;/uplink p2",
+    ),
+    (
+        "three entries of two",
+        "/ports/port[name=p1]/name p1;/ports/port[name=p2]/name p2;/ports/port[name=p3]/name p3",
+    ),
+    (
+        "two entries of one, in the second instance",
+        "/ports/port[name=p1]/name p1;/ports/port[name=p2]/name p2;/ports/port[name=p2]/vlan[id=7]/id 7;/ports/port[name=p2]/vlan[id=7]/label x;/ports/port[name=p2]/vlan[id=8]/id 8;/ports/port[name=p2]/vlan[id=8]/label y",
+    ),
+    (
+        "two entries of one, with rows between",
+        "/ports/port[name=p1]/name p1;/ports/port[name=p1]/vlan[id=7]/id 7;/ports/port[name=p1]/vlan[id=7]/label x;/ports/port[name=p1]/vlan[id=8]/id 8;/ports/port[name=p1]/vlan[id=8]/label y",
+    ),
+    (
+        "four values of three",
+        "/ports/port[name=p1]/name p1;/ports/port[name=p1]/tags [a,b,c,d]",
+    ),
+];
+
+fn text_of(rt: &impl Abort, alloc: Global, word: &str) -> Text {
+    Text::of(alloc, word.as_bytes()).expect(rt, "a text")
+}
+
+fn texts_of(rt: &impl Abort, alloc: Global, line: &str) -> Texts {
+    let mut texts = Texts::empty(alloc);
+    for word in line.split_whitespace() {
+        texts.push(text_of(rt, alloc, word)).expect(rt, "memory");
+    }
+    texts
+}
+
+fn node_of(
+    rt: &impl Abort,
+    alloc: Global,
+    line: &str,
+    word: &str,
+    more: &str,
+    maximum: Option<u32>,
+) -> Node {
+    let module = text_of(rt, alloc, "m");
+    let names = texts_of(rt, alloc, line);
+    let others = texts_of(rt, alloc, more);
+    match word {
+        "container" => Node::container(alloc, module, names),
+        "list" => Node::list(module, names, others, maximum),
+        "leaf-list" => Node::leaf_list(alloc, module, names, Shape::Text, maximum),
+        "reference" => Node::leaf(alloc, module, names, Shape::Text, false, Some(others)),
+        "mandatory" => Node::leaf(alloc, module, names, Shape::Text, true, None),
+        "binary" => Node::leaf(alloc, module, names, Shape::Bin, false, None),
+        "bool" => Node::leaf(alloc, module, names, Shape::Bool, false, None),
+        "uint8" => Node::leaf(alloc, module, names, Shape::Uint(8), false, None),
+        "uint16" => Node::leaf(alloc, module, names, Shape::Uint(16), false, None),
+        _ => Node::leaf(alloc, module, names, Shape::Text, false, None),
+    }
+}
+
+fn put(rt: &impl Abort, schema: &mut Schema, node: Node) {
+    let is_room = schema.nodes() < MOST_NODES;
+    let has_parent = schema.has_parent(node.names().items());
+    let found = schema.find_names(node.names().items());
+    assert!(rt; is_room && has_parent && found.is_none(), "a place");
+    schema.add(node).expect(rt, "memory");
+}
+
+fn example(rt: &impl Abort, alloc: Global) -> Schema {
+    let mut schema = Schema::empty(alloc);
+    for (line, word, more, maximum) in NODES {
+        put(
+            rt,
+            &mut schema,
+            node_of(rt, alloc, line, word, more, maximum),
+        );
+    }
+    schema
+}
+
+fn scalar_of(rt: &impl Abort, alloc: Global, word: &str) -> Value {
+    match (word, word.parse::<u64>()) {
+        ("true", _) => Value::Bool(true),
+        ("false", _) => Value::Bool(false),
+        (_, Ok(number)) => Value::Uint(number),
+        _ => Value::Text(text_of(rt, alloc, word)),
+    }
+}
+
+fn value_of(rt: &impl Abort, alloc: Global, word: &str) -> Value {
+    let Some(inside) = word.strip_prefix("[") else {
+        return scalar_of(rt, alloc, word);
+    };
+    let mut values = Values::empty(alloc);
+    for one in inside.split(&[',', ']']) {
+        if one != "" {
+            values.push(scalar_of(rt, alloc, one)).expect(rt, "memory");
+        }
+    }
+    Value::List(values)
+}
+
+fn rows_of(rt: &impl Abort, alloc: Global, lines: &str) -> Rows {
+    let mut rows = Rows::empty(alloc);
+    for line in lines.split(';') {
+        if let Some((path, word)) = line.split_once(' ') {
+            let path = read_path_text(alloc, path.as_bytes()).expect(rt, "a path");
+            let value = value_of(rt, alloc, word);
+            rows.push(Row { path, value }).expect(rt, "memory");
+        }
+    }
+    rows
+}
+
+fn answer(
+    rt: &impl Abort,
+    alloc: Global,
+    schema: &Schema,
+    rows: &Rows,
+    lines: &str,
+) -> Result<(), CheckFault> {
+    let is_rising = are_rising(rows.items());
+    assert!(rt; is_rising, "rising: {lines}");
+    check(alloc, schema, rows)
+}
+
+#[test]
+fn each_rule_is_kept(rt: HostRuntime) {
+    let alloc = rt.alloc();
+    let schema = example(&rt, alloc);
+    for lines in TAKEN {
+        let rows = rows_of(&rt, alloc, lines);
+        assert_eq!(rt;
+            answer(&rt, alloc, &schema, &rows, lines),
+            Ok(()),
+            "{lines}"
+        );
+    }
+}
+
+#[test]
+fn each_rule_is_broken_alone(rt: HostRuntime) {
+    let alloc = rt.alloc();
+    let schema = example(&rt, alloc);
+    for (what, lines) in REFUSED {
+        let rows = rows_of(&rt, alloc, lines);
+        assert_eq!(rt;
+            answer(&rt, alloc, &schema, &rows, lines),
+            Err(CheckFault::TreeInvalid),
+            "{what}"
+        );
+    }
+}
+
+/// A host's blob of so many octets, and this as its name: 218 and two for each octet is their weight where the name is
+/// empty.
+fn heavy(rt: &impl Abort, alloc: Global, octets: usize, name: Value) -> Rows {
+    let mut blob = Bytes::empty(alloc);
+    for _ in 0..octets {
+        blob.push(0).expect(rt, "memory");
+    }
+    let mut rows = Rows::empty(alloc);
+    let path = read_path_text(alloc, b"/host/blob").expect(rt, "a path");
+    let value = Value::Bin(blob);
+    rows.push(Row { path, value }).expect(rt, "memory");
+    let path = read_path_text(alloc, b"/host/name").expect(rt, "a path");
+    rows.push(Row { path, value: name }).expect(rt, "memory");
+    rows
+}
+
+#[test]
+fn a_tree_is_full_where_it_is_valid_and_too_heavy(rt: HostRuntime) {
+    let alloc = rt.alloc();
+    let schema = example(&rt, alloc);
+    let table = [
+        (949_891, true, Ok(())),
+        (949_892, true, Err(CheckFault::TreeFull)),
+        (949_892, false, Err(CheckFault::TreeInvalid)),
+    ];
+    for (octets, is_valid, wanted) in table {
+        let name = if is_valid {
+            Value::Text(text_of(&rt, alloc, ""))
+        } else {
+            Value::Bool(true)
+        };
+        let rows = heavy(&rt, alloc, octets, name);
+        assert_eq!(rt;
+            answer(&rt, alloc, &schema, &rows, "heavy"),
+            wanted,
+            "{octets}"
+        );
+    }
+}
+
+/// So many words, of which the last is the first one where `is_twice` says so.
+fn words(rt: &impl Abort, alloc: Global, count: u32, is_twice: bool) -> Rows {
+    let mut values = Values::empty(alloc);
+    for number in 0..count {
+        let word = if is_twice && number == 99 { 0 } else { number };
+        let text = format!(in alloc; "w{word}").expect(rt, "memory");
+        let value = Value::Text(text_of(rt, alloc, text.as_str()));
+        values.push(value).expect(rt, "memory");
+    }
+    let mut rows = Rows::empty(alloc);
+    let path = read_path_text(alloc, b"/words").expect(rt, "a path");
+    let value = Value::List(values);
+    rows.push(Row { path, value }).expect(rt, "memory");
+    rows
+}
+
+#[test]
+fn of_many_values_no_two_are_equal(rt: HostRuntime) {
+    let alloc = rt.alloc();
+    let schema = example(&rt, alloc);
+    let table = [
+        (16, false, Ok(())),
+        (17, false, Ok(())),
+        (100, false, Ok(())),
+        (100, true, Err(CheckFault::TreeInvalid)),
+        (400, false, Ok(())),
+        (400, true, Err(CheckFault::TreeInvalid)),
+    ];
+    for (count, is_twice, wanted) in table {
+        let rows = words(&rt, alloc, count, is_twice);
+        assert_eq!(rt;
+            answer(&rt, alloc, &schema, &rows, "words"),
+            wanted,
+            "{count}"
+        );
+    }
+}
+
+#[test]
+fn rows_rise_one_above_the_other(rt: HostRuntime) {
+    let alloc = rt.alloc();
+    let table = [
+        ("", true),
+        ("/a 1", true),
+        ("/a 1;/b 1", true),
+        ("/a 1;/a/b 1;/aa 1", true),
+        ("/a 1;/a 2", false),
+        ("/b 1;/a 1", false),
+        ("/a 1;/c 1;/b 1", false),
+    ];
+    for (lines, is_rising) in table {
+        let rows = rows_of(&rt, alloc, lines);
+        assert_eq!(rt; are_rising(rows.items()), is_rising, "{lines}");
+    }
+}
+
+#[test]
+fn faults_print_as_they_are_called(rt: HostRuntime) -> Result<(), Fail> {
+    let alloc = rt.alloc();
+    let table = [
+        (CheckFault::TreeInvalid, "tree invalid"),
+        (CheckFault::TreeFull, "tree full"),
+        (CheckFault::NoMemory, "no memory"),
+    ];
+    for (fault, printed) in table {
+        assert_eq!(rt; format!(in alloc; "{fault}")?.as_str(), printed);
+    }
+    Ok(())
+}
