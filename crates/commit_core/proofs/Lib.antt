@@ -1,3 +1,5 @@
+pub mod Effects
 pub mod Histories
-pub mod OnlyUpdates
-pub mod Placing
+pub mod Judged
+pub mod Rising
+pub mod Wholes

@@ -1,3 +1,2 @@
 pub mod Cores
 pub mod Logs
-pub mod Updates

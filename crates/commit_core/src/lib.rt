@@ -2,10 +2,9 @@
 #![tactic(auto)]
 
 mod commits;
-mod first_tree;
 mod log;
 #[cfg(test)]
 mod tests;
+mod trees;
 
 pub use commits::Core;
-pub use first_tree::FirstTree;

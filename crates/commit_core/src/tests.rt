@@ -1,106 +1,168 @@
-ghost use Rattle.std.specs.Prelude.{◌≡◌};
-ghost use Rattle.commit_core.specs.Updates.{AppliesUpdates};
+ghost use Rattle.commit_core.specs.Cores.{OpensNoTrial};
 
-use crate::{Core, FirstTree};
-use base_kinds::{Act, Ask, Elem, Keys, Kind, Op, Ops, Path, Row, Rows, Text, TreeLike, Value};
+use crate::Core;
+use base_kinds::{
+    Act, Ask, Elem, Keys, Limits, Op, Ops, Path, Paths, Refusal, Row, Rows, Same, Seq, Shape, Text,
+    Texts, Value,
+};
+use plain_tree::PlainTree;
+use schema_core::{MOST_NODES, Node, Schema};
 use std::alloc::Global;
 use std::process::Abort;
-use std::test::Fail;
+
+const ROOMY: Limits = Limits {
+    entries: 65_536,
+    octets: 268_435_456,
+};
+
+/// The smallest limits that there are.
+const NARROW: Limits = Limits {
+    entries: 2,
+    octets: 4_096,
+};
 
 fn text_of(rt: &impl Abort, alloc: Global, word: &str) -> Text {
     Text::of(alloc, word.as_bytes()).expect(rt, "a text")
 }
 
-fn path_of(rt: &impl Abort, alloc: Global, name: &str) -> Path {
+fn names_of(rt: &impl Abort, alloc: Global, words: &[&str]) -> Texts {
+    let mut names = Seq::empty(alloc);
+    for word in words {
+        names.push(text_of(rt, alloc, word)).expect(rt, "memory");
+    }
+    names
+}
+
+fn put(rt: &impl Abort, schema: &mut Schema, node: Node) {
+    let is_room = schema.nodes() < MOST_NODES;
+    let has_parent = schema.has_parent(node.names().items());
+    let found = schema.find_names(node.names().items());
+    assert!(rt; is_room && has_parent && found.is_none(), "a place");
+    schema.add(node).expect(rt, "memory");
+}
+
+/// The containers `/system` and `/system/config`, and two texts in the inner one.
+fn schema_of(rt: &impl Abort, alloc: Global) -> Schema {
+    let mut schema = Schema::empty(alloc);
+    for words in [["system"].as_slice(), ["system", "config"].as_slice()] {
+        let names = names_of(rt, alloc, words);
+        put(
+            rt,
+            &mut schema,
+            Node::container(alloc, text_of(rt, alloc, "m"), names),
+        );
+    }
+    for word in ["hostname", "motd"] {
+        let names = names_of(rt, alloc, &["system", "config", word]);
+        let module = text_of(rt, alloc, "m");
+        put(
+            rt,
+            &mut schema,
+            Node::leaf(alloc, module, names, Shape::Text, false, None),
+        );
+    }
+    schema
+}
+
+fn core_of(rt: &impl Abort, alloc: Global, limits: Limits) -> Core<PlainTree> {
+    Core::make(alloc, schema_of(rt, alloc), PlainTree::empty(alloc), limits)
+}
+
+fn path_of(rt: &impl Abort, alloc: Global, words: &[&str]) -> Path {
     let mut path = Path::empty(alloc);
-    let elem = Elem {
-        name: text_of(rt, alloc, name),
-        keys: Keys::empty(alloc),
-    };
-    path.push(elem).expect(rt, "memory");
+    for word in words {
+        let elem = Elem {
+            name: text_of(rt, alloc, word),
+            keys: Keys::empty(alloc),
+        };
+        path.push(elem).expect(rt, "memory");
+    }
     path
 }
 
-/// The update of `/NAME` to this text.
-fn update_of(rt: &impl Abort, alloc: Global, name: &str, text: &str) -> Op
-    ensures { result.act ≡ Act.Update }
-{
-    let row = Row {
-        path: path_of(rt, alloc, name),
-        value: Value::Text(text_of(rt, alloc, text)),
-    };
+/// The update of `/system/config/WORD` to this value.
+fn update_of(rt: &impl Abort, alloc: Global, word: &str, value: Value) -> Op {
+    let words = ["system", "config", word];
     let mut rows = Rows::empty(alloc);
+    let row = Row {
+        path: path_of(rt, alloc, &words),
+        value,
+    };
     rows.push(row).expect(rt, "memory");
     Op {
         act: Act::Update,
-        path: path_of(rt, alloc, name),
+        path: path_of(rt, alloc, &words),
         rows,
     }
 }
 
 /// A Set of that update alone.
-fn ask_of(rt: &impl Abort, alloc: Global, name: &str, text: &str) -> Ask
-    ensures { AppliesUpdates result }
+fn set_of(rt: &impl Abort, alloc: Global, word: &str, value: Value) -> Ask
+    ensures { OpensNoTrial result }
 {
     let mut ops = Ops::empty(alloc);
-    ops.push(update_of(rt, alloc, name, text))
+    ops.push(update_of(rt, alloc, word, value))
         .expect(rt, "memory");
     Ask::Apply(ops)
 }
 
-/// Sets each name to its text.
-fn set_all<T: TreeLike>(rt: &impl Abort, alloc: Global, tree: &mut T, sets: &[(&str, &str)]) {
-    for (name, text) in sets {
-        let op = update_of(rt, alloc, name, text);
-        tree.apply(alloc, &op).expect(rt, "memory");
-    }
+fn set_text(rt: &impl Abort, alloc: Global, word: &str, text: &str) -> Ask
+    ensures { OpensNoTrial result }
+{
+    set_of(rt, alloc, word, Value::Text(text_of(rt, alloc, text)))
 }
 
-/// A tree like this one with each name set to its text.
-fn copy_with<T: TreeLike>(rt: &impl Abort, alloc: Global, tree: &T, sets: &[(&str, &str)]) -> T {
-    let mut copy = tree.copy(alloc).expect(rt, "memory");
-    set_all(rt, alloc, &mut copy, sets);
-    copy
+/// A Set of the hostname to a text of so many octets.
+fn set_long(rt: &impl Abort, alloc: Global, size: u32) -> Ask
+    ensures { OpensNoTrial result }
+{
+    let mut octets = Vec::new(alloc);
+    for _ in 0..size {
+        octets.push(b'x').expect(rt, "memory");
+    }
+    let text = Text::of(alloc, &octets).expect(rt, "a text");
+    set_of(rt, alloc, "hostname", Value::Text(text))
+}
+
+/// The stamp of the entry that the ask becomes, which is taken.
+fn accept(rt: &impl Abort, core: &mut Core<PlainTree>, alloc: Global, now: u64, ask: Ask) -> u64
+    requires { OpensNoTrial ask }
+{
+    let entry = core.judge(alloc, now, 1, ask).expect(rt, "an entry");
+    let stamp = entry.stamp;
+    core.take(entry);
+    stamp
+}
+
+/// What the ask is refused for, if it is, at the reading 2000. Nothing is taken.
+fn refused(core: &mut Core<PlainTree>, alloc: Global, ask: Ask) -> Option<Refusal>
+    requires { OpensNoTrial ask }
+{
+    let refusal = core.judge(alloc, 2000, 1, ask).err();
+    core.forget();
+    refusal
+}
+
+/// Whether the tree is the one row `/system/config/WORD` with this text, and has this stamp.
+fn is_just(
+    rt: &impl Abort,
+    core: &Core<PlainTree>,
+    alloc: Global,
+    stamp: u64,
+    word: &str,
+    text: &str,
+) -> bool {
+    let mut patterns = Paths::empty(alloc);
+    patterns.push(Path::empty(alloc)).expect(rt, "memory");
+    let view = core.look(alloc, &patterns).expect(rt, "memory");
+    let row = update_of(rt, alloc, word, Value::Text(text_of(rt, alloc, text))).rows;
+    view.stamp == stamp && view.rows.same(&row)
 }
 
 #[test]
-fn a_tree_is_the_same_however_its_rows_came(rt: HostRuntime) -> Result<(), Fail> {
+fn stamps_follow_the_clock_and_rise(rt: HostRuntime) {
     let alloc = rt.alloc();
-    let table = [
-        (
-            [("a", "1"), ("b", "2")].as_slice(),
-            [("b", "2"), ("a", "1")].as_slice(),
-        ),
-        ([("a", "1"), ("a", "2")].as_slice(), [("a", "2")].as_slice()),
-        (
-            [("a", "2"), ("b", ""), ("a", "")].as_slice(),
-            [("a", ""), ("b", "")].as_slice(),
-        ),
-        (
-            [("b", "1"), ("a", "1"), ("ab", "1"), ("b", "2"), ("a", "3")].as_slice(),
-            [("a", "3"), ("ab", "1"), ("b", "2")].as_slice(),
-        ),
-    ];
-    for (sets, rising) in table {
-        let empty = FirstTree::empty(alloc);
-        let one = copy_with(&rt, alloc, &empty, sets);
-        let other = copy_with(&rt, alloc, &empty, rising);
-        let changed = copy_with(&rt, alloc, &one, &[("c", "1")]);
-        let (one, other) = (
-            format!(in alloc; "{one:?}")?,
-            format!(in alloc; "{other:?}")?,
-        );
-        assert_eq!(rt; one.as_str(), other.as_str());
-        assert!(rt; format!(in alloc; "{changed:?}")?.as_str() != one.as_str());
-        assert!(rt; format!(in alloc; "{empty:?}")?.as_str() != one.as_str());
-    }
-    Ok(())
-}
-
-#[test]
-fn stamps_follow_the_clock_and_rise(rt: HostRuntime) -> Result<(), Fail> {
-    let alloc = rt.alloc();
-    let mut core = Core::make(alloc, FirstTree::empty(alloc));
+    let mut core = core_of(&rt, alloc, ROOMY);
     let table = [
         (0, 1),
         (0, 2),
@@ -115,58 +177,99 @@ fn stamps_follow_the_clock_and_rise(rt: HostRuntime) -> Result<(), Fail> {
         (0, 4_102_444_800_000_000_003),
     ];
     for (now, stamp) in table {
-        let entry = core.judge(alloc, now, 1, ask_of(&rt, alloc, "a", "r1"))?;
-        assert_eq!(rt; entry.stamp, stamp, "at {now}");
-        core.take(entry);
+        let ask = set_text(&rt, alloc, "motd", "m");
+        assert_eq!(rt; accept(&rt, &mut core, alloc, now, ask), stamp, "at {now}");
+        assert!(rt; is_just(&rt, &core, alloc, stamp, "motd", "m"), "at {now}");
     }
     for (i, entry) in core.entries().iter().enumerate() {
         assert_eq!(rt; (entry.number, entry.author), (i as u64 + 1, 1));
     }
     assert_eq!(rt; core.entries().len(), 11);
-    Ok(())
 }
 
 #[test]
-fn the_first_reading_beyond_the_latest_is_cut(rt: HostRuntime) -> Result<(), Fail> {
+fn what_is_let_go_or_refused_leaves_nothing(rt: HostRuntime) {
     let alloc = rt.alloc();
-    let mut core = Core::make(alloc, FirstTree::empty(alloc));
-    let entry = core.judge(alloc, u64::MAX, 4_294_967_295, ask_of(&rt, alloc, "a", ""))?;
-    assert_eq!(rt; (entry.number, entry.author), (1, 4_294_967_295));
-    assert_eq!(rt; entry.stamp, 4_102_444_800_000_000_000);
-    Ok(())
-}
-
-#[test]
-fn two_sets_of_one_path_are_two_entries(rt: HostRuntime) -> Result<(), Fail> {
-    let alloc = rt.alloc();
-    let mut core = Core::make(alloc, FirstTree::empty(alloc));
-    for text in ["r1", "r2"] {
-        let entry = core.judge(alloc, 1000, 1, ask_of(&rt, alloc, "hostname", text))?;
-        core.take(entry);
-    }
-    let texts = ["r1", "r2"];
-    assert_eq!(rt; core.entries().len(), 2);
-    for (text, entry) in texts.iter().zip(core.entries()) {
-        let mut ops = Ops::empty(alloc);
-        ops.push(update_of(&rt, alloc, "hostname", text))?;
-        assert_eq!(rt; entry.kind, Kind::Apply(ops));
-    }
-    Ok(())
-}
-
-#[test]
-fn what_is_let_go_leaves_nothing(rt: HostRuntime) -> Result<(), Fail> {
-    let alloc = rt.alloc();
-    let mut core = Core::make(alloc, FirstTree::empty(alloc));
+    let mut core = core_of(&rt, alloc, ROOMY);
     core.forget();
-    let lost = core.judge(alloc, 5000, 1, ask_of(&rt, alloc, "a", "r1"))?;
-    assert_eq!(rt; (lost.number, lost.stamp), (1, 5000));
-    assert_eq!(rt; core.entries().len(), 0);
-    core.forget();
-    let entry = core.judge(alloc, 1000, 2, ask_of(&rt, alloc, "b", "r2"))?;
-    assert_eq!(rt; (entry.number, entry.author, entry.stamp), (1, 2, 1000));
-    core.take(entry);
-    core.forget();
+    assert_eq!(rt;
+        refused(&mut core, alloc, set_text(&rt, alloc, "motd", "lost")),
+        None
+    );
+    let stamp = accept(
+        &rt,
+        &mut core,
+        alloc,
+        1000,
+        set_text(&rt, alloc, "hostname", "r1"),
+    );
+    assert_eq!(rt; stamp, 1000);
+    let unknown = set_text(&rt, alloc, "contact", "x");
+    assert_eq!(rt;
+        refused(&mut core, alloc, unknown),
+        Some(Refusal::TreeInvalid)
+    );
+    let unfit = set_of(&rt, alloc, "motd", Value::Bool(true));
+    assert_eq!(rt;
+        refused(&mut core, alloc, unfit),
+        Some(Refusal::TreeInvalid)
+    );
+    let closing = Ask::Confirm(text_of(&rt, alloc, "t"));
+    assert_eq!(rt; refused(&mut core, alloc, closing), Some(Refusal::NoTrial));
+    assert!(rt; is_just(&rt, &core, alloc, 1000, "hostname", "r1"));
     assert_eq!(rt; core.entries().len(), 1);
-    Ok(())
+}
+
+#[test]
+fn deletes_come_before_updates(rt: HostRuntime) {
+    let alloc = rt.alloc();
+    let mut core = core_of(&rt, alloc, ROOMY);
+    for word in ["hostname", "motd"] {
+        accept(
+            &rt,
+            &mut core,
+            alloc,
+            1000,
+            set_text(&rt, alloc, word, "old"),
+        );
+    }
+    let update = update_of(&rt, alloc, "motd", Value::Text(text_of(&rt, alloc, "new")));
+    let delete = Op {
+        act: Act::Delete,
+        path: path_of(&rt, alloc, &["system", "*"]),
+        rows: Rows::empty(alloc),
+    };
+    let mut ops = Ops::empty(alloc);
+    ops.push(update).expect(&rt, "memory");
+    ops.push(delete).expect(&rt, "memory");
+    accept(&rt, &mut core, alloc, 1000, Ask::Apply(ops));
+    assert!(rt; is_just(&rt, &core, alloc, 1002, "motd", "new"));
+}
+
+#[test]
+fn trees_and_logs_have_limits(rt: HostRuntime) {
+    let alloc = rt.alloc();
+    let table = [
+        (ROOMY, 316_644, None),
+        (ROOMY, 316_645, Some(Refusal::TreeFull)),
+        (NARROW, 3_971, None),
+        (NARROW, 3_972, Some(Refusal::LogFull)),
+        (NARROW, 316_645, Some(Refusal::TreeFull)),
+    ];
+    for (limits, size, refusal) in table {
+        let mut core = core_of(&rt, alloc, limits);
+        let ask = set_long(&rt, alloc, size);
+        assert_eq!(rt; refused(&mut core, alloc, ask), refusal, "{size} octets");
+    }
+    let mut core = core_of(&rt, alloc, NARROW);
+    for _ in 0..2 {
+        accept(&rt, &mut core, alloc, 1, Ask::Apply(Ops::empty(alloc)));
+    }
+    let third = Ask::Apply(Ops::empty(alloc));
+    assert_eq!(rt; refused(&mut core, alloc, third), Some(Refusal::LogFull));
+    let invalid = set_text(&rt, alloc, "contact", "x");
+    assert_eq!(rt;
+        refused(&mut core, alloc, invalid),
+        Some(Refusal::TreeInvalid)
+    );
 }

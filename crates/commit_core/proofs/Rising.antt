@@ -1,0 +1,19 @@
+-- The rows of a core's tree rise by path.
+use Rattle.std.proofs.Common.{◌≡◌, ℕ, List, Option, subst}
+use Rattle.base_kinds.specs.declared.operation.Row.{Row}
+use Rattle.base_kinds.specs.declared.operation.Op.{Op}
+use Rattle.base_kinds.specs.History.{World}
+use Rattle.base_kinds.specs.Tree.{effect}
+use Rattle.history_laws.specs.Rising.{IsRising}
+use Rattle.history_laws.proofs.Effects.{rising_effect}
+use Rattle.history_laws.proofs.States.{rising_world}
+use Rattle.commit_core.specs.Cores.{IsKept}
+use Rattle.commit_core.specs.Logs.{LogView}
+
+-- it stands for a history
+pub kept_rises : (log : LogView) (stamp octets : ℕ) (tree : List Row) (staged : Option (List Row)) → IsKept log stamp octets tree staged → IsRising tree
+kept_rises log stamp octets tree staged kept = subst (λ (world : World). IsRising world.tree) kept.world (rising_world log.items)
+
+-- and operations keep it so
+pub changed_rises : (ops : List Op) (old new : List Row) → IsRising old → new ≡ effect ops old → IsRising new
+changed_rises ops old new rising is = rw is (rising_effect ops old rising)
