@@ -1,0 +1,10 @@
+pub mod Numbers
+pub mod DecimalTexts
+pub mod KeyPlaces
+pub mod Sorted
+pub mod TextData
+pub mod Ends
+pub mod KeySets
+pub mod Meanings
+pub mod Apart
+pub mod Walks

@@ -1,0 +1,9 @@
+pub mod Texts
+pub mod Leaves
+pub mod Members
+pub mod Entries
+pub mod Indexes
+pub mod Walk
+pub mod Reading
+pub mod Laws
+pub mod Examples

@@ -1,0 +1,129 @@
+// The walk of a JSON value, which gives its rows.
+ghost use Rattle.std.specs.Prelude.{◌≡◌, ◌≢◌, ◌<◌, ◌++◌, ◌∷◌, [], Ok, Err, Some, length, slice_get, IfOk, IfErr, OnOk};
+ghost use Rattle.std.specs.Option.{ForSome};
+ghost use Rattle.base_kinds.specs.Schema.{names_of};
+ghost use Rattle.serde_json.specs.View.{view, items_view, members_view};
+ghost use Rattle.schema_core.specs.Nodes.{names_at, names_above};
+ghost use Rattle.json_rows.specs.Walk.{at_node, members_at, entries_at, object_at};
+
+use crate::entries::keys_of;
+use crate::fault::RowsFault;
+use crate::members::{fresh_child, spelling_of};
+use crate::rows::{add_keys, add_leaf, add_list, below};
+use crate::seen_keys::SeenKeys;
+use crate::texts::text_of;
+use base_kinds::{Path, Rows, Seq, Sort, Texts};
+use schema_core::{Node, NodeId, Schema};
+use serde_json::{Map, Value as Json};
+use std::alloc::Global;
+
+/// Adds the rows of the JSON value of a node: its name, and the path above it.
+#[cycle(walk)]
+pub(crate) fn add_node(
+    alloc: Global,
+    schema: &Schema,
+    id: NodeId,
+    node: &Node,
+    above: &Path,
+    name: &str,
+    json: &Json,
+    rows: &mut Rows,
+) -> Result<(), RowsFault>
+    requires node { slice_get schema.now id.0 ≡ Some node.now }
+    requires within { id.0 < length schema.now }
+    requires named { names_at schema.now id.0 ≡ names_of above.now ++ name.now ∷ [] }
+    ensures ok { OnOk result (at_node node.now.sort schema.now node.now above.now name.now rows.old (view json.now) ≡ Ok rows.new) }
+    ensures fault { IfErr result (λ fault. fault ≢ RowsFault.NoMemory → at_node node.now.sort schema.now node.now above.now name.now rows.old (view json.now) ≡ Err fault) }
+{
+    match (node.sort(), json) {
+        (Sort::Container, Json::Object(members)) => {
+            let here = below(alloc, above, name, Seq::empty(alloc))?;
+            add_members(alloc, schema, Some(id), &here, members, rows)
+        }
+        (Sort::List, Json::Array(items)) => add_entries(
+            alloc, schema, id, node, above, name, items, rows,
+        ),
+        (Sort::LeafList, Json::Array(items)) => {
+            let here = below(alloc, above, name, Seq::empty(alloc))?;
+            add_list(alloc, node.shape(), here, items, rows)
+        }
+        (Sort::Leaf, _) => {
+            let here = below(alloc, above, name, Seq::empty(alloc))?;
+            add_leaf(alloc, node.shape(), here, json, rows)
+        }
+        _ => Err(RowsFault::BadValue),
+    }
+}
+
+/// Adds the rows of an object's members at a path, whose node is the parent, or which is the root.
+#[cycle(walk)]
+fn add_members(
+    alloc: Global,
+    schema: &Schema,
+    parent: Option<NodeId>,
+    here: &Path,
+    members: &Map<String, Json>,
+    rows: &mut Rows,
+) -> Result<(), RowsFault>
+    requires within { ForSome parent (λ id. id.0 < length schema.now) }
+    requires named { names_above schema.now parent ≡ names_of here.now }
+    ensures ok { OnOk result (members_at schema.now here.now [] rows.old (members_view members.now.entries) ≡ Ok rows.new) }
+    ensures fault { IfErr result (λ fault. fault ≢ RowsFault.NoMemory → members_at schema.now here.now [] rows.old (members_view members.now.entries) ≡ Err fault) }
+{
+    let mut seen: Texts = Seq::empty(alloc);
+    for (text, json) in members.iter() {
+        let id = fresh_child(schema, parent, &seen, text.as_str())?;
+        let name = spelling_of(text.as_str()).name;
+        add_node(alloc, schema, id, schema.node(id), here, name, json, rows)?;
+        seen.push(text_of(alloc, name)?)?;
+    }
+    Ok(())
+}
+
+/// Adds the rows of a list's entries.
+#[cycle(walk)]
+fn add_entries(
+    alloc: Global,
+    schema: &Schema,
+    id: NodeId,
+    node: &Node,
+    above: &Path,
+    name: &str,
+    items: &Vec<Json>,
+    rows: &mut Rows,
+) -> Result<(), RowsFault>
+    requires within { id.0 < length schema.now }
+    requires named { names_at schema.now id.0 ≡ names_of above.now ++ name.now ∷ [] }
+    ensures ok { OnOk result (entries_at schema.now node.now above.now name.now [] rows.old (items_view items.now.items) ≡ Ok rows.new) }
+    ensures fault { IfErr result (λ fault. fault ≢ RowsFault.NoMemory → entries_at schema.now node.now above.now name.now [] rows.old (items_view items.now.items) ≡ Err fault) }
+{
+    let mut seen = SeenKeys::empty(alloc);
+    for item in items {
+        let keys = keys_of(alloc, schema, id, node.keys().items(), item)?;
+        add_keys(alloc, &mut seen, &keys)?;
+        let here = below(alloc, above, name, keys)?;
+        add_object(alloc, schema, Some(id), &here, item, rows)?;
+    }
+    Ok(())
+}
+
+/// Adds the rows of an object at the path of a list's entry, or of the root.
+#[cycle(walk)]
+pub(crate) fn add_object(
+    alloc: Global,
+    schema: &Schema,
+    parent: Option<NodeId>,
+    here: &Path,
+    json: &Json,
+    rows: &mut Rows,
+) -> Result<(), RowsFault>
+    requires within { ForSome parent (λ id. id.0 < length schema.now) }
+    requires named { names_above schema.now parent ≡ names_of here.now }
+    ensures ok { OnOk result (object_at schema.now here.now rows.old (view json.now) ≡ Ok rows.new) }
+    ensures fault { IfErr result (λ fault. fault ≢ RowsFault.NoMemory → object_at schema.now here.now rows.old (view json.now) ≡ Err fault) }
+{
+    match json {
+        Json::Object(members) => add_members(alloc, schema, parent, here, members, rows),
+        _ => Err(RowsFault::BadValue),
+    }
+}
