@@ -1,0 +1,15 @@
+//! The JSON that the rows of a configuration tree are (RFC 7951).
+#![tactic(auto)]
+
+mod laws;
+mod leaves;
+mod runs;
+#[cfg(test)]
+mod tests;
+mod trees;
+mod valid_laws;
+
+pub use laws::{leaf_lists_read_back, leaves_read_back, trees_read_back};
+pub use leaves::leaf_json;
+pub use trees::json_of;
+pub use valid_laws::valid_trees_have_parts;
