@@ -1,0 +1,10 @@
+pub mod Actions
+pub mod Examples
+pub mod KeyValues
+pub mod Numbers
+pub mod Operations
+pub mod Resolving
+pub mod Results
+pub mod Scalars
+pub mod Values
+pub mod Walking

@@ -1,0 +1,122 @@
+// What a request asks for beside its operations.
+ghost use Rattle.std.specs.Prelude.{◌≡◌, IfOk};
+ghost use Rattle.set_txn.specs.Actions.{has_operations, is_mixed, is_id, has_good_id, nanoseconds, duration, action_duration, ask_of};
+ghost use Rattle.set_txn.specs.Resolving.{action_told};
+
+use crate::numbers::natural;
+use base_kinds::{Action, Ask, Copied, NoMemory, Ops, Refusal, SetAsk, Span, Text};
+use std::alloc::Global;
+
+/// How long a trial lasts where the request doesn't say, in nanoseconds.
+const ABSENT_DURATION: u64 = 600_000_000_000;
+
+const LEAST_DURATION: u64 = 1_000_000_000;
+
+const MOST_DURATION: u64 = 86_400_000_000_000;
+
+const SECOND: u64 = 1_000_000_000;
+
+/// The duration of the request's action in nanoseconds, once the action is one that may be asked; 0 where it has none.
+pub(crate) fn action_of(ask: &SetAsk) -> Result<u64, Refusal>
+    ensures { result ≡ action_told ask.now }
+{
+    if ask.unsupported {
+        return Err(Refusal::Unsupported);
+    }
+    if is_mixed(&ask.action, has_operations(ask)) {
+        return Err(Refusal::MixedAction);
+    }
+    if !has_good_id(&ask.action) {
+        return Err(Refusal::BadId);
+    }
+    match action_duration(&ask.action) {
+        Some(nanos) => Ok(nanos),
+        None => Err(Refusal::BadDuration),
+    }
+}
+
+/// The ask of an action with these operations and this duration.
+pub(crate) fn ask_of(alloc: Global, action: &Action, ops: Ops, nanos: u64) -> Result<Ask, NoMemory>
+    ensures { IfOk result (λ ask. ask ≡ ask_of action.now ops nanos) }
+{
+    match action {
+        Action::Trial(id, _) => Ok(Ask::Trial(id.copy(alloc)?, ops, nanos)),
+        Action::Confirm(id) => Ok(Ask::Confirm(id.copy(alloc)?)),
+        Action::Cancel(id) => Ok(Ask::Cancel(id.copy(alloc)?)),
+        Action::Extend(id, _) => Ok(Ask::Extend(id.copy(alloc)?, nanos)),
+        Action::Plain | Action::Mixed => Ok(Ask::Apply(ops)),
+    }
+}
+
+fn has_operations(ask: &SetAsk) -> bool
+    ensures { result ≡ has_operations ask.now }
+{
+    ask.deletes.len() != 0 || ask.replaces.len() != 0 || ask.updates.len() != 0
+}
+
+/// Whether there is more than one action, a commit without one, or operations beside an action that has none.
+fn is_mixed(action: &Action, operations: bool) -> bool
+    ensures { result ≡ is_mixed action.now operations }
+{
+    match action {
+        Action::Mixed => true,
+        Action::Confirm(_) | Action::Cancel(_) | Action::Extend(_, _) => operations,
+        Action::Plain | Action::Trial(_, _) => false,
+    }
+}
+
+fn has_good_id(action: &Action) -> bool
+    ensures { result ≡ has_good_id action.now }
+{
+    match action {
+        Action::Trial(id, _) => is_id(id),
+        Action::Confirm(id) => is_id(id),
+        Action::Cancel(id) => is_id(id),
+        Action::Extend(id, _) => is_id(id),
+        Action::Plain | Action::Mixed => true,
+    }
+}
+
+/// Whether it has 1 to 64 octets.
+fn is_id(id: &Text) -> bool
+    ensures { result ≡ is_id id.now }
+{
+    let length = id.octets().len();
+    1 <= length && length <= 64
+}
+
+/// The duration of the action in nanoseconds; 0 where it has none.
+fn action_duration(action: &Action) -> Option<u64>
+    ensures { result ≡ action_duration action.now }
+{
+    match action {
+        Action::Trial(_, span) => duration(span),
+        Action::Extend(_, span) => duration(span),
+        Action::Plain | Action::Confirm(_) | Action::Cancel(_) | Action::Mixed => Some(0),
+    }
+}
+
+fn duration(span: &Span) -> Option<u64>
+    ensures { result ≡ duration span.now }
+{
+    match span {
+        Span::Absent => Some(ABSENT_DURATION),
+        Span::Of(seconds, nanos) => nanoseconds(*seconds, *nanos),
+    }
+}
+
+/// The nanoseconds of 1 s to 86,400 s in all.
+fn nanoseconds(seconds: i64, nanos: i64) -> Option<u64>
+    ensures { result ≡ nanoseconds seconds nanos }
+{
+    let seconds = natural(seconds)?;
+    let nanos = natural(nanos)?;
+    if nanos >= SECOND {
+        return None;
+    }
+    let all = seconds.checked_mul(SECOND)?.checked_add(nanos)?;
+    if all < LEAST_DURATION || all > MOST_DURATION {
+        return None;
+    }
+    Some(all)
+}

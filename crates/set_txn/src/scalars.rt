@@ -1,0 +1,111 @@
+// Which value of a shape a scalar stands for.
+ghost use Rattle.std.specs.Prelude.{◌≡◌, ◌^◌, [], false, nat_lt, Some, IfOk};
+ghost use Rattle.std.specs.List.{list_any};
+ghost use Rattle.std.specs.Str.{bytes_eq};
+ghost use Rattle.base_kinds.specs.declared.value.Value.TheVariants as values;
+ghost use Rattle.base_kinds.specs.Values.{fits_signed, has_shape};
+ghost use Rattle.set_txn.specs.Numbers.{natural, held};
+ghost use Rattle.set_txn.specs.Results.{then_some, when};
+ghost use Rattle.set_txn.specs.Scalars.{decimal_with, in_shape, in_shapes};
+
+use crate::numbers::{digits_with, held, natural};
+use base_kinds::{Copied, NoMemory, Seq, Shape, Text, Value, Values};
+use std::alloc::Global;
+use value_core::check_value;
+
+/// The value of a leaf of this shape that the scalar stands for.
+pub(crate) fn in_shape(
+    alloc: Global,
+    shape: &Shape,
+    value: &Value,
+) -> Result<Option<Value>, NoMemory>
+    ensures { IfOk result (λ found. found ≡ in_shape shape.now value.now) }
+{
+    match (shape, value) {
+        (Shape::Int(_), Value::Uint(number)) => Ok(signed_in(shape, *number)),
+        (Shape::Uint(_), Value::Int(number)) => Ok(unsigned_in(shape, *number)),
+        (Shape::Dec(places), Value::Dec(digits, others)) => {
+            Ok(decimal_with(*places, *digits, *others))
+        }
+        (Shape::Enum(texts), Value::Text(text)) => listed_in(alloc, texts.items(), text),
+        _ => kept_in(alloc, shape, value),
+    }
+}
+
+/// The values of a leaf-list of this shape that the scalars stand for, in their order.
+pub(crate) fn in_shapes(
+    alloc: Global,
+    shape: &Shape,
+    scalars: &[Value],
+) -> Result<Option<Values>, NoMemory>
+    ensures { IfOk result (λ found. found ≡ in_shapes shape.now [] scalars.now) }
+{
+    let mut done = Seq::empty(alloc);
+    for scalar in scalars {
+        let Some(value) = in_shape(alloc, shape, scalar)? else {
+            return Ok(None);
+        };
+        done.push(value)?;
+    }
+    Ok(Some(done))
+}
+
+/// A number without a sign at a leaf of numbers with one.
+fn signed_in(shape: &Shape, number: u64) -> Option<Value>
+    ensures { result ≡ then_some (held false number) (λ n. when (has_shape shape.now (values.Int n)) (values.Int n)) }
+{
+    let value = Value::Int(held(false, number)?);
+    if check_value(shape, &value) {
+        Some(value)
+    } else {
+        None
+    }
+}
+
+/// A number with a sign at a leaf of numbers without one.
+fn unsigned_in(shape: &Shape, number: i64) -> Option<Value>
+    ensures { result ≡ then_some (natural number) (λ n. when (has_shape shape.now (values.Uint n)) (values.Uint n)) }
+{
+    let value = Value::Uint(natural(number)?);
+    if check_value(shape, &value) {
+        Some(value)
+    } else {
+        None
+    }
+}
+
+/// The equal decimal with so many places behind the point.
+fn decimal_with(places: u8, digits: i64, others: u8) -> Option<Value>
+    ensures { result ≡ decimal_with places digits others }
+{
+    let moved = digits_with(digits, others, places)?;
+    Some(Value::Dec(moved, places))
+}
+
+/// The text as a value of an enum that lists it.
+fn listed_in(alloc: Global, texts: &[Text], text: &Text) -> Result<Option<Value>, NoMemory>
+    ensures { IfOk result (λ found. found ≡ when (list_any (bytes_eq text.now) texts.now) (values.Enum text.now)) }
+{
+    if is_listed(text, texts) {
+        Ok(Some(Value::Enum(text.copy(alloc)?)))
+    } else {
+        Ok(None)
+    }
+}
+
+fn is_listed(text: &Text, texts: &[Text]) -> bool
+    ensures { result ≡ list_any (bytes_eq text.now) texts.now }
+{
+    texts.iter().any(|other| text.octets() == other.octets())
+}
+
+/// The value as it is, where it has the shape.
+fn kept_in(alloc: Global, shape: &Shape, value: &Value) -> Result<Option<Value>, NoMemory>
+    ensures { IfOk result (λ found. found ≡ when (has_shape shape.now value.now) value.now) }
+{
+    if check_value(shape, value) {
+        Ok(Some(value.copy(alloc)?))
+    } else {
+        Ok(None)
+    }
+}
