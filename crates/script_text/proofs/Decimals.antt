@@ -1,15 +1,26 @@
 -- What the digits of a number begin with, and what `parse` reads of them.
-use Rattle.std.proofs.Common.{◌≡◌, ℕ, ◌<◌, ◌^◌, List, [], ◌∷◌, ◌⊎◌, true, false, not, ◌&&◌, ◌||◌, eqb, length, get_or, inl, inr, ⊎_elim, sym, ap, ◌∙◌, Result, Ok, Err, Option, IfSome, IfNone, arith}
+use Rattle.std.proofs.Common.{◌≡◌, ℕ, ◌<◌, ◌^◌, List, [], ◌∷◌, ◌⊎◌, true, false, not, ◌&&◌, ◌||◌, eqb, leb, length, get_or, inl, inr, refl, ⊎_elim, sym, ap, ◌∙◌, Result, Ok, Err, Option, IfSome, IfNone, arith}
 use Rattle.std.specs.Fmt.{decimal}
+use Rattle.std.specs.List.{list_all}
+use Rattle.base_kinds.specs.Texts.{is_within}
 use Rattle.std.specs.Result.{result_ok}
 use Rattle.std.specs.Str.Parse.{ParsesUnsigned, AllDigits, digits_value}
-use Rattle.std.proofs.lemmas.Fmt.{decimal_digit, first_decimal, decimal_nonempty, parse-decimal, decimal-digits_value}
+use Rattle.std.proofs.lemmas.Fmt.{decimal_digit, first_decimal, decimal_nonempty, parse-decimal, decimal-digits_value, digits_decimal}
 use Rattle.std.proofs.lemmas.Str.Parse.{IsNumeralModel, numerals_by_value, tells_digits, parse_plain}
-use Rattle.std.proofs.lemmas.Bool.{and_parts, and_from, or_cases, or_left, or_right, not-true, not_from_false, eqb-true, eqb-false, ne_eqb, eq-eqb, cases_order, both_ways}
+use Rattle.std.proofs.lemmas.Bool.{and_parts, and_from, or_cases, or_left, or_right, not-true, not_from_false, eqb-true, eqb-false, ne_eqb, eq-eqb, cases_order, both_ways, le-leb}
 use Rattle.script_text.specs.Numbers.{begins_plainly}
+
+digits : (octets : List ℕ) → AllDigits 10 octets → list_all (is_within 48 57) octets ≡ true
+digits [] all = refl
+digits (octet ∷ octets) all =
+    let parts = tells_digits.parts octet octets all in
+    and_from (is_within 48 57 octet) (list_all (is_within 48 57) octets) (and_from (leb 48 octet) (leb octet 57) (le-leb 48 octet parts.0.0) (le-leb octet 57 parts.0.1)) (digits octets parts.1)
 
 own : IsNumeralModel (AllDigits 10) (digits_value 10)
 own = numerals_by_value (AllDigits 10) tells_digits
+
+pub all_digits : (n : ℕ) → n < 2 ^ 64 → list_all (is_within 48 57) (decimal n) ≡ true
+all_digits n small = digits (decimal n) (digits_decimal own n small)
 
 first_digit : (n : ℕ) → n < 2 ^ 64 → ((get_or (decimal n) 0 0 ≡ 48) × (length (decimal n) ≡ 1)) ⊎ (48 < get_or (decimal n) 0 0)
 first_digit n small =

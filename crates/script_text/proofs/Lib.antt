@@ -1,7 +1,12 @@
+pub mod Authors
 pub mod Cuts
 pub mod Decimals
 pub mod Faults
 pub mod FirstLines
+pub mod LinesMeant
 pub mod Meanings
 pub mod NameTexts
-pub mod NamesRead
+pub mod OneMeanings
+pub mod Spaceless
+pub mod WordByWord
+pub mod WorkedLines

@@ -1,69 +1,70 @@
 -- Octets are one line at most.
-use Rattle.std.proofs.Common.{◌≡◌, ℕ, List, [], ◌∷◌, ◌++◌, codes, IsTrue, drop, refl, sym, ap, ◌∙◌, arith}
-use Rattle.std.specs.Fmt.{decimal}
-use Rattle.std.specs.List.{list_all}
-use Rattle.std.proofs.lemmas.Fmt.{decimal_injective}
-use Rattle.std.proofs.lemmas.List.{append_cancel_left, append_cancel_right}
+use Rattle.std.proofs.Common.{◌≡◌, ℕ, List, [], Bool, false}
 use Rattle.base_kinds.specs.declared.path.Elem.{Elem}
+use Rattle.base_kinds.specs.declared.operation.Act.{Act}
+use Rattle.base_kinds.specs.declared.operation.Act.TheVariants as acts
+use Rattle.base_kinds.specs.declared.request.Span.{Span}
+use Rattle.base_kinds.specs.declared.request.SubMode.{SubMode}
+use Rattle.base_kinds.specs.declared.request.SubMode.TheVariants as sub_modes
+use Rattle.path_core.specs.PathText.{IsPathText, IsValueText}
+use Rattle.script_text.specs.declared.keywords.Keyword.{Keyword}
+use Rattle.script_text.specs.declared.keywords.Keyword.TheVariants as keywords
 use Rattle.script_text.specs.declared.line.Line.{Line}
-use Rattle.script_text.specs.declared.line.Line.TheVariants.{At, Update, Set}
-use Rattle.script_text.specs.Grammar.{IsMeant, IsLine, IsPlainPath, spelling, names_text, between_quotes, is_quotable}
-use Rattle.script_text.specs.Parts.{IsCut}
-use Rattle.script_text.specs.Update.{IsUpdate}
-use Rattle.script_text.proofs.Cuts.{same_parts}
-use Rattle.script_text.proofs.NameTexts.{names_lack_space, same_names}
+use Rattle.script_text.specs.declared.line.Line.TheVariants as lines
+use Rattle.script_text.specs.Fields.{IsKeyword, IsNumber, IsAuthor, IsName, IsSpan, IsSubMode, IsListMode, IsFlag, IsFill, IsRest}
+use Rattle.script_text.specs.Grammar.{Then, Last, IsChange, IsNamed, IsTimed, IsSubscription, Says, IsLine}
+use Rattle.script_text.proofs.OneMeanings.{one_number, number_kind, author_kind, name_kind, one_fill, one_span, sub_mode_kind, list_mode_kind, one_flag, keyword_kind, one_rest}
+use Rattle.script_text.proofs.Spaceless.{path_kind, id_kind}
+use Rattle.script_text.proofs.WordByWord.{OneLine, one_then, one_last}
 
-pub same_text : (text text' : List ℕ) → between_quotes text ≡ between_quotes text' → text ≡ text'
-same_text text text' e =
-    let tails : text ++ 34 ∷ [] ≡ text' ++ 34 ∷ [] = cc in
-    append_cancel_right text text' (34 ∷ []) tails
+one_change : (act : Act) → OneLine (IsChange act)
+one_change act = one_then IsPathText path_kind (λ path. Last IsRest (λ value. lines.Add act path value)) (λ path. one_last IsRest one_rest (λ value. lines.Add act path value))
 
-first_octets : (m n : ℕ) (xs ys : List ℕ) → m ∷ xs ≡ n ∷ ys → m ≡ n
-first_octets m n xs ys e = cc
+one_named : (make : ℕ → List ℕ → Line) → OneLine (IsNamed make)
+one_named make = one_then IsAuthor author_kind (λ author. Last IsValueText (λ id. make author id)) (λ author. one_last IsValueText id_kind.one (λ id. make author id))
 
-pub same_line : (a b : Line) → IsMeant a → IsMeant b → spelling a ≡ spelling b → a ≡ b
-same_line (At m) (At n) small small' e = ap At (decimal_injective m n small small' (append_cancel_left (codes "at ") (decimal m) (decimal n) e))
-same_line (At m) (Update path text) _ _ e = let h = first_octets 97 117 _ _ e in absurd (omega arith)
-same_line (At m) (Set author) _ _ e = let h = first_octets 97 115 _ _ e in absurd (omega arith)
-same_line (Update path text) (At n) _ _ e = let h = first_octets 117 97 _ _ e in absurd (omega arith)
-same_line (Update path text) (Update path' text') meant meant' e =
-    let after = append_cancel_left (codes "update ") (names_text path ++ 32 ∷ between_quotes text) (names_text path' ++ 32 ∷ between_quotes text') e in
-    let parts = same_parts 32 (names_text path) (32 ∷ between_quotes text) (names_text path') (32 ∷ between_quotes text') after (names_lack_space path meant.0.each) refl (names_lack_space path' meant'.0.each) refl in
-    let quoted : between_quotes text ≡ between_quotes text' = ap (λ r. drop 1 r) parts.1 in
-    let paths = same_names path path' meant.0.each meant'.0.each parts.0 in
-    let texts = same_text text text' quoted in
-    ap (λ p. Update p text) paths ∙ ap (λ t. Update path' t) texts
-same_line (Update path text) (Set author) _ _ e = let h = first_octets 117 115 _ _ e in absurd (omega arith)
-same_line (Set author) (At n) _ _ e = let h = first_octets 115 97 _ _ e in absurd (omega arith)
-same_line (Set author) (Update path text) _ _ e = let h = first_octets 115 117 _ _ e in absurd (omega arith)
-same_line (Set m) (Set n) meant meant' e = ap Set (decimal_injective m n (omega (arith, meant.1)) (omega (arith, meant'.1)) (append_cancel_left (codes "set ") (decimal m) (decimal n) e))
+one_timed : (make : ℕ → List ℕ → Span → Line) → OneLine (IsTimed make)
+one_timed make =
+    one_then IsAuthor author_kind (λ author. Then IsValueText (λ id. Last IsSpan (λ span. make author id span)))
+    (λ author. one_then IsValueText id_kind (λ id. Last IsSpan (λ span. make author id span)) (λ id. one_last IsSpan one_span (λ span. make author id span)))
+
+abbrev sampled : List Elem → ℕ → ℕ → Bool → Line
+sampled path interval heartbeat suppress = lines.Sub (record { path = path; mode = sub_modes.Sample; interval = interval; suppress = suppress; heartbeat = heartbeat })
+
+one_subscription : (path : List Elem) (mode : SubMode) → OneLine (IsSubscription path mode)
+one_subscription path sub_modes.Change = one_last IsNumber one_number (λ heartbeat. lines.Sub (record { path = path; mode = sub_modes.Change; interval = 0; suppress = false; heartbeat = heartbeat }))
+one_subscription path sub_modes.Sample =
+    one_then IsNumber number_kind (λ interval. Then IsNumber (λ heartbeat. Last IsFlag (sampled path interval heartbeat)))
+    (λ interval. one_then IsNumber number_kind (λ heartbeat. Last IsFlag (sampled path interval heartbeat)) (λ heartbeat. one_last IsFlag one_flag (sampled path interval heartbeat)))
+one_subscription path sub_modes.Other = λ octets a b is is'. absurd is
+
+one_open : OneLine (Says keywords.Open)
+one_open =
+    one_then IsAuthor author_kind (λ author. Then IsName (λ name. Then IsListMode (λ mode. Last IsFlag (λ only. lines.Open author name mode only))))
+    (λ author. one_then IsName name_kind (λ name. Then IsListMode (λ mode. Last IsFlag (λ only. lines.Open author name mode only)))
+    (λ name. one_then IsListMode list_mode_kind (λ mode. Last IsFlag (λ only. lines.Open author name mode only))
+    (λ mode. one_last IsFlag one_flag (λ only. lines.Open author name mode only))))
+
+one_said : (keyword : Keyword) → OneLine (Says keyword)
+one_said keywords.At = one_last IsNumber one_number (λ reading. lines.At reading)
+one_said keywords.Delete = one_last IsPathText path_kind.one (λ path. lines.Add acts.Delete path [])
+one_said keywords.Replace = one_change acts.Replace
+one_said keywords.Update = one_change acts.Update
+one_said keywords.Set = one_last IsAuthor author_kind.one (λ author. lines.Set author)
+one_said keywords.Trial = one_timed (λ author id span. lines.Trial author id span)
+one_said keywords.Confirm = one_named (λ author id. lines.Confirm author id)
+one_said keywords.Cancel = one_named (λ author id. lines.Cancel author id)
+one_said keywords.Extend = one_timed (λ author id span. lines.Extend author id span)
+one_said keywords.Get = one_then IsAuthor author_kind (λ author. Last IsPathText (λ path. lines.Get author path)) (λ author. one_last IsPathText path_kind.one (λ path. lines.Get author path))
+one_said keywords.Sub =
+    one_then IsPathText path_kind (λ path. Then IsSubMode (λ mode. IsSubscription path mode))
+    (λ path. one_then IsSubMode sub_mode_kind (λ mode. IsSubscription path mode) (λ mode. one_subscription path mode))
+one_said keywords.Open = one_open
+one_said keywords.Turn = one_last IsName name_kind.one (λ name. lines.Turn name)
+one_said keywords.Poll = one_last IsName name_kind.one (λ name. lines.Poll name)
+one_said keywords.End = one_last IsName name_kind.one (λ name. lines.End name)
+one_said keywords.Stop = one_then IsNumber number_kind (λ calls. Last IsFill (λ fill. lines.Stop calls fill)) (λ calls. one_last IsFill one_fill (λ fill. lines.Stop calls fill))
+one_said keywords.Fail = one_last IsNumber one_number (λ calls. lines.Fail calls)
 
 pub one_meaning : (octets : List ℕ) (a b : Line) → IsLine octets a → IsLine octets b → a ≡ b
-one_meaning octets a b is is' = same_line a b is.meant is'.meant (sym is.spelled ∙ is'.spelled)
-
--- the cut before the first space of an update stands between its path and its value
-pub update_cut : (octets names spaced : List ℕ) → IsCut 32 octets names spaced → (line : Line) → IsUpdate octets line → (path : List Elem) × ((text : List ℕ) × (IsMeant (Update path text) × ((names ≡ names_text path) × (spaced ≡ 32 ∷ between_quotes text))))
-update_cut octets names spaced cut (At reading) is = absurd is
-update_cut octets names spaced cut (Set author) is = absurd is
-update_cut octets names spaced cut (Update path text) is =
-    let parts = same_parts 32 names spaced (names_text path) (32 ∷ between_quotes text) (sym cut.whole ∙ is.1) cut.lacking cut.begins (names_lack_space path is.0.0.each) refl in
-    (path, (text, (is.0, parts)))
-
-pub no_path : (octets names spaced : List ℕ) → IsCut 32 octets names spaced → ((path : List Elem) → IsPlainPath path → names ≡ names_text path → ⊥) → (line : Line) → IsUpdate octets line → ⊥
-no_path octets names spaced cut refused line is =
-    let parts = update_cut octets names spaced cut line is in
-    refused parts.0 parts.1.1.0.0 parts.1.1.1.0
-
-pub no_value : (octets names spaced quoted : List ℕ) → IsCut 32 octets names spaced → spaced ≡ 32 ∷ quoted → ((text : List ℕ) → IsTrue (list_all is_quotable text) → quoted ≡ between_quotes text → ⊥) → (line : Line) → IsUpdate octets line → ⊥
-no_value octets names spaced quoted cut begun refused line is =
-    let parts = update_cut octets names spaced cut line is in
-    let same : quoted ≡ between_quotes parts.1.0 = ap (λ r. drop 1 r) (sym begun ∙ parts.1.1.1.1) in
-    refused parts.1.0 parts.1.1.0.1 same
-
-first_octet_of : (octets xs ys : List ℕ) (m n : ℕ) → octets ≡ m ∷ xs → octets ≡ n ∷ ys → m ≡ n
-first_octet_of octets xs ys m n is is' = first_octets m n xs ys (sym is ∙ is')
-
-pub no_update : (octets update : List ℕ) → octets ≡ codes "update " ++ update → ((line : Line) → IsUpdate update line → ⊥) → (line : Line) → IsLine octets line → ⊥
-no_update octets update begun refused (At n) is = let h = first_octet_of octets _ _ 117 97 begun is.spelled in absurd (omega arith)
-no_update octets update begun refused (Update path text) is = refused (Update path text) (is.meant, append_cancel_left (codes "update ") update (names_text path ++ 32 ∷ between_quotes text) (sym begun ∙ is.spelled))
-no_update octets update begun refused (Set author) is = let h = first_octet_of octets _ _ 117 115 begun is.spelled in absurd (omega arith)
+one_meaning octets a b is is' = one_then IsKeyword keyword_kind Says one_said octets a b is.said is'.said

@@ -1,9 +1,8 @@
--- The grammar on worked examples.
-use Rattle.std.specs.Prelude.{◌≡◌, [], ◌∷◌, codes, refl, true, false}
+-- The words of lines on worked examples.
+use Rattle.std.specs.Prelude.{◌≡◌, ◌-◌, ◌^◌, [], ◌∷◌, codes, refl, true, false, min}
+use Rattle.base_kinds.specs.Texts.{is_key_octet, escaped}
+use Rattle.script_text.specs.Fields.{is_name}
 use Rattle.script_text.specs.Lines.{lines_of}
-use Rattle.script_text.specs.Grammar.{is_name, spelling}
-use Rattle.script_text.specs.declared.line.Line.TheVariants.{Update}
-use Rattle.base_kinds.specs.Examples.{hostname}
 
 -- the last line feed ends the last line, and begins no other
 ended : lines_of (codes "at 1\nset 1\n") ≡ codes "at 1" ∷ codes "set 1" ∷ []
@@ -24,5 +23,13 @@ names = refl
 no_name : is_name (codes "1host") ≡ false
 no_name = refl
 
-update_line : spelling (Update hostname (codes "r1")) ≡ codes "update /system/config/hostname \"r1\""
-update_line = refl
+empty_name : is_name [] ≡ false
+empty_name = refl
+
+-- a space, `]` and `\` are escaped in the id of a trial, `[` and `/` stand for themselves
+id_text : escaped is_key_octet (codes "a [/]\\") ≡ codes "a\\20[/\\5d\\5c"
+id_text = refl
+
+-- the longest duration, and what is read of more seconds
+bounded : min (2 ^ 63) (2 ^ 63 - 1) ≡ 9223372036854775807
+bounded = refl

@@ -1,67 +1,77 @@
--- Which octets are a line of a script, and what it says. A line is spelled in one way alone, by its words with one
--- space between two of them: `at N`, `update PATH VALUE` and `set A`.
-use Rattle.std.specs.Prelude.{◌≡◌, ℕ, ◌<◌, ◌≤◌, ◌^◌, List, [], ◌∷◌, ◌++◌, Bool, false, not, ◌&&◌, ◌||◌, ◌==◌, nat_le, codes, length, IsTrue}
-use Rattle.std.specs.List.{list_all, flat_map}
-use Rattle.std.specs.Fmt.{decimal}
+-- Which octets are a line of a script, and what it says: a keyword and what belongs to it, with one space between two
+-- words.
+use Rattle.std.specs.Prelude.{◌≡◌, ℕ, ◌≤◌, List, [], ◌∷◌, ◌++◌, false, length}
 use Rattle.base_kinds.specs.declared.path.Elem.{Elem}
-pub use Rattle.base_kinds.specs.Texts.{is_within}
-use Rattle.base_kinds.specs.Texts.{is_quoted_octet}
+use Rattle.base_kinds.specs.declared.operation.Act.{Act}
+use Rattle.base_kinds.specs.declared.operation.Act.TheVariants as acts
+use Rattle.base_kinds.specs.declared.request.SubMode.{SubMode}
+use Rattle.base_kinds.specs.declared.request.SubMode.TheVariants as sub_modes
+use Rattle.base_kinds.specs.declared.request.Span.{Span}
+use Rattle.path_core.specs.PathText.{IsPathText, IsValueText}
+use Rattle.script_text.specs.declared.keywords.Keyword.{Keyword}
+use Rattle.script_text.specs.declared.keywords.Keyword.TheVariants as keywords
 use Rattle.script_text.specs.declared.line.Line.{Line}
-use Rattle.script_text.specs.declared.line.Line.TheVariants.{At, Update, Set}
+use Rattle.script_text.specs.declared.line.Line.TheVariants as lines
+use Rattle.script_text.specs.Fields.{IsKeyword, IsNumber, IsAuthor, IsName, IsSpan, IsSubMode, IsListMode, IsFlag, IsFill, IsRest}
 
--- a letter of ASCII or `_`
-abbrev pub begins_name : ℕ → Bool
-begins_name octet = is_within 65 90 octet || is_within 97 122 octet || octet == 95
+-- a word that says this, a space, and the rest
+pub record IsFront {A : Type 0} (Word : List ℕ → A → Type 0) (octets : List ℕ) (value : A) (rest : List ℕ) : Type 0 where
+  pub word : List ℕ
+  pub whole : octets ≡ word ++ 32 ∷ rest
+  pub is : Word word value
 
--- a letter, a digit, `_`, `.` or `-`
-abbrev pub is_in_name : ℕ → Bool
-is_in_name octet = begins_name octet || is_within 48 57 octet || octet == 46 || octet == 45
+-- such a word, and a rest that makes it this line
+pub record Then {A : Type 0} (Word : List ℕ → A → Type 0) (Next : A → List ℕ → Line → Type 0) (octets : List ℕ) (line : Line) : Type 0 where
+  pub value : A
+  pub rest : List ℕ
+  pub front : IsFront Word octets value rest
+  pub next : Next value rest line
 
--- a letter or `_`, and up to 63 letters, digits, `_`, `.` or `-`
-abbrev pub is_name : List ℕ → Bool
-is_name [] = false
-is_name (octet ∷ octets) = begins_name octet && list_all is_in_name octets && nat_le (length octets) 63
+-- all of the octets say the last value of the line
+pub record Last {A : Type 0} (Word : List ℕ → A → Type 0) (make : A → Line) (octets : List ℕ) (line : Line) : Type 0 where
+  pub value : A
+  pub is : Word octets value
+  pub made : line ≡ make value
 
--- an element with a name and no keys
-abbrev pub IsPlain : Elem → Type 0
-IsPlain elem = IsTrue (is_name elem.name) × (elem.keys ≡ [])
+-- `PATH VALUE`, the value being the rest of the line
+abbrev pub IsChange : Act → List ℕ → Line → Type 0
+IsChange act = Then IsPathText (λ path. Last IsRest (λ value. lines.Add act path value))
 
-abbrev pub ArePlain : List Elem → Type 0
-ArePlain [] = Unit {0}
-ArePlain (elem ∷ elems) = IsPlain elem × ArePlain elems
+-- `A ID`
+abbrev pub IsNamed : (ℕ → List ℕ → Line) → List ℕ → Line → Type 0
+IsNamed make = Then IsAuthor (λ author. Last IsValueText (λ id. make author id))
 
--- 1 to 32 names
-pub record IsPlainPath (path : List Elem) : Type 0 where
-  pub each : ArePlain path
-  pub some : 1 ≤ length path
-  pub most : length path ≤ 32
+-- `A ID SECONDS`; the id may be empty
+abbrev pub IsTimed : (ℕ → List ℕ → Span → Line) → List ℕ → Line → Type 0
+IsTimed make = Then IsAuthor (λ author. Then IsValueText (λ id. Last IsSpan (λ span. make author id span)))
 
--- `/NAME` for each element
-abbrev pub names_text : List Elem → List ℕ
-names_text path = flat_map (λ elem. 47 ∷ elem.name) path
+-- `HEARTBEAT` behind `change`, and `INTERVAL HEARTBEAT SUPPRESS` behind `sample`
+abbrev pub IsSubscription : List Elem → SubMode → List ℕ → Line → Type 0
+IsSubscription path sub_modes.Change = Last IsNumber (λ heartbeat. lines.Sub (record { path = path; mode = sub_modes.Change; interval = 0; suppress = false; heartbeat = heartbeat }))
+IsSubscription path sub_modes.Sample = Then IsNumber (λ interval. Then IsNumber (λ heartbeat. Last IsFlag (λ suppress. lines.Sub (record { path = path; mode = sub_modes.Sample; interval = interval; suppress = suppress; heartbeat = heartbeat }))))
+IsSubscription path sub_modes.Other = λ octets line. ⊥
 
--- an octet from space to `~`, but neither `"` nor `\`
-abbrev pub is_quotable : ℕ → Bool
-is_quotable octet = is_quoted_octet octet
+-- what follows each keyword
+abbrev pub Says : Keyword → List ℕ → Line → Type 0
+Says keywords.At = Last IsNumber (λ reading. lines.At reading)
+Says keywords.Delete = Last IsPathText (λ path. lines.Add acts.Delete path [])
+Says keywords.Replace = IsChange acts.Replace
+Says keywords.Update = IsChange acts.Update
+Says keywords.Set = Last IsAuthor (λ author. lines.Set author)
+Says keywords.Trial = IsTimed (λ author id span. lines.Trial author id span)
+Says keywords.Confirm = IsNamed (λ author id. lines.Confirm author id)
+Says keywords.Cancel = IsNamed (λ author id. lines.Cancel author id)
+Says keywords.Extend = IsTimed (λ author id span. lines.Extend author id span)
+Says keywords.Get = Then IsAuthor (λ author. Last IsPathText (λ path. lines.Get author path))
+Says keywords.Sub = Then IsPathText (λ path. Then IsSubMode (λ mode. IsSubscription path mode))
+Says keywords.Open = Then IsAuthor (λ author. Then IsName (λ name. Then IsListMode (λ mode. Last IsFlag (λ only. lines.Open author name mode only))))
+Says keywords.Turn = Last IsName (λ name. lines.Turn name)
+Says keywords.Poll = Last IsName (λ name. lines.Poll name)
+Says keywords.End = Last IsName (λ name. lines.End name)
+Says keywords.Stop = Then IsNumber (λ calls. Last IsFill (λ fill. lines.Stop calls fill))
+Says keywords.Fail = Last IsNumber (λ calls. lines.Fail calls)
 
--- the text between two `"`
-abbrev pub between_quotes : List ℕ → List ℕ
-between_quotes text = 34 ∷ (text ++ 34 ∷ [])
-
--- how a line is spelled
-abbrev pub spelling : Line → List ℕ
-spelling (At reading) = codes "at " ++ decimal reading
-spelling (Update path text) = codes "update " ++ (names_text path ++ 32 ∷ between_quotes text)
-spelling (Set author) = codes "set " ++ decimal author
-
--- what its words may be: a number of 64 bits, a path of names with a text of quotable octets, an author from 1 to 4,294,967,295
-abbrev pub IsMeant : Line → Type 0
-IsMeant (At reading) = reading < 2 ^ 64
-IsMeant (Update path text) = IsPlainPath path × IsTrue (list_all is_quotable text)
-IsMeant (Set author) = (1 ≤ author) × (author < 2 ^ 32)
-
--- the octets are this line, at most 256 of them
+-- the octets are this line, at most 1,048,576 of them without the line feed
 pub record IsLine (octets : List ℕ) (line : Line) : Type 0 where
-  pub meant : IsMeant line
-  pub spelled : octets ≡ spelling line
-  pub short : length octets ≤ 256
+  pub short : length octets ≤ 1048576
+  pub said : Then IsKeyword Says octets line

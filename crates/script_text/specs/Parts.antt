@@ -14,3 +14,8 @@ pub record IsCut (separator : ℕ) (octets front rest : List ℕ) : Type 0 where
   pub whole : octets ≡ front ++ rest
   pub lacking : IsTrue (lacks separator front)
   pub begins : BeginsOrEnds separator rest
+
+-- the word before the first space, and what follows that space
+pub record IsFirstWord (octets word rest : List ℕ) : Type 0 where
+  pub whole : octets ≡ word ++ 32 ∷ rest
+  pub lacking : IsTrue (lacks 32 word)

@@ -1,6 +1,6 @@
-ghost use Rattle.std.specs.Prelude.{◌≡◌, ◌++◌, ◌==◌, not, List, ℕ, MatchOption};
+ghost use Rattle.std.specs.Prelude.{◌≡◌, ◌==◌, not, IfSome, IfNone, IsTrue};
 ghost use Rattle.std.specs.List.{prefix_len};
-ghost use Rattle.script_text.specs.Parts.{IsCut};
+ghost use Rattle.script_text.specs.Parts.{lacks, IsCut, IsFirstWord};
 
 /// What stands before the first separator, and what is left from there on.
 pub(crate) fn cut_before(octets: &[u8], separator: u8) -> (&[u8], &[u8])
@@ -18,16 +18,12 @@ fn length_before(octets: &[u8], separator: u8) -> usize
         .unwrap_or(octets.len())
 }
 
-/// What follows the front, where the octets begin with it.
-pub(crate) fn after<'a>(octets: &'a [u8], front: &[u8]) -> Option<&'a [u8]>
-    ensures { MatchOption result ((rest : List ℕ) → octets.now ≡ front.now ++ rest → ⊥) (λ rest. octets.now ≡ front.now ++ rest.now) }
+/// What stands before the first space, and what follows that space.
+pub(crate) fn split_word(octets: &[u8]) -> Option<(&[u8], &[u8])>
+    ensures some { IfSome result (λ read. IsFirstWord octets.now read.0.now read.1.now) }
+    ensures none { IfNone result (IsTrue (lacks 32 octets.now)) }
 {
-    octets.strip_prefix(front)
-}
-
-/// What stands before the end, where the octets end with it.
-pub(crate) fn before<'a>(octets: &'a [u8], end: &[u8]) -> Option<&'a [u8]>
-    ensures { MatchOption result ((front : List ℕ) → octets.now ≡ front ++ end.now → ⊥) (λ front. octets.now ≡ front.now ++ end.now) }
-{
-    octets.strip_suffix(end)
+    let (word, spaced) = cut_before(octets, b' ');
+    let (_, rest) = spaced.split_first()?;
+    Some((word, rest))
 }

@@ -1,27 +1,179 @@
-ghost use Rattle.std.specs.Prelude.{IfOk, IsErrOf};
+ghost use Rattle.std.specs.Prelude.{IfOk, IsErrOf, List, ℕ};
+ghost use Rattle.base_kinds.specs.declared.operation.Act.{Act as Doing};
+ghost use Rattle.base_kinds.specs.declared.path.Elem.{Elem as PathElem};
+ghost use Rattle.base_kinds.specs.declared.request.Span.{Span as Duration};
+ghost use Rattle.script_text.specs.declared.keywords.Keyword.TheVariants as keywords;
 ghost use Rattle.script_text.specs.declared.line.Line.{Line as ScriptLine};
-ghost use Rattle.script_text.specs.Grammar.{IsLine};
-ghost use Rattle.script_text.specs.Update.{IsUpdate};
+ghost use Rattle.script_text.specs.Grammar.{IsChange, IsNamed, IsTimed, IsSubscription, Says, IsLine};
 
+use crate::fields::{
+    read_author, read_fill, read_flag, read_id, read_number, read_path, read_span,
+};
+use crate::fronts::{
+    first_author, first_id, first_keyword, first_list_mode, first_name, first_number, first_path,
+    first_sub_mode,
+};
+use crate::keywords::Keyword;
 use crate::line::{Line, LineFault};
-use crate::numbers::{read_author, read_number};
-use crate::parts::{after, cut_before};
-use crate::paths::read_names;
-use crate::quotes::read_quoted;
+use crate::names::read_name;
+use base_kinds::{Act, Bytes, Path, Span, SubLine, SubMode, Text};
 use std::alloc::Global;
 
-/// `PATH VALUE`, what follows the word `update`.
-fn read_update(alloc: Global, octets: &[u8]) -> Result<Line, LineFault>
-    ensures ok { IfOk result (λ line. IsUpdate octets.now line) }
-    ensures no_line { IsErrOf result LineFault.NoLine → (line : ScriptLine) → IsUpdate octets.now line → ⊥ }
+/// `PATH`, what follows `delete`.
+fn read_delete(alloc: Global, octets: &[u8]) -> Result<Line, LineFault>
+    ensures ok { IfOk result (λ line. Says keywords.Delete octets.now line) }
+    ensures no_line { IsErrOf result LineFault.NoLine → (line : ScriptLine) → Says keywords.Delete octets.now line → ⊥ }
 {
-    let (names, spaced) = cut_before(octets, b' ');
-    let Some(quoted) = after(spaced, b" ") else {
-        return Err(LineFault::NoLine);
-    };
-    let path = read_names(alloc, names)?;
-    let text = read_quoted(alloc, quoted)?;
-    Ok(Line::Update(path, text))
+    let path = read_path(alloc, octets)?;
+    Ok(Line::Add(Act::Delete, path, Bytes::empty(alloc)))
+}
+
+/// `PATH VALUE`, what follows `replace` and `update`.
+fn read_change(alloc: Global, act: Act, octets: &[u8]) -> Result<Line, LineFault>
+    ensures ok { IfOk result (λ line. IsChange act octets.now line) }
+    ensures no_line { IsErrOf result LineFault.NoLine → (line : ScriptLine) → IsChange act octets.now line → ⊥ }
+{
+    let (path, rest) = first_path(alloc, octets)?;
+    let mut value = Bytes::empty(alloc);
+    value.extend_from_slice(rest)?;
+    Ok(Line::Add(act, path, value))
+}
+
+/// `A ID`, what follows `confirm` and `cancel`.
+fn read_named(alloc: Global, octets: &[u8]) -> Result<(u32, Text), LineFault>
+    ensures ok { IfOk result (λ read. (make : ℕ → List ℕ → ScriptLine) → IsNamed make octets.now (make read.0 read.1)) }
+    ensures no_line { IsErrOf result LineFault.NoLine → (make : ℕ → List ℕ → ScriptLine) (line : ScriptLine) → IsNamed make octets.now line → ⊥ }
+{
+    let (author, rest) = first_author(octets)?;
+    let id = read_id(alloc, rest)?;
+    Ok((author, id))
+}
+
+/// `A ID SECONDS`, what follows `trial` and `extend`.
+fn read_timed(alloc: Global, octets: &[u8]) -> Result<(u32, Text, Span), LineFault>
+    ensures ok { IfOk result (λ read. (make : ℕ → List ℕ → Duration → ScriptLine) → IsTimed make octets.now (make read.0 read.1 read.2)) }
+    ensures no_line { IsErrOf result LineFault.NoLine → (make : ℕ → List ℕ → Duration → ScriptLine) (line : ScriptLine) → IsTimed make octets.now line → ⊥ }
+{
+    let (author, rest) = first_author(octets)?;
+    let (id, seconds) = first_id(alloc, rest)?;
+    let span = read_span(seconds)?;
+    Ok((author, id, span))
+}
+
+/// `A PATH`, what follows `get`.
+fn read_get(alloc: Global, octets: &[u8]) -> Result<Line, LineFault>
+    ensures ok { IfOk result (λ line. Says keywords.Get octets.now line) }
+    ensures no_line { IsErrOf result LineFault.NoLine → (line : ScriptLine) → Says keywords.Get octets.now line → ⊥ }
+{
+    let (author, rest) = first_author(octets)?;
+    let path = read_path(alloc, rest)?;
+    Ok(Line::Get(author, path))
+}
+
+/// `HEARTBEAT`, what follows `change`.
+fn read_on_change(path: Path, octets: &[u8]) -> Result<Line, LineFault>
+    ensures ok { IfOk result (λ line. IsSubscription path SubMode.Change octets.now line) }
+    ensures no_line { IsErrOf result LineFault.NoLine → (line : ScriptLine) → IsSubscription path SubMode.Change octets.now line → ⊥ }
+{
+    let heartbeat = read_number(octets)?;
+    Ok(Line::Sub(SubLine {
+        path,
+        mode: SubMode::Change,
+        interval: 0,
+        suppress: false,
+        heartbeat,
+    }))
+}
+
+/// `INTERVAL HEARTBEAT SUPPRESS`, what follows `sample`.
+fn read_sampled(path: Path, octets: &[u8]) -> Result<Line, LineFault>
+    ensures ok { IfOk result (λ line. IsSubscription path SubMode.Sample octets.now line) }
+    ensures no_line { IsErrOf result LineFault.NoLine → (line : ScriptLine) → IsSubscription path SubMode.Sample octets.now line → ⊥ }
+{
+    let (interval, rest) = first_number(octets)?;
+    let (heartbeat, flag) = first_number(rest)?;
+    let suppress = read_flag(flag)?;
+    Ok(Line::Sub(SubLine {
+        path,
+        mode: SubMode::Sample,
+        interval,
+        suppress,
+        heartbeat,
+    }))
+}
+
+/// What follows `sub`.
+fn read_sub(alloc: Global, octets: &[u8]) -> Result<Line, LineFault>
+    ensures ok { IfOk result (λ line. Says keywords.Sub octets.now line) }
+    ensures no_line { IsErrOf result LineFault.NoLine → (line : ScriptLine) → Says keywords.Sub octets.now line → ⊥ }
+{
+    let (path, sent) = first_path(alloc, octets)?;
+    let (mode, times) = first_sub_mode(sent)?;
+    match mode {
+        SubMode::Change => read_on_change(path, times),
+        SubMode::Sample => read_sampled(path, times),
+        SubMode::Other => Err(LineFault::NoLine),
+    }
+}
+
+/// `A NAME MODE ONLY`, what follows `open`.
+fn read_open(alloc: Global, octets: &[u8]) -> Result<Line, LineFault>
+    ensures ok { IfOk result (λ line. Says keywords.Open octets.now line) }
+    ensures no_line { IsErrOf result LineFault.NoLine → (line : ScriptLine) → Says keywords.Open octets.now line → ⊥ }
+{
+    let (author, rest) = first_author(octets)?;
+    let (name, rest) = first_name(alloc, rest)?;
+    let (mode, flag) = first_list_mode(rest)?;
+    let only = read_flag(flag)?;
+    Ok(Line::Open(author, name, mode, only))
+}
+
+/// `K F`, what follows `stop`.
+fn read_stop(octets: &[u8]) -> Result<Line, LineFault>
+    ensures ok { IfOk result (λ line. Says keywords.Stop octets.now line) }
+    ensures no_line { IsErrOf result LineFault.NoLine → (line : ScriptLine) → Says keywords.Stop octets.now line → ⊥ }
+{
+    let (calls, rest) = first_number(octets)?;
+    let fill = read_fill(rest)?;
+    Ok(Line::Stop(calls, fill))
+}
+
+/// What follows the keyword.
+fn read_said(alloc: Global, keyword: Keyword, octets: &[u8]) -> Result<Line, LineFault>
+    ensures ok { IfOk result (λ line. Says keyword octets.now line) }
+    ensures no_line { IsErrOf result LineFault.NoLine → (line : ScriptLine) → Says keyword octets.now line → ⊥ }
+{
+    match keyword {
+        Keyword::At => Ok(Line::At(read_number(octets)?)),
+        Keyword::Delete => read_delete(alloc, octets),
+        Keyword::Replace => read_change(alloc, Act::Replace, octets),
+        Keyword::Update => read_change(alloc, Act::Update, octets),
+        Keyword::Set => Ok(Line::Set(read_author(octets)?)),
+        Keyword::Trial => {
+            let (author, id, span) = read_timed(alloc, octets)?;
+            Ok(Line::Trial(author, id, span))
+        }
+        Keyword::Confirm => {
+            let (author, id) = read_named(alloc, octets)?;
+            Ok(Line::Confirm(author, id))
+        }
+        Keyword::Cancel => {
+            let (author, id) = read_named(alloc, octets)?;
+            Ok(Line::Cancel(author, id))
+        }
+        Keyword::Extend => {
+            let (author, id, span) = read_timed(alloc, octets)?;
+            Ok(Line::Extend(author, id, span))
+        }
+        Keyword::Get => read_get(alloc, octets),
+        Keyword::Sub => read_sub(alloc, octets),
+        Keyword::Open => read_open(alloc, octets),
+        Keyword::Turn => Ok(Line::Turn(read_name(alloc, octets)?)),
+        Keyword::Poll => Ok(Line::Poll(read_name(alloc, octets)?)),
+        Keyword::End => Ok(Line::End(read_name(alloc, octets)?)),
+        Keyword::Stop => read_stop(octets),
+        Keyword::Fail => Ok(Line::Fail(read_number(octets)?)),
+    }
 }
 
 /// The line that the octets are.
@@ -29,23 +181,9 @@ pub fn read_line(alloc: Global, octets: &[u8]) -> Result<Line, LineFault>
     ensures ok { IfOk result (λ line. IsLine octets.now line) }
     ensures no_line { IsErrOf result LineFault.NoLine → (line : ScriptLine) → IsLine octets.now line → ⊥ }
 {
-    if octets.len() > 256 {
+    if octets.len() > 1_048_576 {
         return Err(LineFault::NoLine);
     }
-    if let Some(number) = after(octets, b"at ") {
-        let Some(reading) = read_number(number) else {
-            return Err(LineFault::NoLine);
-        };
-        return Ok(Line::At(reading));
-    }
-    if let Some(number) = after(octets, b"set ") {
-        let Some(author) = read_author(number) else {
-            return Err(LineFault::NoLine);
-        };
-        return Ok(Line::Set(author));
-    }
-    let Some(update) = after(octets, b"update ") else {
-        return Err(LineFault::NoLine);
-    };
-    read_update(alloc, update)
+    let (keyword, rest) = first_keyword(octets)?;
+    read_said(alloc, keyword, rest)
 }

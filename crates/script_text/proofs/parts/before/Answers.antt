@@ -1,6 +1,0 @@
-use Rattle.std.proofs.lemmas.Bool.Decides.{Decides-eqb}
-use Rattle.std.proofs.lemmas.Slice.Eq.{strip_suffix_is}
-use Rattle.script_text.proofs.parts.before.Goals as goal
-
-pub returns : goal.returns
-returns c = strip_suffix_is Decides-eqb c.args.octets.now c.args.end.now _ c.strip_suffix.ensures.cases
