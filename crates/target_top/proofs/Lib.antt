@@ -1,5 +1,9 @@
-pub mod ScriptLaws
+pub mod Authors
+pub mod LastFeeds
 pub mod Pieces
-pub mod TextHistories
+pub mod PlainHistories
+pub mod ReadAnswers
+pub mod ScriptLaws
+pub mod Statuses
 pub mod Transcripts
-pub mod Words
+pub mod WordLists

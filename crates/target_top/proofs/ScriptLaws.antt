@@ -1,87 +1,119 @@
 -- What holds of every script.
-use Rattle.std.proofs.Common.{◌≡◌, ℕ, ◌+◌, List, [], ◌∷◌, ◌++◌, length, Result, Ok, Err, refl, sym, ap, ◌∙◌, subst, inl, inr, arith}
-use Rattle.base_kinds.specs.declared.path.Elem.{Elem}
-use Rattle.base_kinds.specs.declared.operation.Op.{Op}
+use Rattle.std.proofs.Common.{◌≡◌, ℕ, ◌+◌, List, [], ◌∷◌, ◌++◌, Bool, true, false, length, Result, Ok, Err, refl, sym, ap, ◌∙◌, subst, inl, inr, arith}
+use Rattle.base_kinds.specs.declared.entry.Ask.{Ask}
 use Rattle.base_kinds.specs.declared.entry.Entry.{Entry}
-use Rattle.base_kinds.specs.declared.entry.Kind.TheVariants as kinds
-use Rattle.base_kinds.specs.declared.entry.Ask.TheVariants as asks
+use Rattle.base_kinds.specs.declared.entry.Limits.{Limits}
 use Rattle.base_kinds.specs.declared.refusal.Refusal.{Refusal}
-use Rattle.base_kinds.specs.History.{IsHistory, world_of}
-use Rattle.base_kinds.specs.Step.{step, judge, clock, unchecked, against, next_entry, new_stamp, with_answer}
-use Rattle.commit_core.proofs.Histories.{is_history-push}
+use Rattle.base_kinds.specs.History.{IsHistory}
+use Rattle.base_kinds.specs.Rules.{rules_of}
+use Rattle.base_kinds.specs.Schema.{SchemaNode}
+use Rattle.base_kinds.specs.Step.{Rules, step, judge, clock, new_stamp, with_answer}
+use Rattle.history_laws.proofs.States.{history_after_one}
+use Rattle.schema_text.specs.declared.cause.SchemaFault.{SchemaFault}
+use Rattle.schema_text.specs.Schemas.{schema_of}
 use Rattle.script_text.specs.declared.line.Line.{Line}
 use Rattle.script_text.specs.declared.line.Line.TheVariants as lines
 use Rattle.script_text.specs.Lines.{lines_of}
 use Rattle.script_text.proofs.Meanings.{one_meaning}
-use Rattle.target_top.specs.Logs.{AreTextUpdates, ApplyTexts}
-use Rattle.target_top.specs.Scripts.{ScriptState, fresh, judged, text_update, state_after, answer, Prints, RunsScript}
+use Rattle.target_top.specs.Logs.{AreApplies, IsPlain}
+use Rattle.target_top.specs.Scripts.{ScriptState, fresh, answered, history_answered, asked, judged, state_after, answer, Ends, Prints, is_too_long, within_limit, RunsScript}
+use Rattle.target_top.specs.ScriptRuns.{RunsUnder, Runs}
 use Rattle.target_top.specs.Laws.{state_behind}
-use Rattle.target_top.proofs.TextHistories.{clock_quiet, first_case-ok, set_texts, step_quiet}
+use Rattle.target_top.proofs.PlainHistories.{clock_quiet, judged_next, read_quiet, set_applies, step_quiet, asks_plainly}
 
 -- ---- histories
 
-record Holds (state : ScriptState) : Type 0 where
-  pending : AreTextUpdates state.pending
-  texts : ApplyTexts state.history
-  history : IsHistory state.history
+record HoldsOf (entries : List Entry) : Type 0 where
+  applies : AreApplies entries
+  history : IsHistory entries
 
-updates-push : (ops : List Op) (path : List Elem) (text : List ℕ) → AreTextUpdates ops → AreTextUpdates (ops ++ text_update path text ∷ [])
-updates-push [] path text all = (record { act = refl; rows = (tt, tt) }, tt)
-updates-push (op ∷ ops) path text all = (all.0, updates-push ops path text all.1)
-
-accepted : (history : List Entry) (now author : ℕ) (ops : List Op) (entry : Entry) → judge unchecked history now author (asks.Apply ops) ≡ Ok entry → next_entry history (new_stamp history now) author (kinds.Apply ops) ≡ entry
-accepted history now author ops entry is =
-    first_case-ok (against unchecked history (world_of history) (asks.Apply ops) 0) (next_entry history (new_stamp history now) author (kinds.Apply ops)) entry is
-
-after_set : (reading author : ℕ) (ops : List Op) (history : List Entry) → AreTextUpdates ops → ApplyTexts history → IsHistory history → (answered : Result Entry Refusal) → judge unchecked history reading author (asks.Apply ops) ≡ answered → Holds (record { reading = reading; pending = []; history = with_answer history answered })
-after_set reading author ops history updates texts is (Ok entry) judged =
-    let made = accepted history reading author ops entry judged in
+after_answer : (rules : Rules) (reading author : ℕ) (ask : Ask) (history : List Entry) → IsPlain ask → HoldsOf history → (answer : Result Entry Refusal) → judge rules history reading author ask ≡ answer → HoldsOf (with_answer history answer)
+after_answer rules reading author ask history plain holds (Ok entry) judged =
+    let made = judged_next rules history reading author ask entry judged in
     let number : length history + 1 ≡ entry.number = ap (λ (e : Entry). e.number) made in
     let stamp : new_stamp history reading ≡ entry.stamp = ap (λ (e : Entry). e.stamp) made in
     record {
-      pending = tt;
-      texts = set_texts history reading author ops entry texts updates judged;
-      history = is_history-push history entry is (sym number) (omega (arith, stamp));
+      applies = set_applies rules history reading author ask entry holds.applies plain judged;
+      history = history_after_one history entry holds.history (sym number) (omega (arith, stamp));
     }
-after_set reading author ops history updates texts is (Err refusal) judged = record { pending = tt; texts = texts; history = is }
+after_answer rules reading author ask history plain holds (Err refusal) judged = holds
 
-holds_after : (line : Line) (state : ScriptState) → Holds state → Holds (state_after line state)
-holds_after (lines.At reading) state holds = record { pending = holds.pending; texts = holds.texts; history = holds.history }
-holds_after (lines.Update path text) state holds = record { pending = updates-push state.pending path text holds.pending; texts = holds.texts; history = holds.history }
+after_ask : (rules : Rules) (reading author : ℕ) (ask : Ask) (history : List Entry) → IsPlain ask → HoldsOf history → HoldsOf (with_answer (clock history reading) (step rules history reading author ask))
+after_ask rules reading author ask history plain holds =
+    let quiet = clock_quiet history reading holds.applies in
+    let same = step_quiet rules history reading author ask holds.applies in
+    let next = after_answer rules reading author ask history plain holds (judge rules history reading author ask) refl in
+    let stepped = subst (λ (a : Result Entry Refusal). HoldsOf (with_answer history a)) same next in
+    subst (λ (h : List Entry). HoldsOf (with_answer h (step rules history reading author ask))) (sym quiet) stepped
+
+after_request : (rules : Rules) (reading author : ℕ) (history : List Entry) → HoldsOf history → (asked : Result Ask Refusal) → ((ask : Ask) → asked ≡ Ok ask → IsPlain ask) → HoldsOf (history_answered rules history reading author asked)
+after_request rules reading author history holds (Ok ask) plain = after_ask rules reading author ask history (plain ask refl) holds
+after_request rules reading author history holds (Err refusal) plain = holds
+
+holds_after : (line : Line) (state : ScriptState) → HoldsOf state.history → HoldsOf (state_after line state).history
 holds_after (lines.Set author) state holds =
-    let quiet = clock_quiet state.history state.reading holds.texts in
-    let same = step_quiet state.history state.reading author (asks.Apply state.pending) holds.texts in
-    let next = after_set state.reading author state.pending state.history holds.pending holds.texts holds.history (judge unchecked state.history state.reading author (asks.Apply state.pending)) refl in
-    let stepped = subst (λ (a : Result Entry Refusal). Holds (record { reading = state.reading; pending = []; history = with_answer state.history a })) same next in
-    subst (λ (h : List Entry). Holds (record { reading = state.reading; pending = []; history = with_answer h (step unchecked state.history state.reading author (asks.Apply state.pending)) })) (sym quiet) stepped
+    after_request (rules_of state.schema state.limits) state.reading author state.history holds (asked state) (λ ask is. asks_plainly state.schema state.pending ask is)
+holds_after (lines.Get author pattern) state holds = subst HoldsOf (sym (read_quiet state pattern holds.applies)) holds
+holds_after (lines.At reading) state holds = holds
+holds_after (lines.Add act path value) state holds = holds
+holds_after (lines.Trial author id span) state holds = holds
+holds_after (lines.Confirm author id) state holds = holds
+holds_after (lines.Cancel author id) state holds = holds
+holds_after (lines.Extend author id span) state holds = holds
+holds_after (lines.Sub line) state holds = holds
+holds_after (lines.Open author name mode only) state holds = holds
+holds_after (lines.Turn name) state holds = holds
+holds_after (lines.Poll name) state holds = holds
+holds_after (lines.End name) state holds = holds
+holds_after (lines.Stop calls fill) state holds = holds
+holds_after (lines.Fail calls) state holds = holds
 
-holds_behind : (ls : List Line) (state : ScriptState) → Holds state → Holds (state_behind ls state)
+holds_behind : (ls : List Line) (state : ScriptState) → HoldsOf state.history → HoldsOf (state_behind ls state).history
 holds_behind [] state holds = holds
 holds_behind (line ∷ ls) state holds = holds_behind ls (state_after line state) (holds_after line state holds)
 
-pub makes_histories : (ls : List Line) → IsHistory (state_behind ls fresh).history
-makes_histories ls = (holds_behind ls fresh (record { pending = tt; texts = tt; history = tt })).history
+pub makes_histories : (schema : List SchemaNode) (limits : Limits) (ls : List Line) → IsHistory (state_behind ls (fresh schema limits)).history
+makes_histories schema limits ls = (holds_behind ls (fresh schema limits) (record { applies = tt; history = tt })).history
 
 -- ---- one text
 
-same_rest : (number : ℕ) (others : List (List ℕ)) (state : ScriptState) (line line' : Line) (rest rest' : List ℕ) (status status' : ℕ) → line ≡ line' → ((s : ScriptState) (t t' : List ℕ) → Prints (number + 1) others s t status → Prints (number + 1) others s t' status' → (t ≡ t') × (status ≡ status')) → Prints (number + 1) others (state_after line state) rest status → Prints (number + 1) others (state_after line' state) rest' status' → (answer line state ++ rest ≡ answer line' state ++ rest') × (status ≡ status')
-same_rest number others state line line' rest rest' status status' same behind p q =
-    let both = behind (state_after line state) rest rest' p (subst (λ (l : Line). Prints (number + 1) others (state_after l state) rest' status') (sym same) q) in
+same_rest : (more : Bool) (number : ℕ) (others : List (List ℕ)) (state : ScriptState) (line line' : Line) (rest rest' : List ℕ) (status status' : ℕ) → line ≡ line' → ((s : ScriptState) (t t' : List ℕ) → Prints more (number + 1) others s t status → Prints more (number + 1) others s t' status' → (t ≡ t') × (status ≡ status')) → Prints more (number + 1) others (state_after line state) rest status → Prints more (number + 1) others (state_after line' state) rest' status' → (answer line state ++ rest ≡ answer line' state ++ rest') × (status ≡ status')
+same_rest more number others state line line' rest rest' status status' same behind p q =
+    let both = behind (state_after line state) rest rest' p (subst (λ (l : Line). Prints more (number + 1) others (state_after l state) rest' status') (sym same) q) in
     (ap (λ r. answer line state ++ r) both.0 ∙ ap (λ (l : Line). answer l state ++ rest') same, both.1)
 
-prints_one : (number : ℕ) (octets : List (List ℕ)) (state : ScriptState) (text text' : List ℕ) (status status' : ℕ) → Prints number octets state text status → Prints number octets state text' status' → (text ≡ text') × (status ≡ status')
-prints_one number [] state text text' status status' p q = (p.0 ∙ sym q.0, p.1 ∙ sym q.1)
-prints_one number (first ∷ others) state text text' status status' (inl p) (inl q) =
-    let both = same_rest number others state p.1.line q.1.line p.1.rest q.1.rest status status' (one_meaning first p.1.line q.1.line p.1.meaning q.1.meaning) (λ s t t'. prints_one (number + 1) others s t t' status status') p.1.goes_on q.1.goes_on in
-    (p.1.whole ∙ both.0 ∙ sym q.1.whole, both.1)
-prints_one number (first ∷ others) state text text' status status' (inl p) (inr q) = absurd (q.0 p.0 p.1.line p.1.meaning)
-prints_one number (first ∷ others) state text text' status status' (inr p) (inl q) = absurd (p.0 q.0 q.1.line q.1.meaning)
-prints_one number (first ∷ others) state text text' status status' (inr p) (inr q) = (p.1 ∙ sym q.1, p.2 ∙ sym q.2)
+ends_one : (more : Bool) (number : ℕ) (state : ScriptState) (text text' : List ℕ) (status status' : ℕ) → Ends more number state text status → Ends more number state text' status' → (text ≡ text') × (status ≡ status')
+ends_one true number state text text' status status' p q = (p.0 ∙ sym q.0, p.1 ∙ sym q.1)
+ends_one false number state text text' status status' p q = (p.0 ∙ sym q.0, p.1 ∙ sym q.1)
 
-pub prints_one_text : (script text text' : List ℕ) (status status' : ℕ) → RunsScript script text status → RunsScript script text' status' → (text ≡ text') × (status ≡ status')
-prints_one_text script text text' status status' p q = prints_one 1 (lines_of script) fresh text text' status status' p q
+prints_one : (more : Bool) (number : ℕ) (octets : List (List ℕ)) (state : ScriptState) (text text' : List ℕ) (status status' : ℕ) → Prints more number octets state text status → Prints more number octets state text' status' → (text ≡ text') × (status ≡ status')
+prints_one more number [] state text text' status status' p q = ends_one more number state text text' status status' p q
+prints_one more number (first ∷ others) state text text' status status' (inl p) (inl q) =
+    let both = same_rest more number others state p.line q.line p.rest q.rest status status' (one_meaning first p.line q.line p.meaning.meaning q.meaning.meaning) (λ s t t'. prints_one more (number + 1) others s t t' status status') p.goes_on q.goes_on in
+    (p.whole ∙ both.0 ∙ sym q.whole, both.1)
+prints_one more number (first ∷ others) state text text' status status' (inl p) (inr q) = absurd (q.0 p.line p.meaning)
+prints_one more number (first ∷ others) state text text' status status' (inr p) (inl q) = absurd (p.0 q.line q.meaning)
+prints_one more number (first ∷ others) state text text' status status' (inr p) (inr q) = (p.1 ∙ sym q.1, p.2 ∙ sym q.2)
+
+under_reading : (read : Result (List SchemaNode) SchemaFault) (limits : Limits) (script text text' : List ℕ) (status status' : ℕ) → RunsUnder read limits script text status → RunsUnder read limits script text' status' → (text ≡ text') × (status ≡ status')
+unfolding RunsScript
+under_reading (Ok schema) limits script text text' status status' p q = prints_one (is_too_long script) 1 (lines_of (within_limit script)) (fresh schema limits) text text' status status' p q
+under_reading (Err fault) limits script text text' status status' p q = (p.0 ∙ sym q.0, p.1 ∙ sym q.1)
+
+pub prints_one_text : (schema : List ℕ) (limits : Limits) (script text text' : List ℕ) (status status' : ℕ) → Runs schema limits script text status → Runs schema limits script text' status' → (text ≡ text') × (status ≡ status')
+prints_one_text schema limits script text text' status status' p q = under_reading (schema_of schema) limits script text text' status status' p q
 
 -- ---- refusals
 
-pub refused_changes_nothing : (state : ScriptState) (author : ℕ) (refusal : Refusal) → judged state author ≡ Err refusal → (state_after (lines.Set author) state).history ≡ clock state.history state.reading
-refused_changes_nothing state author refusal is = ap (with_answer (clock state.history state.reading)) is
+answered_refused : (rules : Rules) (history : List Entry) (reading author : ℕ) (request : Result Ask Refusal) (ask : Ask) (refusal : Refusal) → request ≡ Ok ask → answered rules history reading author request ≡ Err refusal → history_answered rules history reading author request ≡ clock history reading
+answered_refused rules history reading author request ask refusal is refused =
+    let stepped : step rules history reading author ask ≡ Err refusal = ap (answered rules history reading author) (sym is) ∙ refused in
+    ap (history_answered rules history reading author) is ∙ ap (with_answer (clock history reading)) stepped
+
+pub refused_changes_nothing : (state : ScriptState) (author : ℕ) (ask : Ask) (refusal : Refusal) → asked state ≡ Ok ask → judged state author ≡ Err refusal → (state_after (lines.Set author) state).history ≡ clock state.history state.reading
+refused_changes_nothing state author ask refusal is refused =
+    answered_refused (rules_of state.schema state.limits) state.history state.reading author (asked state) ask refusal is refused
+
+pub bad_request_changes_nothing : (state : ScriptState) (author : ℕ) (refusal : Refusal) → asked state ≡ Err refusal → (judged state author ≡ Err refusal) × ((state_after (lines.Set author) state).history ≡ state.history)
+bad_request_changes_nothing state author refusal is =
+    (ap (answered (rules_of state.schema state.limits) state.history state.reading author) is, ap (history_answered (rules_of state.schema state.limits) state.history state.reading author) is)

@@ -1,8 +1,9 @@
 pub mod Checks
-pub mod Classes
+pub mod Examples
 pub mod Forms
 pub mod Laws
 pub mod Logs
+pub mod Requests
 pub mod Runs
+pub mod ScriptRuns
 pub mod Scripts
-pub mod Sessions

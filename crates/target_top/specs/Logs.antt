@@ -1,14 +1,14 @@
 -- The text of a commit log, and the entries that scripts make as yet.
-use Rattle.std.specs.Prelude.{◌≡◌, ℕ, List, [], ◌∷◌, ◌++◌, codes}
+use Rattle.std.specs.Prelude.{ℕ, List, [], ◌∷◌, ◌++◌, codes}
 use Rattle.std.specs.List.{flat_map, AllByRecursion}
 use Rattle.std.specs.Fmt.{decimal}
-use Rattle.base_kinds.specs.declared.value.Value.{Value}
-use Rattle.base_kinds.specs.declared.value.Value as v
 use Rattle.base_kinds.specs.declared.operation.Row.{Row}
 use Rattle.base_kinds.specs.declared.operation.Op.{Op}
 use Rattle.base_kinds.specs.declared.operation.Act.{Act}
 use Rattle.base_kinds.specs.declared.operation.Act.TheVariants.{Delete, Replace, Update}
 use Rattle.base_kinds.specs.declared.entry.Entry.{Entry}
+use Rattle.base_kinds.specs.declared.entry.Ask.{Ask}
+use Rattle.base_kinds.specs.declared.entry.Ask.TheVariants as asks
 use Rattle.base_kinds.specs.declared.entry.Kind.{Kind}
 use Rattle.base_kinds.specs.declared.entry.Kind.TheVariants as kinds
 use Rattle.base_kinds.specs.Tree.{with_act}
@@ -19,9 +19,13 @@ act_text Delete = codes "delete"
 act_text Replace = codes "replace"
 act_text Update = codes "update"
 
--- a row in a line of its own: four spaces, its path, a space, its value
+-- a row up to the end of its line: its path, a space, its value
+abbrev pub row_text : Row → List ℕ
+row_text row = path_text row.path ++ (32 ∷ (value_text row.value ++ 10 ∷ []))
+
+-- a row in a line of its own, behind four spaces
 abbrev pub row_line : Row → List ℕ
-row_line row = codes "    " ++ (path_text row.path ++ (32 ∷ (value_text row.value ++ 10 ∷ [])))
+row_line row = codes "    " ++ row_text row
 
 -- an operation in a line of its own: two spaces, what it does, a space, its path; then its rows
 abbrev pub op_lines : Op → List ℕ
@@ -53,25 +57,15 @@ entry_lines entry = decimal entry.number ++ (32 ∷ (decimal entry.stamp ++ (32 
 abbrev pub log_text : List Entry → List ℕ
 log_text entries = flat_map entry_lines entries
 
--- ---- what scripts make as yet: plain Sets that update leaves to texts
+-- ---- what scripts make as yet: plain Sets
 
-abbrev pub IsText : Value → Type 0
-IsText (v.Text text) = Unit {0}
-IsText _ = ⊥
+abbrev pub IsApply : Kind → Type 0
+IsApply (kinds.Apply ops) = Unit {0}
+IsApply _ = ⊥
 
-abbrev pub HasTexts : List Row → Type 0
-HasTexts rows = AllByRecursion (λ (row : Row). IsText row.value) rows
+abbrev pub AreApplies : List Entry → Type 0
+AreApplies entries = AllByRecursion (λ (entry : Entry). IsApply entry.kind) entries
 
-pub record IsTextUpdate (op : Op) : Type 0 where
-  pub act : op.act ≡ Update
-  pub rows : HasTexts op.rows
-
-abbrev pub AreTextUpdates : List Op → Type 0
-AreTextUpdates ops = AllByRecursion IsTextUpdate ops
-
-abbrev pub AppliesTexts : Kind → Type 0
-AppliesTexts (kinds.Apply ops) = AreTextUpdates ops
-AppliesTexts _ = ⊥
-
-abbrev pub ApplyTexts : List Entry → Type 0
-ApplyTexts entries = AllByRecursion (λ (entry : Entry). AppliesTexts entry.kind) entries
+abbrev pub IsPlain : Ask → Type 0
+IsPlain (asks.Apply ops) = Unit {0}
+IsPlain _ = ⊥

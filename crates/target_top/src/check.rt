@@ -5,8 +5,8 @@ ghost use Rattle.target_top.specs.Checks.{verdict_line, check_text, check_status
 ghost use Rattle.target_top.specs.Runs.{Says, AppendsFront};
 
 use crate::files::{Files, TextFault};
+use crate::numbers::{put_number, put_word_line};
 use crate::status::{DONE, INPUT_FAULT, NO_MEMORY, NO_SCHEMA, OUTPUT_FAULT, say};
-use crate::texts::put_number;
 use base_kinds::{Bytes, NoMemory};
 use edge_traits::{Sink, write_whole};
 use schema_core::Schema;
@@ -86,13 +86,12 @@ fn count_line(alloc: Global, schema: &Schema) -> Result<Bytes, NoMemory>
     ensures { IfOk result (λ line. line ≡ verdict_line (Ok schema.now)) }
 {
     let mut line = Bytes::empty(alloc);
-    line.extend_from_slice(b"schema ok ")?;
-    put_number(alloc, schema.nodes() as u64, &mut line)?;
-    line.extend_from_slice(b"\n")?;
+    put_word_line(alloc, b"schema ok ", schema.nodes() as u64, &mut line)?;
     Ok(line)
 }
 
-fn fault_line(alloc: Global, fault: SchemaFault) -> Result<Bytes, NoMemory>
+/// The line that tells of the first fault of a text that is no schema.
+pub fn fault_line(alloc: Global, fault: SchemaFault) -> Result<Bytes, NoMemory>
     ensures { IfOk result (λ line. line ≡ verdict_line (Err fault)) }
 {
     let mut line = Bytes::empty(alloc);

@@ -1,16 +1,21 @@
-ghost use Rattle.target_top.specs.Laws.{MakesHistories, PrintsOne, RefusedChangesNothing};
+ghost use Rattle.target_top.specs.Laws.{MakesHistories, PrintsOne, RefusedChangesNothing, BadRequestsChangeNothing};
 
 /// Whatever a script's lines are, the entries that they make are numbered from 1, and their stamps rise from 1 on.
 pub fn scripts_make_histories()
     ensures { MakesHistories }
 {}
 
-/// What a script prints and how its run ends is determined by its octets.
+/// What a script prints and how its run ends is determined by its octets, the text of its schema and the limits.
 pub fn scripts_print_one_text()
     ensures { PrintsOne }
 {}
 
-/// A Set that is refused changes nothing.
+/// A Set that is refused over the history changes nothing.
 pub fn refused_sets_change_nothing()
     ensures { RefusedChangesNothing }
+{}
+
+/// A Set whose request is refused by itself changes nothing, and the clock's event doesn't come.
+pub fn bad_requests_change_nothing()
+    ensures { BadRequestsChangeNothing }
 {}

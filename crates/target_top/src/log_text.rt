@@ -1,16 +1,17 @@
 ghost use Rattle.std.specs.Prelude.{◌≡◌, ◌++◌, OnOk};
 ghost use Rattle.std.specs.List.{flat_map};
-ghost use Rattle.base_kinds.specs.Texts.{value_text};
 ghost use Rattle.base_kinds.specs.Tree.{with_act, is_act as same_act};
-ghost use Rattle.target_top.specs.Logs.{act_text, row_line, op_lines, ops_lines, entry_lines, log_text, IsText, HasTexts, IsTextUpdate, AreTextUpdates, AppliesTexts, ApplyTexts};
+ghost use Rattle.target_top.specs.Logs.{act_text, op_lines, ops_lines, entry_lines, log_text, IsApply, AreApplies};
 
-use crate::texts::{put_number, put_path, put_quoted};
-use base_kinds::{Act, Bytes, Entry, Kind, NoMemory, Op, Row, Value};
+use crate::numbers::put_number;
+use crate::row_texts::put_rows;
+use base_kinds::{Act, Bytes, Entry, Kind, NoMemory, Op};
+use path_core::write_path_text;
 use std::alloc::Global;
 
 /// Adds a line for each entry, followed by a line for each of its operations and of their rows.
 pub fn put_log(alloc: Global, entries: &[Entry], out: &mut Bytes) -> Result<(), NoMemory>
-    requires { ApplyTexts entries.now }
+    requires { AreApplies entries.now }
     ensures { OnOk result (out.new ≡ out.old ++ log_text entries.now) }
 {
     for entry in entries {
@@ -20,7 +21,7 @@ pub fn put_log(alloc: Global, entries: &[Entry], out: &mut Bytes) -> Result<(), 
 }
 
 fn put_entry(alloc: Global, entry: &Entry, out: &mut Bytes) -> Result<(), NoMemory>
-    requires { AppliesTexts entry.now.kind }
+    requires { IsApply entry.now.kind }
     ensures { OnOk result (out.new ≡ out.old ++ entry_lines entry.now) }
 {
     let Kind::Apply(ops) = &entry.kind else {
@@ -32,16 +33,15 @@ fn put_entry(alloc: Global, entry: &Entry, out: &mut Bytes) -> Result<(), NoMemo
     out.extend_from_slice(b" ")?;
     put_number(alloc, entry.author as u64, out)?;
     out.extend_from_slice(b" apply\n")?;
-    put_ops(ops.items(), out)
+    put_ops(alloc, ops.items(), out)
 }
 
-fn put_ops(ops: &[Op], out: &mut Bytes) -> Result<(), NoMemory>
-    requires { AreTextUpdates ops.now }
+fn put_ops(alloc: Global, ops: &[Op], out: &mut Bytes) -> Result<(), NoMemory>
     ensures { OnOk result (out.new ≡ out.old ++ ops_lines ops.now) }
 {
-    put_ops_with(Act::Delete, ops, out)?;
-    put_ops_with(Act::Replace, ops, out)?;
-    put_ops_with(Act::Update, ops, out)
+    put_ops_with(alloc, Act::Delete, ops, out)?;
+    put_ops_with(alloc, Act::Replace, ops, out)?;
+    put_ops_with(alloc, Act::Update, ops, out)
 }
 
 fn is_act(a: Act, b: Act) -> bool
@@ -53,13 +53,12 @@ fn is_act(a: Act, b: Act) -> bool
     )
 }
 
-fn put_ops_with(act: Act, ops: &[Op], out: &mut Bytes) -> Result<(), NoMemory>
-    requires { AreTextUpdates ops.now }
+fn put_ops_with(alloc: Global, act: Act, ops: &[Op], out: &mut Bytes) -> Result<(), NoMemory>
     ensures { OnOk result (out.new ≡ out.old ++ flat_map op_lines (with_act act ops.now)) }
 {
     for op in ops {
         if is_act(act, op.act) {
-            put_op(op, out)?;
+            put_op(alloc, op, out)?;
         }
     }
     Ok(())
@@ -75,45 +74,13 @@ fn put_act(act: Act, out: &mut Bytes) -> Result<(), NoMemory>
     }
 }
 
-fn put_op(op: &Op, out: &mut Bytes) -> Result<(), NoMemory>
-    requires { IsTextUpdate op.now }
+fn put_op(alloc: Global, op: &Op, out: &mut Bytes) -> Result<(), NoMemory>
     ensures { OnOk result (out.new ≡ out.old ++ op_lines op.now) }
 {
     out.extend_from_slice(b"  ")?;
     put_act(op.act, out)?;
     out.extend_from_slice(b" ")?;
-    put_path(&op.path, out)?;
+    write_path_text(alloc, &op.path, out)?;
     out.extend_from_slice(b"\n")?;
-    put_rows(op.rows.items(), out)
-}
-
-fn put_rows(rows: &[Row], out: &mut Bytes) -> Result<(), NoMemory>
-    requires { HasTexts rows.now }
-    ensures { OnOk result (out.new ≡ out.old ++ flat_map row_line rows.now) }
-{
-    for row in rows {
-        put_row(row, out)?;
-    }
-    Ok(())
-}
-
-fn put_row(row: &Row, out: &mut Bytes) -> Result<(), NoMemory>
-    requires { IsText row.now.value }
-    ensures { OnOk result (out.new ≡ out.old ++ row_line row.now) }
-{
-    out.extend_from_slice(b"    ")?;
-    put_path(&row.path, out)?;
-    out.extend_from_slice(b" ")?;
-    put_value(&row.value, out)?;
-    out.extend_from_slice(b"\n")
-}
-
-fn put_value(value: &Value, out: &mut Bytes) -> Result<(), NoMemory>
-    requires { IsText value.now }
-    ensures { OnOk result (out.new ≡ out.old ++ value_text value.now) }
-{
-    let Value::Text(text) = value else {
-        unreachable!()
-    };
-    put_quoted(text, out)
+    put_rows(alloc, b"    ", op.rows.items(), out)
 }

@@ -1,51 +1,58 @@
-ghost use Rattle.std.specs.Prelude.{◌≡◌, ◌<◌, ◌++◌, ◌∷◌, [], IfOk, OnOk, OnErr};
-ghost use Rattle.base_kinds.specs.Step.{step, clock, unchecked, with_answer};
-ghost use Rattle.base_kinds.specs.declared.entry.Ask.TheVariants as asks;
-ghost use Rattle.script_text.specs.Grammar.{IsMeant};
-ghost use Rattle.target_top.specs.Logs.{AreTextUpdates, ApplyTexts, log_text};
-ghost use Rattle.target_top.specs.Scripts.{fresh as fresh_state, state_after, answer, stamp_in, reply_line, text_update as update_to};
+ghost use Rattle.std.specs.Prelude.{◌≡◌, ◌≢◌, ◌<◌, ◌++◌, IfOk, OnOk, Err, if◌then◌else◌};
+ghost use Rattle.base_kinds.specs.Rules.{rules_of};
+ghost use Rattle.base_kinds.specs.Step.{step, clock, with_answer};
+ghost use Rattle.set_txn.specs.Resolving.{resolved};
+ghost use Rattle.target_top.specs.Logs.{AreApplies, IsPlain, log_text};
+ghost use Rattle.target_top.specs.Requests.{set_ask};
+ghost use Rattle.target_top.specs.Scripts.{fresh as fresh_state, state_after, answer, answered, history_answered, stamp_in, reply_line, view_lines, is_long, seen, CountsAuthor};
 
 use crate::log_text::put_log;
-use crate::texts::put_number;
-use base_kinds::{
-    Act, Ask, Bytes, Copied, NoMemory, Op, Ops, Path, Refusal, Row, Rows, Text, Value,
-};
-use commit_core::{Core, FirstTree};
+use crate::numbers::{put_refusal, put_word_line};
+use crate::pending::Pending;
+use crate::row_texts::put_rows;
+use base_kinds::{Ask, Bytes, Limits, NoMemory, Path, Paths, Refusal, View};
+use commit_core::Core;
+use plain_tree::PlainTree;
+use schema_core::Schema;
 use script_text::Line;
+use set_txn::resolve;
 use std::alloc::Global;
 use std::marker::Model;
+
+/// The most elements that a path to be read may have.
+const MOST_ELEMENTS: usize = 32;
 
 /// A script's state between two lines.
 #[derive(Drop)]
 pub struct Session {
-    core: Core<FirstTree>,
+    core: Core<PlainTree>,
     reading: u64,
-    pending: Ops,
+    pending: Pending,
 }
 
 impl Model for Session {
     ghost use Rattle.std.specs.Coded.{codes};
     ghost use Rattle.base_kinds.specs.contracts.value.Value as value;
+    ghost use Rattle.target_top.specs.Logs.{AreApplies};
     ghost use Rattle.target_top.specs.Scripts.{ScriptState};
-    ghost use Rattle.target_top.specs.Sessions.{HoldsTexts};
 
     ghost Value = { ScriptState };
 
     ghost coded = { Prim.hlevel (codes, value.the_row.coded) };
 
-    ghost view = { λ s. record { reading = s.reading; pending = s.pending; history = s.core.entries } };
+    ghost view = { λ s. record { schema = s.core.schema; limits = s.core.limits; reading = s.reading; pending = s.pending; history = s.core.entries } };
 
-    ghost invariant = { λ s. HoldsTexts (record { reading = s.reading; pending = s.pending; history = s.core.entries }) };
+    ghost invariant = { λ s. AreApplies s.core.entries };
 }
 
 impl Session {
-    pub fn fresh(alloc: Global) -> Session
-        ensures { result ≡ fresh_state }
+    pub fn fresh(alloc: Global, schema: Schema, limits: Limits) -> Session
+        ensures { result ≡ fresh_state schema limits }
     {
         Session {
-            core: Core::make(alloc, FirstTree::empty(alloc)),
+            core: Core::make(alloc, schema, PlainTree::empty(alloc), limits),
             reading: 0,
-            pending: Ops::empty(alloc),
+            pending: Pending::nothing(alloc),
         }
     }
 
@@ -56,9 +63,10 @@ impl Session {
         put_log(alloc, self.core.entries(), out)
     }
 
-    /// Takes the next line, and adds what is printed at it. After want of memory let the session go.
+    /// Takes the next line, and adds what is printed at it. Lines that scripts may not have as yet do nothing. After want of
+    /// memory let the session go.
     pub fn act(&mut self, alloc: Global, line: Line, out: &mut Bytes) -> Result<(), NoMemory>
-        requires { IsMeant line }
+        requires { CountsAuthor line }
         ensures state { OnOk result (self.new ≡ state_after line self.old) }
         ensures text { OnOk result (out.new ≡ out.old ++ answer line self.old) }
     {
@@ -67,52 +75,72 @@ impl Session {
                 self.reading = reading;
                 Ok(())
             }
-            Line::Update(path, text) => {
-                let op = text_update(alloc, path, text)?;
-                self.pending.push(op)
-            }
+            Line::Add(act, path, value) => self.pending.add(act, path, value),
             Line::Set(author) => {
-                let pending = std::mem::replace(&mut self.pending, Ops::empty(alloc));
+                let pending = std::mem::replace(&mut self.pending, Pending::nothing(alloc));
                 let reply = set(alloc, &mut self.core, self.reading, author, pending)?;
                 put_reply(alloc, reply, out)
             }
+            Line::Get(_, pattern) => {
+                let seen = look(alloc, &self.core, pattern)?;
+                put_view(alloc, seen, out)
+            }
+            Line::Trial(_, _, _)
+            | Line::Confirm(_, _)
+            | Line::Cancel(_, _)
+            | Line::Extend(_, _, _)
+            | Line::Sub(_)
+            | Line::Open(_, _, _, _)
+            | Line::Turn(_)
+            | Line::Poll(_)
+            | Line::End(_)
+            | Line::Stop(_, _)
+            | Line::Fail(_) => Ok(()),
         }
     }
 }
 
-/// The operation that sets the leaf at this path to this text.
-fn text_update(alloc: Global, path: Path, text: Text) -> Result<Op, NoMemory>
-    ensures { IfOk result (λ op. op ≡ update_to path text) }
-{
-    let row = Row {
-        path: path.copy(alloc)?,
-        value: Value::Text(text),
-    };
-    let mut rows = Rows::empty(alloc);
-    rows.push(row)?;
-    Ok(Op {
-        act: Act::Update,
-        path,
-        rows,
-    })
-}
-
-/// Makes a Set of these operations. The reply is the new entry's stamp.
+/// Makes a plain Set of these operations. The reply is the new entry's stamp.
 fn set(
     alloc: Global,
-    core: &mut Core<FirstTree>,
+    core: &mut Core<PlainTree>,
     reading: u64,
     author: u32,
-    pending: Ops,
+    pending: Pending,
 ) -> Result<Result<u64, Refusal>, NoMemory>
     requires author { 0 < author }
-    requires updates { AreTextUpdates pending }
-    requires history { ApplyTexts core.old.entries }
-    ensures reply { IfOk result (λ reply. reply ≡ stamp_in (step unchecked core.old.entries reading author (asks.Apply pending))) }
-    ensures history { OnOk result (core.new.entries ≡ with_answer (clock core.old.entries reading) (step unchecked core.old.entries reading author (asks.Apply pending))) }
-    ensures texts { ApplyTexts core.new.entries }
+    requires applies { AreApplies core.old.entries }
+    ensures reply { IfOk result (λ reply. reply ≡ stamp_in (answered (rules_of core.old.schema core.old.limits) core.old.entries reading author (resolved core.old.schema (set_ask pending)))) }
+    ensures history { OnOk result (core.new.entries ≡ history_answered (rules_of core.old.schema core.old.limits) core.old.entries reading author (resolved core.old.schema (set_ask pending))) }
+    ensures schema { core.new.schema ≡ core.old.schema }
+    ensures limits { core.new.limits ≡ core.old.limits }
+    ensures new_applies { AreApplies core.new.entries }
 {
-    match core.judge(alloc, reading, author, Ask::Apply(pending)) {
+    let request = pending.into_set(alloc)?;
+    match resolve(alloc, core.schema(), &request) {
+        Ok(ask) => judge(alloc, core, reading, author, ask),
+        Err(refusal) => refuse(refusal),
+    }
+}
+
+/// Makes what is asked the next entry of the history.
+fn judge(
+    alloc: Global,
+    core: &mut Core<PlainTree>,
+    reading: u64,
+    author: u32,
+    ask: Ask,
+) -> Result<Result<u64, Refusal>, NoMemory>
+    requires author { 0 < author }
+    requires plain { IsPlain ask }
+    requires applies { AreApplies core.old.entries }
+    ensures reply { IfOk result (λ reply. reply ≡ stamp_in (step (rules_of core.old.schema core.old.limits) core.old.entries reading author ask)) }
+    ensures history { OnOk result (core.new.entries ≡ with_answer (clock core.old.entries reading) (step (rules_of core.old.schema core.old.limits) core.old.entries reading author ask)) }
+    ensures schema { core.new.schema ≡ core.old.schema }
+    ensures limits { core.new.limits ≡ core.old.limits }
+    ensures new_applies { AreApplies core.new.entries }
+{
+    match core.judge(alloc, reading, author, ask) {
         Ok(entry) => {
             let stamp = entry.stamp;
             core.take(entry);
@@ -127,20 +155,54 @@ fn set(
     }
 }
 
+/// The reply to what is refused, but for want of memory.
+fn refuse(refusal: Refusal) -> Result<Result<u64, Refusal>, NoMemory>
+    ensures reply { IfOk result (λ reply. reply ≡ Err refusal) }
+    ensures no_memory { OnOk result (refusal ≢ Refusal.NoMemory) }
+{
+    if refusal.is_memory() {
+        return Err(NoMemory);
+    }
+    Ok(Err(refusal))
+}
+
+/// What the pattern covers of the present tree, at the stamp of the last entry.
+fn look(
+    alloc: Global,
+    core: &Core<PlainTree>,
+    pattern: Path,
+) -> Result<Result<View, Refusal>, NoMemory>
+    ensures { IfOk result (λ found. found ≡ (if is_long pattern then Err Refusal.BadPath else seen core.now.entries pattern)) }
+{
+    if pattern.len() > MOST_ELEMENTS {
+        return Ok(Err(Refusal::BadPath));
+    }
+    let mut patterns = Paths::empty(alloc);
+    patterns.push(pattern)?;
+    let view = core.look(alloc, &patterns)?;
+    if view.rows.is_empty() {
+        return Ok(Err(Refusal::NotFound));
+    }
+    Ok(Ok(view))
+}
+
 fn put_reply(alloc: Global, reply: Result<u64, Refusal>, out: &mut Bytes) -> Result<(), NoMemory>
     ensures { OnOk result (out.new ≡ out.old ++ reply_line reply) }
 {
     match reply {
-        Ok(stamp) => {
-            out.extend_from_slice(b"ok ")?;
-            put_number(alloc, stamp, out)?;
-        }
-        Err(refusal) => {
-            out.extend_from_slice(b"refused ")?;
-            put_number(alloc, refusal.number() as u64, out)?;
-            out.extend_from_slice(b" ")?;
-            put_number(alloc, refusal.code() as u64, out)?;
-        }
+        Ok(stamp) => put_word_line(alloc, b"ok ", stamp, out),
+        Err(refusal) => put_refusal(alloc, refusal, out),
     }
-    out.extend_from_slice(b"\n")
+}
+
+fn put_view(alloc: Global, seen: Result<View, Refusal>, out: &mut Bytes) -> Result<(), NoMemory>
+    ensures { OnOk result (out.new ≡ out.old ++ view_lines seen) }
+{
+    match seen {
+        Ok(view) => {
+            put_rows(alloc, b"row ", view.rows.items(), out)?;
+            put_word_line(alloc, b"state ", view.stamp, out)
+        }
+        Err(refusal) => put_refusal(alloc, refusal, out),
+    }
 }

@@ -1,4 +1,4 @@
-ghost use Rattle.std.specs.Prelude.{Some};
+ghost use Rattle.std.specs.Prelude.{Some, None};
 
 use crate::{Host, Kit, MemFiles, RunEnd, run};
 use base_lists::{Bytes, Text, Texts};
@@ -55,6 +55,34 @@ impl Kit for MemKit {
     type Output = MemSink;
 }
 
+/// A source each of whose reads fails.
+#[derive(Drop)]
+struct FailSource {
+    faults: u64,
+}
+
+impl Source for FailSource {
+    ghost left = { λ _. None };
+
+    ghost faults = { λ s. s.faults };
+
+    fn read(&mut self, buffer: &mut [u8]) -> Result<usize, Failed> {
+        let _ = buffer;
+        self.faults = self.faults.saturating_add(1);
+        Err(Failed)
+    }
+}
+
+struct FailKit;
+
+impl Kit for FailKit {
+    type Files = MemFiles;
+
+    type Input = FailSource;
+
+    type Output = MemSink;
+}
+
 struct DripKit;
 
 impl Kit for DripKit {
@@ -101,22 +129,22 @@ fn lines_of(rt: &impl Abort, alloc: Global, line: &str, count: usize) -> String 
     text
 }
 
-/// What the words print over this input, and the status, where these calls fail.
+/// What the words print over this input and this text of a file, and the status, where these writes fail.
 fn run_over<A: Abort>(
     rt: &A,
     alloc: Global,
     words: &str,
+    schema: &str,
     script: &[u8],
-    reads: &[u64],
     writes: &[u64],
 ) -> (u8, MemSink) {
     let words = words_of(rt, alloc, words);
     let host: Host<MemKit> = Host {
         files: MemFiles {
-            text: None,
+            text: Some(octets_of(rt, alloc, schema.as_bytes())),
             faults: 0,
         },
-        input: MemSource::make(octets_of(rt, alloc, script), numbers_of(rt, alloc, reads)),
+        input: MemSource::make(octets_of(rt, alloc, script), Texts::empty(alloc)),
         output: MemSink::make(alloc, numbers_of(rt, alloc, writes)),
     };
     let RunEnd { status, host } = run(rt, alloc, words.as_slice(), host);
@@ -124,26 +152,32 @@ fn run_over<A: Abort>(
     (status, output)
 }
 
-/// What `check` prints of the text, and the status, where these writes fail. With no text the file can't be read.
-fn check_over<A: Abort>(
+/// What the words print of the file's text over an input that fails at its first read, the status, and the faults of
+/// the files and of the input. With no text the file can't be read.
+fn fails_over<A: Abort>(
     rt: &A,
     alloc: Global,
+    words: &str,
     text: Option<&[u8]>,
     writes: &[u64],
-) -> (u8, MemSink, u64) {
-    let words = words_of(rt, alloc, "check a.txt");
+) -> (u8, MemSink, u64, u64) {
+    let words = words_of(rt, alloc, words);
     let text = match text {
         Some(octets) => Some(octets_of(rt, alloc, octets)),
         None => None,
     };
-    let host: Host<MemKit> = Host {
+    let host: Host<FailKit> = Host {
         files: MemFiles { text, faults: 0 },
-        input: MemSource::make(Bytes::empty(alloc), Texts::empty(alloc)),
+        input: FailSource { faults: 0 },
         output: MemSink::make(alloc, numbers_of(rt, alloc, writes)),
     };
     let RunEnd { status, host } = run(rt, alloc, words.as_slice(), host);
-    let Host { files, output, .. } = host;
-    (status, output, files.faults)
+    let Host {
+        files,
+        input,
+        output,
+    } = host;
+    (status, output, files.faults, input.faults)
 }
 
 /// A script's run, octet by octet.
@@ -154,10 +188,10 @@ fn drip_over<A: Abort>(
     reads: &[u64],
     writes: &[u64],
 ) -> (u8, MemSink) {
-    let words = words_of(rt, alloc, "script");
+    let words = words_of(rt, alloc, "script S");
     let host: Host<DripKit> = Host {
         files: MemFiles {
-            text: None,
+            text: Some(octets_of(rt, alloc, SCHEMA.as_bytes())),
             faults: 0,
         },
         input: Drip {
@@ -191,13 +225,20 @@ fn scripts_print_the_answers_of_one_history_and_its_log(rt: HostRuntime) -> Resu
         ("set 7", "ok 1\nlog\n1 1 7 apply\n", 0),
         // A later value stands, and each Set is an entry.
         (
-            "update /a \"x\"\nset 1\nupdate /a \"y\"\nset 2\n",
-            "ok 1\nok 2\nlog\n1 1 1 apply\n  update /a\n    /a \"x\"\n2 2 2 apply\n  update /a\n    /a \"y\"\n",
+            "update /system/config/motd \"x\"\nset 1\nget 9 /system\nupdate /system/config/motd \"y\"\nset 2\nget 9 /system/config/motd",
+            "ok 1\nrow /system/config/motd \"x\"\nstate 1\nok 2\nrow /system/config/motd \"y\"\nstate 2\nlog\n1 1 1 apply\n  update /system/config/motd\n    /system/config/motd \"x\"\n2 2 2 apply\n  update /system/config/motd\n    /system/config/motd \"y\"\n",
             0,
         ),
+        // Every row that a pattern covers, in the order of the paths.
         (
-            "update /a \"\"\nset 1\n",
-            "ok 1\nlog\n1 1 1 apply\n  update /a\n    /a \"\"\n",
+            "update /system/config/motd \"\"\nupdate /system/config/hostname \"b\"\nset 1\nget 1 /\nget 1 /*/.../motd\nget 1 /lab\nget 1 /system/*/hostname/x\n",
+            "ok 1\nrow /system/config/hostname \"b\"\nrow /system/config/motd \"\"\nstate 1\nrow /system/config/motd \"\"\nstate 1\nrefused 8 5\nrefused 8 5\nlog\n1 1 1 apply\n  update /system/config/motd\n    /system/config/motd \"\"\n  update /system/config/hostname\n    /system/config/hostname \"b\"\n",
+            0,
+        ),
+        // What is pending isn't read, and a path of 33 elements is refused.
+        (
+            "update /system/config/motd \"x\"\nget 1 /\nget 1 /a/a/a/a/a/a/a/a/a/a/a/a/a/a/a/a/a/a/a/a/a/a/a/a/a/a/a/a/a/a/a/a\nget 1 /a/a/a/a/a/a/a/a/a/a/a/a/a/a/a/a/a/a/a/a/a/a/a/a/a/a/a/a/a/a/a/a/a\n",
+            "refused 8 5\nrefused 8 5\nrefused 5 3\nlog\n",
             0,
         ),
         // A clock that went back, one that stands still, and one behind the year 2100.
@@ -207,11 +248,48 @@ fn scripts_print_the_answers_of_one_history_and_its_log(rt: HostRuntime) -> Resu
             0,
         ),
         // What is pending at the end is not in the log.
-        ("set 1\nupdate /a \"x\"\n", "ok 1\nlog\n1 1 1 apply\n", 0),
+        (
+            "set 1\nupdate /system/config/motd \"x\"\n",
+            "ok 1\nlog\n1 1 1 apply\n",
+            0,
+        ),
+        // What a request is refused for by itself comes at the Set, and its operations are spent.
+        (
+            "update /nope 1\nset 1\nupdate /system/config \"x\"\nset 1\nupdate /a/*/b 1\nset 1\nset 1\n",
+            "refused 6 3\nrefused 7 3\nrefused 5 3\nok 1\nlog\n1 1 1 apply\n",
+            0,
+        ),
+        // The deletes come first, then the replaces, then the updates.
+        (
+            "at 1000\nupdate /system/config/hostname \"u\"\nreplace /system/config/hostname \"r\"\ndelete /system/config/hostname\nset 1\nget 1 /system\n",
+            "ok 1000\nrow /system/config/hostname \"u\"\nstate 1000\nlog\n1 1000 1 apply\n  delete /system/config/hostname\n  replace /system/config/hostname\n    /system/config/hostname \"r\"\n  update /system/config/hostname\n    /system/config/hostname \"u\"\n",
+            0,
+        ),
+        // A delete that names nothing is accepted.
+        (
+            "at 1000\ndelete /interfaces/interface[name=*]/config\nset 1\n",
+            "ok 1000\nlog\n1 1000 1 apply\n  delete /interfaces/interface[name=*]/config\n",
+            0,
+        ),
+        // A value that is out of its range refuses the whole Set.
+        (
+            "at 1000\nupdate /system/config/hostname \"x\"\nupdate /interfaces/interface[name=e0]/config/mtu 65536\nset 1\nget 1 /\n",
+            "refused 7 3\nrefused 8 5\nlog\n",
+            0,
+        ),
+        // Values of many shapes, and a leaf that refers to none.
+        (
+            "at 1000\nupdate /lab {\"big\":\"18446744073709551615\",\"rate\":\"1.50\",\"blob\":\"AQI=\",\"tags\":[\"x\",\"y\"]}\nset 1\nget 1 /lab\nupdate /lab/via \"e9\"\nset 1\n",
+            "ok 1000\nrow /lab/big 18446744073709551615\nrow /lab/blob b:AQI=\nrow /lab/rate 1.5\nrow /lab/tags [\"x\",\"y\"]\nstate 1000\nrefused 16 3\nlog\n1 1000 1 apply\n  update /lab\n    /lab/big 18446744073709551615\n    /lab/blob b:AQI=\n    /lab/rate 1.5\n    /lab/tags [\"x\",\"y\"]\n",
+            0,
+        ),
+        // Lines that are read and have no meaning for scripts as yet.
+        ("trial 1 t 60\n", "script line 1 refused\n", 9),
+        ("set 1\nstop 0 old\n", "ok 1\nscript line 2 refused\n", 9),
         ("\n", "script line 1 refused\n", 9),
         ("at 1\r\n", "script line 1 refused\n", 9),
         (
-            "set 1\nget 1 /\nset 1\n",
+            "set 1\nget 1 /a[\nset 1\n",
             "ok 1\nscript line 2 refused\n",
             9,
         ),
@@ -219,7 +297,7 @@ fn scripts_print_the_answers_of_one_history_and_its_log(rt: HostRuntime) -> Resu
         ("set 1\n\n", "ok 1\nscript line 2 refused\n", 9),
     ];
     for (script, printed, status) in table {
-        let (ended, output) = run_over(&rt, alloc, "script", script.as_bytes(), &[], &[]);
+        let (ended, output) = run_over(&rt, alloc, "script S", SCHEMA, script.as_bytes(), &[]);
         assert_eq!(rt; output.octets(), printed.as_bytes(), "of {script}");
         assert_eq!(rt; ended, status, "of {script}");
         let (ended, output) = drip_over(&rt, alloc, script.as_bytes(), &[], &[]);
@@ -234,18 +312,81 @@ fn scripts_print_the_answers_of_one_history_and_its_log(rt: HostRuntime) -> Resu
 }
 
 #[test]
-fn lines_behind_the_512th_are_refused(rt: HostRuntime) -> Result<(), Fail> {
+fn a_replace_leaves_only_its_own_rows(rt: HostRuntime) -> Result<(), Fail> {
     let alloc = rt.alloc();
-    for (count, printed, status) in [
-        (512, "log\n", 0),
-        (513, "script line 513 refused\n", 9),
-        (70_000, "script line 513 refused\n", 9),
-    ] {
-        let script = lines_of(&rt, alloc, "at 1", count);
-        let (ended, output) = run_over(&rt, alloc, "script", script.as_bytes(), &[], &[]);
-        assert_eq!(rt; output.octets(), printed.as_bytes(), "{count} lines");
-        assert_eq!(rt; ended, status, "{count} lines");
+    let first =
+        "at 1000\nupdate /interfaces/interface[name=eth0]/config {\"mtu\":1500,\"description\":\"a\"}\nset 1\nreplace /interfaces/interface[name=eth0] {\"name\":\"eth0\",\"openconfig-interfaces:config\":{\"mtu\":9000}}\n";
+    let table = [
+        (
+            "update /interfaces/interface[name=eth0]/config/description \"b\"\nset 1\nget 1 /interfaces\n!",
+            "ok 1000\nok 1001\nrow /interfaces/interface[name=eth0]/config/description \"b\"\nrow /interfaces/interface[name=eth0]/config/mtu 9000\nrow /interfaces/interface[name=eth0]/name \"eth0\"\nstate 1001\nscript line 8 refused\n",
+        ),
+        (
+            "set 1\nget 1 /interfaces\n!",
+            "ok 1000\nok 1001\nrow /interfaces/interface[name=eth0]/config/mtu 9000\nrow /interfaces/interface[name=eth0]/name \"eth0\"\nstate 1001\nscript line 7 refused\n",
+        ),
+    ];
+    for (rest, printed) in table {
+        let mut script = String::from_str(alloc, first).expect(&rt, "memory");
+        script.push_str(rest).expect(&rt, "memory");
+        let (ended, output) = run_over(&rt, alloc, "script S", SCHEMA, script.as_bytes(), &[]);
+        assert_eq!(rt; output.octets(), printed.as_bytes(), "of {rest}");
+        assert_eq!(rt; ended, 9, "of {rest}");
     }
+    Ok(())
+}
+
+/// A Set of the hostname with so many octets, and what is behind it.
+fn long_hostname(rt: &impl Abort, alloc: Global, count: usize, rest: &str) -> String {
+    let mut script = String::from_str(alloc, "update /system/config/hostname \"").expect(
+        rt, "memory",
+    );
+    for _ in 0..count {
+        script.push_str("h").expect(rt, "memory");
+    }
+    script.push_str("\"\nset 1\n").expect(rt, "memory");
+    script.push_str(rest).expect(rt, "memory");
+    script
+}
+
+#[test]
+fn a_tree_and_a_log_have_limits(rt: HostRuntime) -> Result<(), Fail> {
+    let alloc = rt.alloc();
+    let table = [
+        ("script S", 316_644, "ok 1\nscript line 3 refused\n"),
+        ("script S", 316_645, "refused 17 8\nscript line 3 refused\n"),
+        ("script S 2 4096", 3_971, "ok 1\nscript line 3 refused\n"),
+        (
+            "script S 2 4096",
+            3_972,
+            "refused 18 8\nscript line 3 refused\n",
+        ),
+    ];
+    for (words, count, printed) in table {
+        let script = long_hostname(&rt, alloc, count, "!");
+        let (ended, output) = run_over(&rt, alloc, words, SCHEMA, script.as_bytes(), &[]);
+        assert_eq!(rt;
+            output.octets(),
+            printed.as_bytes(),
+            "{words}, {count} octets"
+        );
+        assert_eq!(rt; ended, 9, "{words}, {count} octets");
+    }
+    let script = b"set 1\nset 1\nset 1\n";
+    let printed = "ok 1\nok 2\nrefused 18 8\nlog\n1 1 1 apply\n2 2 1 apply\n";
+    let (ended, output) = run_over(&rt, alloc, "script S 2 4096", SCHEMA, script, &[]);
+    assert_eq!(rt; output.octets(), printed.as_bytes());
+    assert_eq!(rt; ended, 0);
+    Ok(())
+}
+
+#[test]
+fn scripts_have_many_lines_and_lines_many_octets(rt: HostRuntime) -> Result<(), Fail> {
+    let alloc = rt.alloc();
+    let script = lines_of(&rt, alloc, "at 1", 70_000);
+    let (ended, output) = run_over(&rt, alloc, "script S", "", script.as_bytes(), &[]);
+    assert_eq!(rt; output.octets(), b"log\n".as_slice());
+    assert_eq!(rt; ended, 0);
     Ok(())
 }
 
@@ -254,20 +395,30 @@ fn other_words_are_refused(rt: HostRuntime) -> Result<(), Fail> {
     let alloc = rt.alloc();
     for words in [
         "",
-        "scripts",
-        "Script",
-        "script x",
+        "script",
+        "scripts S",
+        "Script S",
+        "script S x",
+        "script S 2",
+        "script S 2 4096 1",
+        "script S 1 4096",
+        "script S 2 4095",
+        "script S 65537 4096",
+        "script S 2 268435457",
+        "script S 02 4096",
+        "script S 2 +4096",
+        "script S 4294967298 4096",
         "log",
         "check",
         "check a b",
         "checks a",
     ] {
-        let (ended, output) = run_over(&rt, alloc, words, b"set 1\n", &[], &[]);
+        let (ended, output) = run_over(&rt, alloc, words, SCHEMA, b"set 1\n", &[]);
         assert_eq!(rt; output.octets(), b"bad words\n".as_slice(), "{words}");
         assert_eq!(rt; ended, 2, "{words}");
     }
     // An output that fails leaves the status.
-    let (ended, output) = run_over(&rt, alloc, "log", b"set 1\n", &[], &[1]);
+    let (ended, output) = run_over(&rt, alloc, "log", SCHEMA, b"set 1\n", &[1]);
     assert_eq!(rt; output.octets(), b"".as_slice());
     assert_eq!(rt; ended, 2);
     Ok(())
@@ -286,16 +437,37 @@ fn a_schema_is_checked(rt: HostRuntime) -> Result<(), Fail> {
         ),
     ];
     for (text, printed, status) in table {
-        let (ended, output, faults) = check_over(&rt, alloc, Some(text.as_bytes()), &[]);
+        let text_octets = Some(text.as_bytes());
+        let (ended, output, texts, reads) = fails_over(&rt, alloc, "check S", text_octets, &[]);
         assert_eq!(rt; output.octets(), printed.as_bytes(), "of {text}");
-        assert_eq!(rt; (ended, faults), (status, 0), "of {text}");
-        let (ended, output, faults) = check_over(&rt, alloc, Some(text.as_bytes()), &[1]);
+        assert_eq!(rt; (ended, texts, reads), (status, 0, 0), "of {text}");
+        let (ended, output, texts, reads) = fails_over(&rt, alloc, "check S", text_octets, &[1]);
         assert_eq!(rt; output.octets(), b"".as_slice());
-        assert_eq!(rt; (ended, faults), (7, 0), "of {text}");
+        assert_eq!(rt; (ended, texts, reads), (7, 0, 0), "of {text}");
     }
-    let (ended, output, faults) = check_over(&rt, alloc, None, &[]);
+    let (ended, output, texts, reads) = fails_over(&rt, alloc, "check S", None, &[]);
     assert_eq!(rt; output.octets(), b"input fault\n".as_slice());
-    assert_eq!(rt; (ended, faults), (6, 1));
+    assert_eq!(rt; (ended, texts, reads), (6, 1, 0));
+    Ok(())
+}
+
+#[test]
+fn a_script_is_read_only_under_a_schema(rt: HostRuntime) -> Result<(), Fail> {
+    let alloc = rt.alloc();
+    let no_schema = Some(b"module m\nleaf /a/b string\n".as_slice());
+    let table = [
+        (None, "input fault\n", 6, 1, 0),
+        (no_schema, "schema line 2: no parent\n", 3, 0, 0),
+        (Some(SCHEMA.as_bytes()), "input fault\n", 6, 0, 1),
+    ];
+    for (text, printed, status, text_faults, read_faults) in table {
+        let (ended, output, texts, reads) = fails_over(&rt, alloc, "script S", text, &[]);
+        assert_eq!(rt; output.octets(), printed.as_bytes());
+        assert_eq!(rt; (ended, texts, reads), (status, text_faults, read_faults));
+    }
+    let (ended, output, texts, reads) = fails_over(&rt, alloc, "script S", no_schema, &[1]);
+    assert_eq!(rt; output.octets(), b"".as_slice());
+    assert_eq!(rt; (ended, texts, reads), (7, 0, 0));
     Ok(())
 }
 

@@ -1,13 +1,17 @@
-ghost use Rattle.std.specs.Prelude.{◌≡◌, ◌≢◌, ◌↔◌, ◌⊎◌, ℕ, List, [], ◌∷◌, codes, map, string_bytes, IsTrue, IfSome, IfNone};
+ghost use Rattle.std.specs.Prelude.{◌≡◌, ◌≢◌, ◌↔◌, ◌⊎◌, ℕ, List, codes, map, string_bytes, IfSome};
+ghost use Rattle.base_kinds.specs.declared.entry.Limits.{Limits as LogLimits};
 ghost use Rattle.edge_traits.specs.Faults.{Rose};
 ghost use Rattle.target_top.specs.Checks.{ChecksText, ChecksFront};
 ghost use Rattle.target_top.specs.Forms.{IsScript, IsCheck, IsForm};
-ghost use Rattle.target_top.specs.Runs.{Takes, Says, AppendsScript, PrintsWhatItRead, AppendsScriptFront};
+ghost use Rattle.schema_text.specs.Schemas.{schema_of};
+ghost use Rattle.target_top.specs.Runs.{Takes, Says};
+ghost use Rattle.target_top.specs.ScriptRuns.{OfText, CouldNotRead, AppendsRun, AppendsRunFront, PrintsWhatItRead};
 
 use crate::check::check;
 use crate::files::Files;
 use crate::script_run::script;
 use crate::status::{BAD_WORDS, say};
+use crate::words::{checked_name, script_words};
 use edge_traits::{Sink, Source};
 use std::alloc::Global;
 
@@ -37,33 +41,36 @@ pub struct RunEnd<K: Kit> {
 
 /// Does what the words say, over the objects of the host, and answers the status that the process is to end with.
 ///
-/// `script` reads a script from the input to its end and prints its answers and its commit log. `check SCHEMA` reads the
-/// text of the file with this name as a schema and prints how many nodes it has, or its first fault.
+/// `script SCHEMA`, or `script SCHEMA ENTRIES OCTETS` with the limits of its log, reads the text of the file with this
+/// name as a schema, then a script from the input to its end, and prints the script's answers and its commit log.
+/// `check SCHEMA` prints how many nodes the schema has. Of a text that is no schema both print its first fault.
 pub fn run<R, K: Kit>(rt: &R, alloc: Global, words: &[String], host: Host<K>) -> RunEnd<K>
-    // Other words are refused. Only `script` reads the input, and only `check` a file.
+    // Other words are refused, and read nothing. Only `script` reads the input.
     ensures bad_words { (result.status ≡ 2) ↔ (IsForm (map (λ word. string_bytes word) words.now) → ⊥) }
     ensures bad_words_line { result.status ≡ 2 → Says (K.Output.written host.output) (K.Output.written result.host.output) (K.Output.faults host.output) (K.Output.faults result.host.output) (codes "bad words\n") }
-    ensures unread { (IsScript (map (λ word. string_bytes word) words.now) → ⊥) → Takes 0 (K.Input.left host.input) (K.Input.left result.host.input) }
-    ensures quiet_unread { (IsScript (map (λ word. string_bytes word) words.now) → ⊥) → K.Input.faults result.host.input ≡ K.Input.faults host.input }
-    ensures unread_files { ((name : List ℕ) → IsCheck (map (λ word. string_bytes word) words.now) name → ⊥) → result.host.files ≡ host.files }
+    ensures unread_files { (IsForm (map (λ word. string_bytes word) words.now) → ⊥) → result.host.files ≡ host.files }
+    ensures unread { ((name : List ℕ) (limits : LogLimits) → IsScript (map (λ word. string_bytes word) words.now) name limits → ⊥) → Takes 0 (K.Input.left host.input) (K.Input.left result.host.input) }
+    ensures quiet_unread { ((name : List ℕ) (limits : LogLimits) → IsScript (map (λ word. string_bytes word) words.now) name limits → ⊥) → K.Input.faults result.host.input ≡ K.Input.faults host.input }
 
-    // At status 0 and 9 of `script` the output has what the script prints, of the whole input, and nothing else.
-    ensures script { IsScript (map (λ word. string_bytes word) words.now) → (result.status ≡ 0) ⊎ (result.status ≡ 9) → IfSome (K.Input.left host.input) (λ script. AppendsScript (K.Output.written host.output) (K.Output.written result.host.output) script result.status) }
+    // At status 0, 3 and 9 of `script` the output has what the script prints under the file's text, of the whole input,
+    // and nothing else: 3 exactly where that text is no schema.
+    ensures script { (name : List ℕ) (limits : LogLimits) → IsScript (map (λ word. string_bytes word) words.now) name limits → (result.status ≡ 0) ⊎ (result.status ≡ 3) ⊎ (result.status ≡ 9) → OfText (K.Files.held host.files name) (λ schema. IfSome (K.Input.left host.input) (λ script. AppendsRun (schema_of schema) limits (K.Output.written host.output) (K.Output.written result.host.output) script result.status)) }
 
-    // Reading stops where the limits of a script are passed: 512 lines of 256 octets and a line feed.
-    ensures read { Takes 131585 (K.Input.left host.input) (K.Input.left result.host.input) }
-    ensures printed { IsScript (map (λ word. string_bytes word) words.now) → (result.status ≡ 0) ⊎ (result.status ≡ 9) → PrintsWhatItRead (K.Input.left host.input) (K.Input.left result.host.input) (K.Output.written host.output) (K.Output.written result.host.output) result.status }
-    ensures input_fault_within { result.status ≡ 6 → Takes 131584 (K.Input.left host.input) (K.Input.left result.host.input) }
+    // The input is read only under a schema. Reading stops one octet past the limit of a script.
+    ensures read { Takes 67108865 (K.Input.left host.input) (K.Input.left result.host.input) }
+    ensures printed { (name : List ℕ) (limits : LogLimits) → IsScript (map (λ word. string_bytes word) words.now) name limits → (result.status ≡ 0) ⊎ (result.status ≡ 3) ⊎ (result.status ≡ 9) → OfText (K.Files.held host.files name) (λ schema. PrintsWhatItRead (schema_of schema) limits (K.Input.left host.input) (K.Input.left result.host.input) (K.Output.written host.output) (K.Output.written result.host.output) result.status) }
+    ensures no_schema_unread { result.status ≡ 3 → Takes 0 (K.Input.left host.input) (K.Input.left result.host.input) }
+    ensures input_fault_within { result.status ≡ 6 → Takes 67108864 (K.Input.left host.input) (K.Input.left result.host.input) }
 
     // At status 0 and 3 of `check` the output has what is printed of the file's text, and nothing else.
     ensures checked { (name : List ℕ) → IsCheck (map (λ word. string_bytes word) words.now) name → (result.status ≡ 0) ⊎ (result.status ≡ 3) → ChecksText (K.Files.held host.files name) (K.Output.written host.output) (K.Output.written result.host.output) result.status }
 
     // 6 and 7 come only where the object failed.
-    ensures input_fault { IsScript (map (λ word. string_bytes word) words.now) → result.status ≡ 6 → Rose (K.Input.faults host.input) (K.Input.faults result.host.input) }
+    ensures input_fault { (name : List ℕ) (limits : LogLimits) → IsScript (map (λ word. string_bytes word) words.now) name limits → result.status ≡ 6 → CouldNotRead (K.Files.text_faults host.files) (K.Files.text_faults result.host.files) (K.Input.left host.input) (K.Input.left result.host.input) (K.Input.faults host.input) (K.Input.faults result.host.input) }
     ensures file_fault { (name : List ℕ) → IsCheck (map (λ word. string_bytes word) words.now) name → result.status ≡ 6 → Rose (K.Files.text_faults host.files) (K.Files.text_faults result.host.files) }
     ensures input_fault_line { result.status ≡ 6 → Says (K.Output.written host.output) (K.Output.written result.host.output) (K.Output.faults host.output) (K.Output.faults result.host.output) (codes "input fault\n") }
     ensures output_fault { result.status ≡ 7 → Rose (K.Output.faults host.output) (K.Output.faults result.host.output) }
-    ensures output_fault_front { IsScript (map (λ word. string_bytes word) words.now) → result.status ≡ 7 → IfSome (K.Input.left host.input) (λ script. AppendsScriptFront (K.Output.written host.output) (K.Output.written result.host.output) script) }
+    ensures output_fault_front { (name : List ℕ) (limits : LogLimits) → IsScript (map (λ word. string_bytes word) words.now) name limits → result.status ≡ 7 → OfText (K.Files.held host.files name) (λ schema. IfSome (K.Input.left host.input) (λ script. AppendsRunFront (schema_of schema) limits (K.Output.written host.output) (K.Output.written result.host.output) script)) }
     ensures check_fault_front { (name : List ℕ) → IsCheck (map (λ word. string_bytes word) words.now) name → result.status ≡ 7 → ChecksFront (K.Files.held host.files name) (K.Output.written host.output) (K.Output.written result.host.output) }
 
     // An object that failed is never passed over.
@@ -74,7 +81,7 @@ pub fn run<R, K: Kit>(rt: &R, alloc: Global, words: &[String], host: Host<K>) ->
     // Want of memory is told where it can be.
     ensures memory_line { result.status ≡ 1 → Says (K.Output.written host.output) (K.Output.written result.host.output) (K.Output.faults host.output) (K.Output.faults result.host.output) (codes "no memory\n") }
 
-    ensures script_statuses { IsScript (map (λ word. string_bytes word) words.now) → (result.status ≡ 0) ⊎ (result.status ≡ 1) ⊎ (result.status ≡ 6) ⊎ (result.status ≡ 7) ⊎ (result.status ≡ 9) }
+    ensures script_statuses { (name : List ℕ) (limits : LogLimits) → IsScript (map (λ word. string_bytes word) words.now) name limits → (result.status ≡ 0) ⊎ (result.status ≡ 1) ⊎ (result.status ≡ 3) ⊎ (result.status ≡ 6) ⊎ (result.status ≡ 7) ⊎ (result.status ≡ 9) }
     ensures check_statuses { (name : List ℕ) → IsCheck (map (λ word. string_bytes word) words.now) name → (result.status ≡ 0) ⊎ (result.status ≡ 1) ⊎ (result.status ≡ 3) ⊎ (result.status ≡ 6) ⊎ (result.status ≡ 7) }
 {
     let _ = rt;
@@ -83,8 +90,9 @@ pub fn run<R, K: Kit>(rt: &R, alloc: Global, words: &[String], host: Host<K>) ->
         mut input,
         mut output,
     } = host;
-    if is_script(words) {
-        let status = script(alloc, &mut input, &mut output);
+    if let Some(form) = script_words(words) {
+        let (name, limits) = form;
+        let status = script(alloc, &mut files, name, limits, &mut input, &mut output);
         return RunEnd {
             status,
             host: Host {
@@ -113,31 +121,5 @@ pub fn run<R, K: Kit>(rt: &R, alloc: Global, words: &[String], host: Host<K>) ->
             input,
             output,
         },
-    }
-}
-
-/// Whether the words are `script` alone.
-fn is_script(words: &[String]) -> bool
-    ensures { IsTrue result ↔ IsScript (map (λ word. string_bytes word) words.now) }
-{
-    match words {
-        [word] => word.as_str() == "script",
-        _ => false,
-    }
-}
-
-/// The name behind `check`, where the words are these two.
-fn checked_name(words: &[String]) -> Option<&str>
-    ensures name { IfSome result (λ name. IsCheck (map (λ word. string_bytes word) words.now) name.now) }
-    ensures none { IfNone result ((name : List ℕ) → IsCheck (map (λ word. string_bytes word) words.now) name → ⊥) }
-{
-    match words {
-        [word, name] => {
-            if word.as_str() == "check" {
-                return Some(name.as_str());
-            }
-            None
-        }
-        _ => None,
     }
 }

@@ -1,8 +1,0 @@
-use Rattle.std.proofs.Common.{◌≡◌, ◌++◌, take}
-use Rattle.std.specs.List.{flat_map}
-use Rattle.base_kinds.specs.Texts.{elem_text}
-use Rattle.target_top.proofs.texts.put_elems.Given as goal
-
--- the elements so far are added
-abbrev pub invariant-loop-elem : goal.invariant-loop-elem
-invariant-loop-elem l = l.out ≡ l.fn.out ++ flat_map elem_text (take l.elem-index l.elems)

@@ -1,8 +1,0 @@
-use Rattle.std.proofs.Common.{◌≡◌, ◌++◌, take}
-use Rattle.std.specs.List.{flat_map}
-use Rattle.base_kinds.specs.Texts.{key_part}
-use Rattle.target_top.proofs.texts.put_keys.Given as goal
-
--- the keys so far are added
-abbrev pub invariant-loop-key : goal.invariant-loop-key
-invariant-loop-key l = l.out ≡ l.fn.out ++ flat_map key_part (take l.key-index l.keys)
