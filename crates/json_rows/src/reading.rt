@@ -137,7 +137,8 @@ fn walked_rows(alloc: Global, schema: &Schema, path: &Path, text: &[u8]) -> Resu
     last_rows(alloc, schema, id, path, last, &json)
 }
 
-/// The rows that the JSON text means at the path, rising by path. The path's keys are taken as they are.
+/// The rows that the JSON text means at the path, rising by path. The keys of a path
+/// that ends at a list's entry are taken as they are; at another node those of the last element aren't looked at.
 ///
 /// `NotInSchema`: the path has no node, or a member names no child. `BadValue`: the text isn't JSON, or its value isn't
 /// taken there (RFC 7951 4 to 6). The first fault in the order of the walk decides.

@@ -46,7 +46,7 @@ is_list_node node = is_list_sort node.sort
 abbrev pub lacks_colon : List ℕ → Bool
 lacks_colon text = list_all (λ octet. not (is_colon octet)) text
 
--- What every schema keeps of its nodes (RFC 7950 4.2.2, 6.2, 7.8.2): what stands above a node is a container or a list,
+-- What the grammar of a schema's text keeps of its nodes (RFC 7950 4.2.2, 6.2, 7.8.2), as a premise here: what stands above a node is a container or a list,
 -- no name of a node or of a module has a `:`, and a list alone has keys, which are leaves.
 pub record KeepsNames (schema : List SchemaNode) : Type 0 where
   pub inner : (names : List (List ℕ)) (name : List ℕ) (node child : SchemaNode) → node_of schema names ≡ Some node → node_of schema (names ++ name ∷ []) ≡ Some child → is_inner node.sort ≡ true
@@ -89,7 +89,7 @@ pub record IsBelow (here path : List Elem) : Type 0 where
   pub is : path ≡ here ++ elem ∷ rest
   pub few : length (elem ∷ rest) ≤ most_levels
 
--- the rows that a valid tree has below an instance, rising by path
+-- rows below an instance as a valid tree has them, rising by path, but with no empty leaf-list and with keys in order
 pub record IsPart (schema : List SchemaNode) (here : List Elem) (rows : List Row) : Type 0 where
   pub below : AllByRecursion (λ row. IsBelow here row.path) rows
   pub rising : IsRising rows

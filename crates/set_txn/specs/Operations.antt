@@ -1,4 +1,5 @@
--- The operations of a Set request, resolved by a schema (gNMI 3.4.1 to 3.4.4). Paths, names and keys come first, values behind them.
+-- The operations of a Set request, resolved by a schema (gNMI 3.4.1 to 3.4.4). Of each operation the path is looked at
+-- first, and then the value; one operation follows the other.
 use Rattle.std.specs.Prelude.{List, [], ◌++◌, Bool, not, ◌&&◌, ◌==◌, length, Result, Ok, Err, if◌then◌else◌}
 use Rattle.std.specs.List.{list_all, list_any}
 use Rattle.base_kinds.specs.declared.path.Elem.{Elem}
@@ -33,7 +34,8 @@ delete_told prefix path = if is_whole_path (prefix ++ path) then Ok (record { ac
 abbrev pub keys_agree : List Row → List Row → Bool
 keys_agree keys rows = list_all (λ key. unless_none (value_at key.path rows) (same_scalar key.value)) keys
 
--- rows that an operation may have; those of a schema that was read from a text always are
+-- Rows that an operation may have: short paths, keys that rise, decimals with 1 to 18 places. The types of a schema allow
+-- others; the grammar of its text doesn't.
 abbrev pub are_fit_rows : List Row → Bool
 are_fit_rows rows = list_all is_fit_row rows && rises (λ a b. path_cmp a.path b.path) rows
 

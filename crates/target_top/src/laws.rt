@@ -10,7 +10,7 @@ pub fn scripts_print_one_text()
     ensures { PrintsOne }
 {}
 
-/// A Set that is refused over the history changes nothing.
+/// A Set that is refused over the history leaves it as the clock alone makes it.
 pub fn refused_sets_change_nothing()
     ensures { RefusedChangesNothing }
 {}

@@ -56,7 +56,7 @@ pub fn run<R, K: Kit>(rt: &R, alloc: Global, words: &[String], host: Host<K>) ->
     // and nothing else: 3 exactly where that text is no schema.
     ensures script { (name : List ℕ) (limits : LogLimits) → IsScript (map (λ word. string_bytes word) words.now) name limits → (result.status ≡ 0) ⊎ (result.status ≡ 3) ⊎ (result.status ≡ 9) → OfText (K.Files.held host.files name) (λ schema. IfSome (K.Input.left host.input) (λ script. AppendsRun (schema_of schema) limits (K.Output.written host.output) (K.Output.written result.host.output) script result.status)) }
 
-    // The input is read only under a schema. Reading stops one octet past the limit of a script.
+    // At status 3 nothing of the input was read. Reading stops one octet past the limit of a script.
     ensures read { Takes 67108865 (K.Input.left host.input) (K.Input.left result.host.input) }
     ensures printed { (name : List ℕ) (limits : LogLimits) → IsScript (map (λ word. string_bytes word) words.now) name limits → (result.status ≡ 0) ⊎ (result.status ≡ 3) ⊎ (result.status ≡ 9) → OfText (K.Files.held host.files name) (λ schema. PrintsWhatItRead (schema_of schema) limits (K.Input.left host.input) (K.Input.left result.host.input) (K.Output.written host.output) (K.Output.written result.host.output) result.status) }
     ensures no_schema_unread { result.status ≡ 3 → Takes 0 (K.Input.left host.input) (K.Input.left result.host.input) }
