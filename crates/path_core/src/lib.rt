@@ -16,4 +16,4 @@ pub use joining::{cmp_paths, join_prefix};
 pub use laws::{one_path, one_text, one_value, texts_read_back};
 pub use matching::{covers, matches};
 pub use reading::{read_path_text, read_value_text};
-pub use writing::write_path_text;
+pub use writing::{write_path_text, write_value_text};

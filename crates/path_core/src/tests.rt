@@ -1,6 +1,6 @@
 use crate::{
     PathFault, cmp_paths, covers, join_prefix, matches, read_path_text, read_value_text,
-    write_path_text,
+    write_path_text, write_value_text,
 };
 use base_kinds::{Bytes, Elem, Keys, Path, Text};
 use std::alloc::Global;
@@ -199,12 +199,16 @@ const NO_VALUES: [&[u8]; 10] = [
 ];
 
 #[test]
-fn values_are_read_alone(rt: HostRuntime) {
+fn values_are_read_and_written_alone(rt: HostRuntime) {
     let alloc = rt.alloc();
     for (text, value) in VALUES {
+        let value = text_of(&rt, alloc, value);
+        let mut written = Bytes::empty(alloc);
+        write_value_text(alloc, &value, &mut written).expect(&rt, "memory");
+        assert_eq!(rt; written.items(), text.as_bytes(), "{text}");
         assert_eq!(rt;
             read_value_text(alloc, text.as_bytes()),
-            Ok(text_of(&rt, alloc, value)),
+            Ok(value),
             "{text}"
         );
     }

@@ -1,7 +1,7 @@
 // The text of a path, written.
 ghost use Rattle.std.specs.Prelude.{◌≡◌, ◌++◌, OnOk, OnErr};
 ghost use Rattle.std.specs.List.{flat_map};
-ghost use Rattle.base_kinds.specs.Texts.{octet_text, escaped, key_part, elem_text, path_text};
+ghost use Rattle.base_kinds.specs.Texts.{octet_text, escaped, is_key_octet, key_part, elem_text, path_text};
 ghost use Rattle.path_core.specs.Reading.{test_of};
 ghost use Rattle.path_core.specs.Writing.{AppendsFront};
 
@@ -67,6 +67,15 @@ fn write_elems(elems: &[Elem], out: &mut Bytes) -> Result<(), NoMemory>
         write_elem(elem, out)?;
     }
     Ok(())
+}
+
+/// Adds the text in the form in which a path's text has the values of its keys.
+pub fn write_value_text(_alloc: Global, value: &Text, out: &mut Bytes) -> Result<(), NoMemory>
+    ensures ok { OnOk result (out.new ≡ out.old ++ escaped is_key_octet value.now) }
+    // What was added before memory ran out is a front of it.
+    ensures err { OnErr result (AppendsFront out.old out.new (escaped is_key_octet value.now)) }
+{
+    write_octets(Part::Value, value.octets(), out)
 }
 
 /// Adds the path's text. An empty element name is written as no octets.
