@@ -1,9 +1,4 @@
-pub mod Authors
-pub mod LastFeeds
-pub mod Pieces
-pub mod PlainHistories
-pub mod ReadAnswers
+pub mod Inputs
 pub mod ScriptLaws
 pub mod Statuses
-pub mod Transcripts
 pub mod WordLists

@@ -1,9 +1,5 @@
 pub mod Checks
-pub mod Examples
 pub mod Forms
 pub mod Laws
-pub mod Logs
-pub mod Requests
 pub mod Runs
 pub mod ScriptRuns
-pub mod Scripts

@@ -8,7 +8,7 @@ use Rattle.schema_text.specs.declared.cause.SchemaFault.{SchemaFault}
 use Rattle.schema_text.specs.Schemas.{schema_of}
 use Rattle.target_top.specs.Checks.{verdict_line}
 use Rattle.target_top.specs.Runs.{Takes, AppendsFront}
-use Rattle.target_top.specs.Scripts.{RunsScript}
+use Rattle.script_session.specs.Scripts.{RunsScript}
 
 -- under a schema a script runs; of a text that is none its first fault is told, as the check of a schema tells it
 abbrev pub RunsUnder : Result (List SchemaNode) SchemaFault → Limits → List ℕ → List ℕ → ℕ → Type 0
@@ -30,6 +30,11 @@ PrintsWhatItRead read limits left rest old new status = (octets : List ℕ) × C
 -- a front of what the script prints was written
 abbrev pub AppendsRunFront : Result (List SchemaNode) SchemaFault → Limits → Option (List ℕ) → Option (List ℕ) → List ℕ → Type 0
 AppendsRunFront read limits old new script = (text : List ℕ) × ((status : ℕ) × RunsUnder read limits script text status) × AppendsFront old new text
+
+-- of a text that is no schema the input isn't read
+abbrev pub LeavesUnread : Result (List SchemaNode) SchemaFault → Option (List ℕ) → Option (List ℕ) → ℕ → ℕ → Type 0
+LeavesUnread (Ok schema) left rest reads reads' = Unit {0}
+LeavesUnread (Err fault) left rest reads reads' = Takes 0 left rest × (reads' ≡ reads)
 
 -- this holds of a text, which is the file's where the files tell it
 abbrev pub OfText : Option (List ℕ) → (List ℕ → Type 0) → Type 0

@@ -5,9 +5,9 @@ ghost use Rattle.target_top.specs.Checks.{verdict_line, check_text, check_status
 ghost use Rattle.target_top.specs.Runs.{Says, AppendsFront};
 
 use crate::files::{Files, TextFault};
-use crate::numbers::{put_number, put_word_line};
-use crate::status::{DONE, INPUT_FAULT, NO_MEMORY, NO_SCHEMA, OUTPUT_FAULT, say};
+use crate::status::{DONE, NO_SCHEMA, OUTPUT_FAULT, say_input_fault, say_no_memory};
 use base_kinds::{Bytes, NoMemory};
+use commit_report::{put_number, put_number_line};
 use edge_traits::{Sink, write_whole};
 use schema_core::Schema;
 use schema_text::{SchemaError, SchemaFault, read_schema};
@@ -33,14 +33,8 @@ pub fn check<F: Files, W: Sink>(alloc: Global, files: &mut F, name: &str, output
     ensures statuses { (result ≡ 0) ⊎ (result ≡ 1) ⊎ (result ≡ 3) ⊎ (result ≡ 6) ⊎ (result ≡ 7) }
 {
     match files.text(alloc, name) {
-        Err(TextFault::Failed) => {
-            say(output, b"input fault\n");
-            INPUT_FAULT
-        }
-        Err(TextFault::NoMemory) => {
-            say(output, b"no memory\n");
-            NO_MEMORY
-        }
+        Err(TextFault::Failed) => say_input_fault(output),
+        Err(TextFault::NoMemory) => say_no_memory(output),
         Ok(text) => print_verdict(alloc, text.items(), output),
     }
 }
@@ -56,8 +50,7 @@ fn print_verdict<W: Sink>(alloc: Global, text: &[u8], output: &mut W) -> u8
     ensures statuses { (result ≡ 0) ⊎ (result ≡ 1) ⊎ (result ≡ 3) ⊎ (result ≡ 7) }
 {
     let Ok(verdict) = verdict_of(alloc, text) else {
-        say(output, b"no memory\n");
-        return NO_MEMORY;
+        return say_no_memory(output);
     };
     if write_whole(output, verdict.text.items()).is_err() {
         return OUTPUT_FAULT;
@@ -86,7 +79,7 @@ fn count_line(alloc: Global, schema: &Schema) -> Result<Bytes, NoMemory>
     ensures { IfOk result (λ line. line ≡ verdict_line (Ok schema.now)) }
 {
     let mut line = Bytes::empty(alloc);
-    put_word_line(alloc, b"schema ok ", schema.nodes() as u64, &mut line)?;
+    put_number_line(alloc, b"schema ok ", schema.nodes() as u64, &mut line)?;
     Ok(line)
 }
 

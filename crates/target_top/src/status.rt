@@ -1,3 +1,4 @@
+ghost use Rattle.std.specs.Prelude.{◌≡◌, codes};
 ghost use Rattle.target_top.specs.Runs.{Says};
 
 use edge_traits::{Sink, write_whole};
@@ -21,4 +22,22 @@ pub fn say<W: Sink>(output: &mut W, line: &[u8])
     ensures { Says (W.written output.old) (W.written output.new) (W.faults output.old) (W.faults output.new) line.now }
 {
     let _ = write_whole(output, line);
+}
+
+/// Says that the input, or a file, could not be read. Answers the status for it.
+pub fn say_input_fault<W: Sink>(output: &mut W) -> u8
+    ensures status { result ≡ 6 }
+    ensures line { Says (W.written output.old) (W.written output.new) (W.faults output.old) (W.faults output.new) (codes "input fault\n") }
+{
+    say(output, b"input fault\n");
+    INPUT_FAULT
+}
+
+/// Says that memory is wanting. Answers the status for it.
+pub fn say_no_memory<W: Sink>(output: &mut W) -> u8
+    ensures status { result ≡ 1 }
+    ensures line { Says (W.written output.old) (W.written output.new) (W.faults output.old) (W.faults output.new) (codes "no memory\n") }
+{
+    say(output, b"no memory\n");
+    NO_MEMORY
 }

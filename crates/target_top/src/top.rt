@@ -5,7 +5,7 @@ ghost use Rattle.target_top.specs.Checks.{ChecksText, ChecksFront};
 ghost use Rattle.target_top.specs.Forms.{IsScript, IsCheck, IsForm};
 ghost use Rattle.schema_text.specs.Schemas.{schema_of};
 ghost use Rattle.target_top.specs.Runs.{Takes, Says};
-ghost use Rattle.target_top.specs.ScriptRuns.{OfText, CouldNotRead, AppendsRun, AppendsRunFront, PrintsWhatItRead};
+ghost use Rattle.target_top.specs.ScriptRuns.{OfText, CouldNotRead, AppendsRun, AppendsRunFront, LeavesUnread, PrintsWhatItRead};
 
 use crate::check::check;
 use crate::files::Files;
@@ -56,10 +56,11 @@ pub fn run<R, K: Kit>(rt: &R, alloc: Global, words: &[String], host: Host<K>) ->
     // and nothing else: 3 exactly where that text is no schema.
     ensures script { (name : List ℕ) (limits : LogLimits) → IsScript (map (λ word. string_bytes word) words.now) name limits → (result.status ≡ 0) ⊎ (result.status ≡ 3) ⊎ (result.status ≡ 9) → OfText (K.Files.held host.files name) (λ schema. IfSome (K.Input.left host.input) (λ script. AppendsRun (schema_of schema) limits (K.Output.written host.output) (K.Output.written result.host.output) script result.status)) }
 
-    // At status 3 nothing of the input was read. Reading stops one octet past the limit of a script.
+    // Under a text that is no schema nothing of the input is read. Reading stops one octet past the limit of a script.
     ensures read { Takes 67108865 (K.Input.left host.input) (K.Input.left result.host.input) }
     ensures printed { (name : List ℕ) (limits : LogLimits) → IsScript (map (λ word. string_bytes word) words.now) name limits → (result.status ≡ 0) ⊎ (result.status ≡ 3) ⊎ (result.status ≡ 9) → OfText (K.Files.held host.files name) (λ schema. PrintsWhatItRead (schema_of schema) limits (K.Input.left host.input) (K.Input.left result.host.input) (K.Output.written host.output) (K.Output.written result.host.output) result.status) }
     ensures no_schema_unread { result.status ≡ 3 → Takes 0 (K.Input.left host.input) (K.Input.left result.host.input) }
+    ensures no_schema_untouched { (name : List ℕ) (limits : LogLimits) → IsScript (map (λ word. string_bytes word) words.now) name limits → OfText (K.Files.held host.files name) (λ schema. LeavesUnread (schema_of schema) (K.Input.left host.input) (K.Input.left result.host.input) (K.Input.faults host.input) (K.Input.faults result.host.input)) }
     ensures input_fault_within { result.status ≡ 6 → Takes 67108864 (K.Input.left host.input) (K.Input.left result.host.input) }
 
     // At status 0 and 3 of `check` the output has what is printed of the file's text, and nothing else.

@@ -1,0 +1,5 @@
+pub mod Examples
+pub mod Laws
+pub mod PlainSets
+pub mod Requests
+pub mod Scripts
