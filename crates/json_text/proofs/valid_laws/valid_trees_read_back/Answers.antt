@@ -1,8 +1,5 @@
-use Rattle.json_text.proofs.ValidParts.{tree_is_part, instance_is_part}
-use Rattle.json_text.proofs.valid_laws.valid_trees_have_parts.Goals as goal
+use Rattle.json_text.proofs.ValidBack.{valid_back}
+use Rattle.json_text.proofs.valid_laws.valid_trees_read_back.Goals as goal
 
-pub returns-clause-root : goal.returns-clause-root
-returns-clause-root c = tree_is_part
-
-pub returns-clause-instance : goal.returns-clause-instance
-returns-clause-instance c = instance_is_part
+pub returns : goal.returns
+returns c = valid_back
