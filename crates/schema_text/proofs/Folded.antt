@@ -1,5 +1,5 @@
 -- What each line keeps of what was read, the lines of a text keep.
-use Rattle.std.proofs.Common.{ℕ, ◌+◌, List, [], ◌∷◌, Bool, true, false, cond, length, Option, Result, Ok, Err}
+use Rattle.std.proofs.Common.{ℕ, ◌+◌, List, [], ◌∷◌, Bool, true, false, cond, length, Result, Ok, Err}
 use Rattle.schema_text.specs.declared.cause.Cause.{Cause}
 use Rattle.schema_text.specs.declared.cause.Cause.TheVariants.{TooLarge, Syntax}
 use Rattle.schema_text.specs.declared.cause.SchemaFault.{SchemaFault}

@@ -1,5 +1,5 @@
 -- The schema of a text is well-formed.
-use Rattle.std.proofs.Common.{◌≡◌, ℕ, ◌+◌, List, [], ◌∷◌, ◌++◌, Bool, true, false, not, ◌&&◌, cond, leb, length, Option, Some, None, Result, Ok, Err, is_some, refl, ap, sym, ◌∙◌, subst, arith, bytes_eq, true≢false}
+use Rattle.std.proofs.Common.{◌≡◌, ℕ, List, [], ◌∷◌, ◌++◌, Bool, true, false, not, ◌&&◌, cond, leb, length, Option, Some, None, Result, Ok, Err, is_some, refl, sym, subst, arith, bytes_eq, true≢false}
 use Rattle.std.specs.List.{AllByRecursion, list_all}
 use Rattle.std.proofs.lemmas.Bool.{and_parts, and_from}
 use Rattle.std.proofs.lemmas.List.{length-append}
@@ -17,7 +17,7 @@ use Rattle.schema_text.specs.declared.line.Line.TheVariants.{Skipped, Module, No
 use Rattle.schema_text.specs.Grammar.{line_of}
 use Rattle.schema_text.specs.Parts.{parts_of}
 use Rattle.schema_text.specs.Laws.{ReadSchemasAreWellFormed}
-use Rattle.schema_text.specs.Schemas.{Read, nothing_read, node_in, in_module, with_line, then_ok, read_parts, has_key_leaf, has_target, node_fault, or_fault, first_fault, unless_fault, schema_of}
+use Rattle.schema_text.specs.Schemas.{Read, nothing_read, node_in, in_module, with_line, then_ok, read_parts, has_key_leaf, has_target, node_fault, or_fault, first_fault, unless_fault}
 use Rattle.schema_text.proofs.Folded.{Keeps, kept_if, kept_parts}
 use Rattle.schema_text.proofs.LinesTold.{DeclaredTold, LineTold, line_told}
 use Rattle.schema_text.proofs.Placed.{all_placed}

@@ -1,9 +1,8 @@
 -- The nodes of a schema text have their parents before them, and no names stand twice.
-use Rattle.std.proofs.Common.{◌≡◌, ℕ, ◌+◌, List, [], ◌∷◌, ◌++◌, Bool, true, false, not, cond, leb, length, Option, Some, None, Result, Ok, Err, is_some, refl, ap, ◌∙◌, subst}
+use Rattle.std.proofs.Common.{◌≡◌, ℕ, List, [], ◌∷◌, ◌++◌, Bool, true, false, not, cond, leb, length, Option, Some, None, Result, Ok, Err, is_some, refl, ap, ◌∙◌, subst}
 use Rattle.base_kinds.specs.Schema.{SchemaNode, node_of}
 use Rattle.schema_core.specs.Nodes.{has_parent, AllPlaced}
 use Rattle.schema_core.proofs.NodeLemmas.{placed_more}
-use Rattle.schema_text.specs.declared.cause.Cause.{Cause}
 use Rattle.schema_text.specs.declared.cause.Cause.TheVariants.{NoParent, Twice, TooLarge}
 use Rattle.schema_text.specs.declared.cause.SchemaFault.{SchemaFault}
 use Rattle.schema_text.specs.declared.line.Declared.{Declared}
