@@ -15,7 +15,7 @@ use Rattle.base_kinds.specs.declared.operation.Row.{Row}
 use Rattle.base_kinds.specs.Paths.{text_cmp, key_cmp}
 use Rattle.base_kinds.specs.Match.{rests, fronts, key_matches, elem_matches, first_matches, matches, covers}
 use Rattle.base_kinds.specs.Schema.{SchemaNode, names_of, same_names, node_of, node_at}
-use Rattle.base_kinds.specs.Valid.{if_some, same_path, child, has_key_leaf, row_keyed, row_shaped, is_leafy, has_just_keys, steps_from, steps, step_known, row_known, all_known, all_shaped, all_keyed, all_stand, all_refer, all_within, valid}
+use Rattle.base_kinds.specs.Valid.{if_some, same_path, child, has_key_leaf, row_keyed, row_shaped, is_leafy, has_just_keys, steps_from, steps, step_known, row_known, all_known, all_shaped, all_keyed, all_stand, all_refer, all_within}
 use Rattle.base_kinds.specs.Keys.{key_text}
 use Rattle.base_kinds.specs.Parts.{is_covered, part}
 use Rattle.base_kinds.specs.declared.schema.Sort.{Sort}
@@ -26,7 +26,7 @@ use Rattle.schema_core.proofs.WellFormedLemmas.{formed_node, no_root}
 use Rattle.base_kinds.specs.Legal.{rises, is_fit_elem, is_fit_path, is_fit_value, is_fit_row}
 use Rattle.history_laws.proofs.PathOrder.{key_total}
 use Rattle.history_laws.proofs.Values.{same_path as is_path_same}
-use Rattle.history_laws.specs.Rising.{IsRising, row_cmp}
+use Rattle.history_laws.specs.Rising.{row_cmp}
 use Rattle.json_text.specs.Laws.{IsWhole, IsBelow, IsPart, with_name, in_name_order, step_ordered, row_ordered, keyed_behind}
 use Rattle.json_text.specs.ValidLaws.{is_plain_elem, IsWholeTree, IsInstance}
 use Rattle.json_text.proofs.Below.{names_below}

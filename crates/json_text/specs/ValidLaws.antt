@@ -33,7 +33,7 @@ pub record IsInstance (schema : List SchemaNode) (here : List Elem) : Type 0 whe
   pub fit : list_all is_fit_elem here ≡ true
   pub known : list_all (step_known schema) (steps here) ≡ true
 
--- the path of a leaf or a leaf-list that has a row in the tree
+-- the path of a leaf or a leaf-list that has a row in the tree: it has no wildcards
 pub record IsRowPath (tree : List Row) (here : List Elem) : Type 0 where
   pub plain : list_all is_plain_elem here ≡ true
   pub there : has_row tree here ≡ true
