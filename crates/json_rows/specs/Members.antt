@@ -1,13 +1,11 @@
 -- The names of an object's members (RFC 7951 4): a child's name, or its module's name and its own with `:` between.
-use Rattle.std.specs.Prelude.{ℕ, ◌==◌, List, [], ◌∷◌, ◌++◌, Bool, true, length, nat_lt, if◌then◌else◌, Option, Some, None, option_and_then, Result, Ok, Err}
+use Rattle.std.specs.Prelude.{ℕ, List, [], ◌∷◌, ◌++◌, Bool, true, length, nat_lt, if◌then◌else◌, Option, Some, None, option_and_then, Result, Ok, Err}
 use Rattle.std.specs.List.{list_any, position_or_len, before_first, after_first}
 use Rattle.std.specs.Str.{bytes_eq}
 use Rattle.base_kinds.specs.Schema.{SchemaNode, node_of}
+use Rattle.schema_core.specs.WellFormed.{is_colon}
 use Rattle.json_rows.specs.declared.fault.RowsFault.{RowsFault}
 use Rattle.json_rows.specs.declared.fault.RowsFault.TheVariants.{NotInSchema, BadValue}
-
-abbrev pub is_colon : ℕ → Bool
-is_colon octet = octet == 58
 
 abbrev pub has_module : List ℕ → Bool
 has_module text = nat_lt (position_or_len is_colon text) (length text)

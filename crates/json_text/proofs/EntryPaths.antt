@@ -18,7 +18,9 @@ use Rattle.json_rows.specs.Members.{child_at}
 use Rattle.json_rows.specs.Entries.{KeyList, and_then, key_at, key_read, same_key, agrees, keys_agree}
 use Rattle.json_rows.specs.Walk.{at_node, members_at, object_at}
 use Rattle.json_rows.specs.Reading.{in_order, is_entry, entry_told, at_found, at_end, walked, rows_meant}
-use Rattle.json_text.specs.Laws.{KeepsNames, IsPart, EntriesReadBack, NoEntriesReadBack, has_child, in_name_order}
+use Rattle.schema_core.specs.WellFormed.{is_leaf, has_leaf, IsWellFormed}
+use Rattle.schema_core.proofs.WellFormedLemmas.{keys_have_leaves}
+use Rattle.json_text.specs.Laws.{IsPart, EntriesReadBack, NoEntriesReadBack, in_name_order}
 use Rattle.json_text.specs.Trees.{most_levels, members_data, node_data, value_at_node, ends_plain, json_data}
 use Rattle.json_text.proofs.Lasts.{ends_plain-last}
 use Rattle.json_text.proofs.Below.{Good, some_of, get_seam, names_below, node_below, keys_ordered}
@@ -56,11 +58,11 @@ module _ (schema : List SchemaNode) (names : List (List ℕ)) where
       ap (λ (r : Result (Option (List ℕ)) RowsFault). and_then after (and_then (agrees keys k) r)) a.read ∙ ap (λ (t : Bool). and_then after (cond t (Ok (Some a.text)) (Err BadValue))) a.among ∙ all_agree json keys ks reads parts.1
 
   -- an empty object has no keys
-  none_disagree : (keys : KeyList) (ks : List (List ℕ)) → list_all (has_child schema names) ks ≡ true → keys_agree schema names keys (object no_members) ks ≡ Ok tt
+  none_disagree : (keys : KeyList) (ks : List (List ℕ)) → list_all (λ k. has_leaf schema (names ++ k ∷ [])) ks ≡ true → keys_agree schema names keys (object no_members) ks ≡ Ok tt
   none_disagree keys [] all = refl
   none_disagree keys (k ∷ ks) all =
-      let parts = and_parts (has_child schema names k) (list_all (has_child schema names) ks) all in
-      let there = some_of (child_at schema names k) (λ child. true) parts.0 in
+      let parts = and_parts (has_leaf schema (names ++ k ∷ [])) (list_all (λ other. has_leaf schema (names ++ other ∷ [])) ks) all in
+      let there = some_of (child_at schema names k) (λ child. is_leaf child.sort) parts.0 in
       let after : Option (List ℕ) → Result ⊤ RowsFault = λ same. keys_agree schema names keys (object no_members) ks in
       ap (λ (o : Option SchemaNode). and_then after (and_then (agrees keys k) (key_at o k (object no_members)))) there.1 ∙ none_disagree keys ks parts.1
 
@@ -103,11 +105,11 @@ module _ (schema : List SchemaNode) (above : List Elem) (entry : Elem) (node : S
       ∙ ap (λ (t : Bool). cond t (entry_told schema node path entry.keys (object ms)) (at_node node.sort schema node (take (length path - 1) path) entry.name [] (object ms))) is_one
       ∙ ap (and_then (λ (same : ⊤). object_at schema path [] (object ms))) agree
 
-  no_rows_path : list_all (has_child schema (names_of path)) node.keys ≡ true → (json_data schema path [] ≡ object no_members) × (rows_meant schema path (Some (json_data schema path [])) ≡ Ok [])
+  no_rows_path : IsWellFormed schema → (json_data schema path [] ≡ object no_members) × (rows_meant schema path (Some (json_data schema path [])) ≡ Ok [])
   unfolding members_data
-  no_rows_path children =
+  no_rows_path formed =
       let json : json_data schema path [] ≡ object no_members = json_is [] in
-      (json, ap (λ (d : Data). rows_meant schema path (Some d)) json ∙ ap (and_then in_order) (walk_is no_members (none_disagree schema (names_of path) entry.keys node.keys children)))
+      (json, ap (λ (d : Data). rows_meant schema path (Some d)) json ∙ ap (and_then in_order) (walk_is no_members (none_disagree schema (names_of path) entry.keys node.keys (keys_have_leaves schema formed (names_of path) node at))))
 
   found : node_of schema (names_of above ++ entry.name ∷ []) ≡ Some node
   found = ap (node_of schema) (sym (names_below above entry)) ∙ at
@@ -138,33 +140,33 @@ module _ (schema : List SchemaNode) (above : List Elem) (entry : Elem) (node : S
       same_node : (a b : SchemaNode) → Some a ≡ Some b → a ≡ b
       same_node a b e = cc
 
-  agree_at : (row : Row) (others : List Row) → KeepsNames schema → IsPart schema path (row ∷ others) → list_all (has_key_leaf (row ∷ others) path) entry.keys ≡ true → keys_agree schema (names_of path) entry.keys (object (inside (row ∷ others))) node.keys ≡ Ok tt
-  agree_at row others keeps part leaves =
+  agree_at : (row : Row) (others : List Row) → IsWellFormed schema → IsPart schema path (row ∷ others) → list_all (has_key_leaf (row ∷ others) path) entry.keys ≡ true → keys_agree schema (names_of path) entry.keys (object (inside (row ∷ others))) node.keys ≡ Ok tt
+  agree_at row others formed part leaves =
       let rows = row ∷ others in
       let good = all_good schema path rows part.below part.known part.shaped part.ordered part.whole in
-      let back = object_back schema keeps most_levels None path rows good part.rising (all_keyed_behind rows path rows part.keyed) in
+      let back = object_back schema formed most_levels None path rows good part.rising (all_keyed_behind rows path rows part.keyed) in
       let keys = keys_here row good.0 in
       let among : (key : List ℕ) → list_any (bytes_eq key) (firsts entry.keys) ≡ true → list_any (bytes_eq key) node.keys ≡ true =
       λ key any. elim (any_ordered key [] node.keys (ap (list_any (bytes_eq key)) (sym keys.1) ∙ any)) [ inl w ↦ absurd (true≢false (sym w)) | inr w ↦ w ] in
-      let reads = read_keys schema keeps most_levels (object_back schema keeps most_levels) above entry.name node found entry refl rows (inside rows) good back entry.keys among (has_keys rows path entry.keys leaves) in
+      let reads = read_keys schema formed most_levels (object_back schema formed most_levels) above entry.name node found entry refl rows (inside rows) good back entry.keys among (has_keys rows path entry.keys leaves) in
       all_agree schema (names_of path) (object (inside rows)) entry.keys node.keys reads (and_parts (length entry.keys == length node.keys) _ keys.0).1
 
-  agree_there : (rows : List Row) → KeepsNames schema → IsPart schema path rows → list_all (has_key_leaf rows path) entry.keys ≡ true → keys_agree schema (names_of path) entry.keys (object (inside rows)) node.keys ≡ Ok tt
-  agree_there [] keeps part leaves = none_there entry.keys (sym (ends_plain-last above entry) ∙ some) leaves
+  agree_there : (rows : List Row) → IsWellFormed schema → IsPart schema path rows → list_all (has_key_leaf rows path) entry.keys ≡ true → keys_agree schema (names_of path) entry.keys (object (inside rows)) node.keys ≡ Ok tt
+  agree_there [] formed part leaves = none_there entry.keys (sym (ends_plain-last above entry) ∙ some) leaves
     where
       none_there : (keys : KeyList) → (length keys == 0) ≡ false → list_all (has_key_leaf [] path) keys ≡ true → keys_agree schema (names_of path) entry.keys (object (inside [])) node.keys ≡ Ok tt
       none_there [] some leaves = absurd (true≢false some)
       none_there (key ∷ keys) some leaves = absurd (true≢false (sym leaves))
-  agree_there (row ∷ others) keeps part leaves = agree_at row others keeps part leaves
+  agree_there (row ∷ others) formed part leaves = agree_at row others formed part leaves
 
-  entry_path : (rows : List Row) → KeepsNames schema → IsPart schema path rows → list_all (has_key_leaf rows path) entry.keys ≡ true → rows_meant schema path (Some (json_data schema path rows)) ≡ Ok rows
-  entry_path rows keeps part leaves =
+  entry_path : (rows : List Row) → IsWellFormed schema → IsPart schema path rows → list_all (has_key_leaf rows path) entry.keys ≡ true → rows_meant schema path (Some (json_data schema path rows)) ≡ Ok rows
+  entry_path rows formed part leaves =
       let good = all_good schema path rows part.below part.known part.shaped part.ordered part.whole in
-      ap (λ (d : Data). rows_meant schema path (Some d)) (json_is rows) ∙ ap (and_then in_order) (walk_is (inside rows) (agree_there rows keeps part leaves))
-      ∙ ordered schema path (inside rows) rows (object_back schema keeps most_levels None path rows good part.rising (all_keyed_behind rows path rows part.keyed)) part.rising
+      ap (λ (d : Data). rows_meant schema path (Some d)) (json_is rows) ∙ ap (and_then in_order) (walk_is (inside rows) (agree_there rows formed part leaves))
+      ∙ ordered schema path (inside rows) rows (object_back schema formed most_levels None path rows good part.rising (all_keyed_behind rows path rows part.keyed)) part.rising
 
 pub entry_back_at : EntriesReadBack
-entry_back_at schema above entry node rows keeps at sort some part leaves = entry_path schema above entry node at sort some rows keeps part leaves
+entry_back_at schema above entry node rows formed at sort some part leaves = entry_path schema above entry node at sort some rows formed part leaves
 
 pub no_entry_back_at : NoEntriesReadBack
-no_entry_back_at schema above entry node at sort some children = no_rows_path schema above entry node at sort some children
+no_entry_back_at schema above entry node formed at sort some = no_rows_path schema above entry node at sort some formed

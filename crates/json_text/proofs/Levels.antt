@@ -25,7 +25,9 @@ use Rattle.schema_core.proofs.NodeLemmas.{stands_there}
 use Rattle.json_rows.specs.Leaves.{leaf_at}
 use Rattle.json_rows.specs.Entries.{KeyList, key_read, keys_from, same_key, same_keys}
 use Rattle.json_rows.specs.Walk.{below, at_node, members_at}
-use Rattle.json_text.specs.Laws.{KeepsNames, IsWhole, is_list_node, is_list_sort, row_ordered, in_name_order, lacks_colon}
+use Rattle.schema_core.specs.WellFormed.{is_list_node, is_list_sort, lacks_colon, IsWellFormed}
+use Rattle.schema_core.proofs.WellFormedLemmas.{formed_node, key_is_leaf}
+use Rattle.json_text.specs.Laws.{IsWhole, row_ordered, in_name_order}
 use Rattle.json_text.specs.Runs.{runs, share_name, share_entry, both, same_name, same_elem}
 use Rattle.json_text.specs.Trees.{is_module, member_name, value_data, node_data, entries_data, child_of_rows, with_member, member_step, members_data}
 use Rattle.json_text.proofs.Lasts.{own_name-last}
@@ -77,7 +79,7 @@ less_of Less rest less differ = refl
 less_of Equal rest less differ = absurd (true≢false differ)
 less_of Greater rest less differ = less
 
-module _ (schema : List SchemaNode) (keeps : KeepsNames schema) where
+module _ (schema : List SchemaNode) (formed : IsWellFormed schema) where
   abbrev AllGood : ℕ → List Elem → List Row → Type 0
   AllGood levels here rows = AllByRecursion (Good schema levels here) rows
 
@@ -146,7 +148,7 @@ module _ (schema : List SchemaNode) (keeps : KeepsNames schema) where
       let found_there : node_of schema (names_of here ++ g.elem.name ∷ []) ≡ Some node = ap (λ (n : List ℕ). node_of schema (names_of here ++ n ∷ [])) name ∙ found in
       let same : there.node ≡ node = let e = there.found in cc in
       let just : has_just_keys g.elem node.keys ≡ true = subst (λ (n : SchemaNode). has_just_keys g.elem n.keys ≡ true) same there.just in
-      let other_path : other.path ≡ row.path = leaf_path schema keeps levels here other g node found_there just outer plain ∙ ap (λ (n : List ℕ). below here n []) name ∙ sym path in
+      let other_path : other.path ≡ row.path = leaf_path schema formed levels here other g node found_there just outer plain ∙ ap (λ (n : List ℕ). below here n []) name ∙ sym path in
       let less : path_cmp row.path row.path ≡ Less = ap (path_cmp row.path) (sym other_path) ∙ above.0 in
       let equal = tied_itself path_total row.path in
       absurd (let no : Equal ≡ Less = sym equal ∙ less in cc)
@@ -205,7 +207,7 @@ module _ (schema : List SchemaNode) (keeps : KeepsNames schema) where
       let found_there : node_of schema (names_of here ++ good.elem.name ∷ []) ≡ Some node = ap (λ (n : List ℕ). node_of schema (names_of here ++ n ∷ [])) same ∙ found in
       let one : there.node ≡ node = let e = there.found in cc in
       let just : has_just_keys good.elem node.keys ≡ true = subst (λ (n : SchemaNode). has_just_keys good.elem n.keys ≡ true) one there.just in
-      let keys = plain_keys schema keeps levels here good.elem node found_there plain just in
+      let keys = plain_keys schema formed levels here good.elem node found_there plain just in
       ap (λ (ks : List (List ℕ × List ℕ)). record { name = good.elem.name; keys = ks }) keys ∙ ap (λ (n : List ℕ). record { name = n; keys = [] }) same
 
   plain_elems : (levels : ℕ) (here : List Elem) (name : List ℕ) (node : SchemaNode) (rows : List Row) (all : AllGood levels here rows) → AllByRecursion (λ other. name_at (length here) other ≡ name) rows → node_of schema (names_of here ++ name ∷ []) ≡ Some node → is_list_node node ≡ false → ElemsAre levels here (record { name = name; keys = [] }) rows all
@@ -236,14 +238,14 @@ module _ (schema : List SchemaNode) (keeps : KeepsNames schema) where
   leaf_run levels here row others good node found just all named above sort =
       let plain : is_list_node node ≡ false = ap is_list_sort sort in
       let outer : is_inner node.sort ≡ false = ap is_inner sort in
-      let path = leaf_path schema keeps levels here row good node found just outer plain in
+      let path = leaf_path schema formed levels here row good node found just outer plain in
       let none = one_row levels here row others good node found path outer plain all named above in
-      let taken = taken_there schema keeps levels here row good.elem.name node path found good.shaped in
+      let taken = taken_there schema formed levels here row good.elem.name node path found good.shaped in
       record {
         rows = row ∷ others;
         same = IsPermutation-refl (row ∷ others);
         told = λ before. ap (λ (os : List Row). at_node sorts.Leaf schema node here good.elem.name before (value_data node.shape (row ∷ os))) none
-            ∙ leaf_row_back schema keeps levels here row good.elem.name node path good.kept sort taken before ∙ ap (λ (os : List Row). Ok (before ++ row ∷ os)) (sym none);
+            ∙ leaf_row_back schema formed levels here row good.elem.name node path good.kept sort taken before ∙ ap (λ (os : List Row). Ok (before ++ row ∷ os)) (sym none);
       }
 
   leaf_list_run : (levels : ℕ) (here : List Elem) (row : Row) (others : List Row) (good : Good schema levels here row) (node : SchemaNode) → node_of schema (names_of here ++ good.elem.name ∷ []) ≡ Some node → has_just_keys good.elem node.keys ≡ true
@@ -252,14 +254,14 @@ module _ (schema : List SchemaNode) (keeps : KeepsNames schema) where
   leaf_list_run levels here row others good node found just all named above sort =
       let plain : is_list_node node ≡ false = ap is_list_sort sort in
       let outer : is_inner node.sort ≡ false = ap is_inner sort in
-      let path = leaf_path schema keeps levels here row good node found just outer plain in
+      let path = leaf_path schema formed levels here row good node found just outer plain in
       let none = one_row levels here row others good node found path outer plain all named above in
-      let taken = taken_there schema keeps levels here row good.elem.name node path found good.shaped in
+      let taken = taken_there schema formed levels here row good.elem.name node path found good.shaped in
       record {
         rows = row ∷ others;
         same = IsPermutation-refl (row ∷ others);
         told = λ before. ap (λ (os : List Row). at_node sorts.LeafList schema node here good.elem.name before (value_data node.shape (row ∷ os))) none
-            ∙ leaf_list_row_back schema keeps levels here row good.elem.name node path good.kept sort taken before ∙ ap (λ (os : List Row). Ok (before ++ row ∷ os)) (sym none);
+            ∙ leaf_list_row_back schema formed levels here row good.elem.name node path good.kept sort taken before ∙ ap (λ (os : List Row). Ok (before ++ row ∷ os)) (sym none);
       }
 
   named_so : (levels : ℕ) (here : List Elem) (row : Row) (good : Good schema levels here row) (others : List Row) → AllByRecursion (λ other. name_at (length here) other ≡ name_at (length here) row) others → AllByRecursion (λ other. name_at (length here) other ≡ good.elem.name) others
@@ -323,7 +325,7 @@ module _ (schema : List SchemaNode) (keeps : KeepsNames schema) where
         let elem : good.elem ≡ record { name = key.0; keys = [] } = cc in
         let child_found : node_of schema (names_of place ++ key.0 ∷ []) ≡ Some there.node = ap (λ (x : Elem). node_of schema (names_of place ++ x.name ∷ [])) (sym elem) ∙ there.found in
         let place_found : node_of schema (names_of place) ≡ Some node = ap (node_of schema) (names_below here e ∙ ap (λ (n : List ℕ). names_of here ++ n ∷ []) same) ∙ found in
-        let leaf = keeps.key_leaves (names_of place) node there.node key.0 place_found among child_found in
+        let leaf = key_is_leaf schema formed (names_of place) node there.node key.0 place_found among child_found in
         let this = key_found schema place key.0 r.value back.parts back.reads back.own (any_leaf schema place r key.0 there.node back.parts h.2 child_found leaf (back.found r h.1)) in
         ap (λ (x : Members). key_read schema (names_of place) key.0 (object x)) back.is ∙ key_is_read schema place key.0 r.value (as_members back.parts) this ∙ ap (λ (t : List ℕ). Ok (Some t)) h.3
 
@@ -482,9 +484,9 @@ module _ (schema : List SchemaNode) (keeps : KeepsNames schema) where
       let leaf_sort : node.sort ≡ sorts.Leaf = ap (λ (n : SchemaNode). n.sort) (sym child_is) ∙ sort in
       let plain : is_list_node node ≡ false = ap is_list_sort leaf_sort in
       let outer : is_inner node.sort ≡ false = ap is_inner leaf_sort in
-      let row_path = leaf_path schema keeps (suc levels) here row good node found just outer plain in
+      let row_path = leaf_path schema formed (suc levels) here row good node found just outer plain in
       let none = one_row (suc levels) here row others good node found row_path outer plain all named up in
-      let taken = taken_there schema keeps (suc levels) here row good.elem.name node row_path found good.shaped in
+      let taken = taken_there schema formed (suc levels) here row good.elem.name node row_path found good.shaped in
       let only : (row ≡ r) ⊎ ⊥ = subst (λ (os : List Row). In r (row ∷ os)) none there in
       let row_is : row ≡ r = elim only [ inl w ↦ w | inr w ↦ absurd w ] in
       let inside = members_data levels schema (Some node.module_name) node.names (suc depth) in (
@@ -493,13 +495,13 @@ module _ (schema : List SchemaNode) (keeps : KeepsNames schema) where
           child = node;
           found = ap (λ (n : List ℕ). node_of schema (names_of here ++ n ∷ [])) name ∙ found;
           leaf = ap (leaf_at node.shape) json ∙ ap (λ (s : Sort). leaf_at node.shape (node_data inside s node.shape depth (row ∷ others))) leaf_sort
-              ∙ leaf_value_back schema keeps (suc levels) here row others node good.kept leaf_sort taken ∙ ap (λ (x : Row). Some x.value) row_is;
+              ∙ leaf_value_back schema formed (suc levels) here row others node good.kept leaf_sort taken ∙ ap (λ (x : Row). Some x.value) row_is;
           spelled = elim (either_spelling (is_module above node.module_name) (own_name node.names) (node.module_name ++ 58 ∷ own_name node.names)) [
             | inl w ↦ inl (key ∙ w ∙ own_is ∙ sym name)
             | inr w ↦ inr (key ∙ w ∙ ap (λ (n : List ℕ). node.module_name ++ 58 ∷ n) (own_is ∙ sym name))
           ];
-          name_plain = ap lacks_colon (name ∙ sym own_is) ∙ keeps.node_names _ node found;
-          module_plain = keeps.module_names _ node found;
+          name_plain = ap lacks_colon (name ∙ sym own_is) ∙ (formed_node schema formed _ node found).name;
+          module_plain = (formed_node schema formed _ node found).module_name;
         },
       )
 
@@ -518,8 +520,8 @@ module _ (schema : List SchemaNode) (keeps : KeepsNames schema) where
       let back = node_back levels inside here all_rows row others good node there.found there.just all.1 is up keyed closed node.sort refl in
       let own_is : own_name node.names ≡ good.elem.name = ap own_name (stands_there schema (names_of here ++ good.elem.name ∷ []) node there.found).2 ∙ own_name-last (names_of here) good.elem.name in
       let found : node_of schema (names_of here ++ own_name node.names ∷ []) ≡ Some node = ap (λ (n : List ℕ). node_of schema (names_of here ++ n ∷ [])) own_is ∙ there.found in
-      let module_name = keeps.module_names _ node there.found in
-      let own = keeps.node_names _ node there.found in
+      let module_name = (formed_node schema formed _ node there.found).module_name in
+      let own = (formed_node schema formed _ node there.found).name in
       let child_is : child_of_rows schema (names_of here) (length here) (row ∷ others) ≡ Some node =
       ap (option_and_then (λ (elem : Elem). node_of schema (names_of here ++ elem.name ∷ []))) (first_is schema (suc levels) here row good) ∙ there.found in
       let part : Part = record {

@@ -13,6 +13,7 @@ pub mod Levels
 pub mod InOrder
 pub mod KeysBack
 pub mod ValidParts
+pub mod ValidBack
 pub mod Lookups
 pub mod Picks
 pub mod EntriesBack

@@ -23,7 +23,9 @@ use Rattle.schema_core.specs.Nodes.{is_inner}
 use Rattle.json_rows.specs.Leaves.{leaf_at, values_from}
 use Rattle.json_rows.specs.Walk.{below, leaf_told, list_told, at_node}
 use Rattle.json_text.specs.Leaves.{scalar_data, leaf_data}
-use Rattle.json_text.specs.Laws.{KeepsNames, IsWhole, IsScalarOf, IsPlainScalar, is_list_node}
+use Rattle.schema_core.specs.WellFormed.{is_list_node, IsWellFormed}
+use Rattle.schema_core.proofs.WellFormedLemmas.{formed_node, inner_above}
+use Rattle.json_text.specs.Laws.{IsWhole, IsScalarOf, IsPlainScalar}
 use Rattle.json_text.specs.Trees.{value_data}
 use Rattle.json_text.proofs.LeavesBack.{leaf_back, leaf_list_back}
 use Rattle.json_text.proofs.Below.{Good, front_passes, some_of, names_below}
@@ -68,10 +70,10 @@ none_of (x ∷ xs) e = absurd (let no : length (x ∷ xs) ≡ 0 = eqb-true (leng
 
 -- ---- rows
 
-module _ (schema : List SchemaNode) (keeps : KeepsNames schema) (levels : ℕ) (here : List Elem) where
+module _ (schema : List SchemaNode) (formed : IsWellFormed schema) (levels : ℕ) (here : List Elem) where
   pub plain_keys : (elem : Elem) (node : SchemaNode) → node_of schema (names_of here ++ elem.name ∷ []) ≡ Some node → is_list_node node ≡ false → has_just_keys elem node.keys ≡ true → elem.keys ≡ []
   plain_keys elem node found plain just =
-      let none : node.keys ≡ [] = keeps.keyless _ node found plain in
+      let none : node.keys ≡ [] = (formed_node schema formed _ node found).keyless plain in
       none_of elem.keys (ap (λ (ks : List (List ℕ)). length elem.keys == length ks) (sym none) ∙ (and_parts (length elem.keys == length node.keys) _ just).0)
 
   rest_none : (elem : Elem) (rest : List Elem) (row : Row) (node : SchemaNode) → row.path ≡ here ++ elem ∷ rest → list_all (step_known schema) (steps row.path) ≡ true → node_of schema (names_of here ++ elem.name ∷ []) ≡ Some node → is_inner node.sort ≡ false → rest ≡ []
@@ -81,7 +83,7 @@ module _ (schema : List SchemaNode) (keeps : KeepsNames schema) (levels : ℕ) (
       let all = subst (λ (p : List Elem). list_all (step_known schema) (steps p) ≡ true) (is ∙ path) known in
       let there = some_of (node_at schema ((here ++ elem ∷ []) ++ x ∷ [])) (λ n. has_just_keys x n.keys) (front_passes (step_known schema) [] (here ++ elem ∷ []) x rest all) in
       let names : names_of ((here ++ elem ∷ []) ++ x ∷ []) ≡ (names_of here ++ elem.name ∷ []) ++ x.name ∷ [] = names_below (here ++ elem ∷ []) x ∙ ap (λ (ns : List (List ℕ)). ns ++ x.name ∷ []) (names_below here elem) in
-      absurd (true≢false (sym (keeps.inner _ x.name node there.0 found (ap (node_of schema) (sym names) ∙ there.1)) ∙ outer))
+      absurd (true≢false (sym (inner_above schema formed _ x.name node there.0 found (ap (node_of schema) (sym names) ∙ there.1)) ∙ outer))
 
   -- the row's path, where its node is a leaf or a leaf-list
   pub leaf_path : (row : Row) (good : Good schema levels here row) (node : SchemaNode) → node_of schema (names_of here ++ good.elem.name ∷ []) ≡ Some node → has_just_keys good.elem node.keys ≡ true → is_inner node.sort ≡ false → is_list_node node ≡ false

@@ -1,5 +1,5 @@
 -- The JSON at the path of a container, of a leaf or of a leaf-list means its rows.
-use Rattle.std.proofs.Common.{◌≡◌, ℕ, ◌+◌, ◌-◌, ◌==◌, List, [], ◌∷◌, ◌++◌, length, take, Bool, true, false, cond, Option, Some, None, Result, Ok, refl, sym, ap, subst, ◌∙◌, arith}
+use Rattle.std.proofs.Common.{◌≡◌, ℕ, ◌+◌, ◌-◌, List, [], ◌∷◌, ◌++◌, length, take, Bool, true, false, true≢false, cond, Option, Some, None, Ok, refl, sym, ap, ◌∙◌, arith}
 use Rattle.std.specs.Prelude.{slice_get}
 use Rattle.std.proofs.lemmas.List.{length-append}
 use Rattle.std.proofs.Math.Seq.{take-append_seam}
@@ -9,10 +9,12 @@ use Rattle.base_kinds.specs.declared.operation.Row.{Row}
 use Rattle.base_kinds.specs.declared.schema.Sort.{Sort}
 use Rattle.base_kinds.specs.declared.schema.Sort.TheVariants as sorts
 use Rattle.base_kinds.specs.Schema.{SchemaNode, names_of, node_of, node_at}
+use Rattle.base_kinds.specs.Valid.{is_leafy, row_shaped}
 use Rattle.json_rows.specs.Entries.{and_then}
 use Rattle.json_rows.specs.Walk.{below, at_node, members_at}
 use Rattle.json_rows.specs.Reading.{in_order, is_entry, entry_told, at_found, at_end, walked, rows_meant}
-use Rattle.json_text.specs.Laws.{KeepsNames, IsWhole, IsPart, ContainersReadBack, ScalarsReadBack, is_scalar_sort}
+use Rattle.schema_core.specs.WellFormed.{IsWellFormed}
+use Rattle.json_text.specs.Laws.{IsWhole, IsPart, ContainersReadBack, ScalarsReadBack}
 use Rattle.json_text.specs.Trees.{most_levels, members_data, node_data, value_data, value_at_node, ends_plain, json_data}
 use Rattle.json_text.proofs.Lasts.{ends_plain-last}
 use Rattle.json_text.proofs.Below.{get_seam, names_below}
@@ -20,12 +22,12 @@ use Rattle.json_text.proofs.NodesBack.{none_of, taken_there, leaf_row_back, leaf
 use Rattle.json_text.proofs.Levels.{object_back}
 use Rattle.json_text.proofs.TreesBack.{all_good, all_keyed_behind, ordered}
 
-record Last (path : List Elem) : Type 0 where
-  front : List Elem
-  last : Elem
-  is : path ≡ front ++ last ∷ []
+pub record Last (path : List Elem) : Type 0 where
+  pub front : List Elem
+  pub last : Elem
+  pub is : path ≡ front ++ last ∷ []
 
-last_of : (elem : Elem) (elems : List Elem) → Last (elem ∷ elems)
+pub last_of : (elem : Elem) (elems : List Elem) → Last (elem ∷ elems)
 last_of elem [] = record { front = []; last = elem; is = refl }
 last_of elem (other ∷ others) = let later = last_of other others in record { front = elem ∷ later.front; last = later.last; is = ap (λ (p : List Elem). elem ∷ p) later.is }
 
@@ -69,32 +71,32 @@ module _ (schema : List SchemaNode) (elem : Elem) (elems : List Elem) (node : Sc
       ∙ ap (λ (t : Bool). cond t (entry_told schema node path there.last.keys json) (at_node sort schema node (take (length path - 1) path) there.last.name [] json)) entry
       ∙ ap (λ (front : List Elem). at_node sort schema node front there.last.name [] json) front_is
 
-  container_path : (rows : List Row) → KeepsNames schema → node.sort ≡ sorts.Container → IsPart schema path rows → rows_meant schema path (Some (json_data schema path rows)) ≡ Ok rows
-  container_path rows keeps is part =
+  container_path : (rows : List Row) → IsWellFormed schema → node.sort ≡ sorts.Container → IsPart schema path rows → rows_meant schema path (Some (json_data schema path rows)) ≡ Ok rows
+  container_path rows formed is part =
       let good = all_good schema path rows part.below part.known part.shaped part.ordered part.whole in
       let json : json_data schema path rows ≡ object (inside rows) = json_is rows ∙ ap (λ (s : Sort). node_data inside s node.shape (length path - 1) rows) is in
       ap (λ (d : Data). rows_meant schema path (Some d)) json ∙ ap (and_then in_order) (walk_is sorts.Container (object (inside rows)) is refl)
       ∙ ap (λ (p : List Elem). and_then in_order (members_at schema p [] [] (inside rows))) last_plain
-      ∙ ordered schema path (inside rows) rows (object_back schema keeps most_levels None path rows good part.rising (all_keyed_behind rows path rows part.keyed)) part.rising
+      ∙ ordered schema path (inside rows) rows (object_back schema formed most_levels None path rows good part.rising (all_keyed_behind rows path rows part.keyed)) part.rising
 
   node_found : node_of schema (names_of there.front ++ there.last.name ∷ []) ≡ Some node
   node_found = ap (node_of schema) (sym (names_below there.front there.last) ∙ ap names_of (sym there.is)) ∙ at
 
-  scalar_path : (row : Row) → KeepsNames schema → row.path ≡ path → Rattle.base_kinds.specs.Valid.row_shaped schema row ≡ true → IsWhole row.value → (sort : Sort) → node.sort ≡ sort → is_scalar_sort sort ≡ true → rows_meant schema path (Some (json_data schema path (row ∷ []))) ≡ Ok (row ∷ [])
-  scalar_path row keeps own shaped whole sorts.Leaf is scalar =
+  scalar_path : (row : Row) → IsWellFormed schema → row.path ≡ path → row_shaped schema row ≡ true → IsWhole row.value → (sort : Sort) → node.sort ≡ sort → is_leafy sort ≡ true → rows_meant schema path (Some (json_data schema path (row ∷ []))) ≡ Ok (row ∷ [])
+  scalar_path row formed own shaped whole sorts.Leaf is scalar =
       let below_is : row.path ≡ below there.front there.last.name [] = own ∙ sym last_plain in
-      let taken = taken_there schema keeps most_levels there.front row there.last.name node below_is node_found shaped in
+      let taken = taken_there schema formed most_levels there.front row there.last.name node below_is node_found shaped in
       ap (λ (d : Data). rows_meant schema path (Some d)) (json_is (row ∷ []) ∙ ap (λ (s : Sort). node_data inside s node.shape (length path - 1) (row ∷ [])) is)
-      ∙ ap (and_then in_order) (walk_is sorts.Leaf (value_data node.shape (row ∷ [])) is refl ∙ leaf_row_back schema keeps most_levels there.front row there.last.name node below_is whole is taken [])
-  scalar_path row keeps own shaped whole sorts.LeafList is scalar =
+      ∙ ap (and_then in_order) (walk_is sorts.Leaf (value_data node.shape (row ∷ [])) is refl ∙ leaf_row_back schema formed most_levels there.front row there.last.name node below_is whole is taken [])
+  scalar_path row formed own shaped whole sorts.LeafList is scalar =
       let below_is : row.path ≡ below there.front there.last.name [] = own ∙ sym last_plain in
-      let taken = taken_there schema keeps most_levels there.front row there.last.name node below_is node_found shaped in
+      let taken = taken_there schema formed most_levels there.front row there.last.name node below_is node_found shaped in
       ap (λ (d : Data). rows_meant schema path (Some d)) (json_is (row ∷ []) ∙ ap (λ (s : Sort). node_data inside s node.shape (length path - 1) (row ∷ [])) is)
-      ∙ ap (and_then in_order) (walk_is sorts.LeafList (value_data node.shape (row ∷ [])) is refl ∙ leaf_list_row_back schema keeps most_levels there.front row there.last.name node below_is whole is taken [])
-  scalar_path row keeps own shaped whole _ is scalar = absurd (Rattle.std.proofs.Common.true≢false (sym scalar))
+      ∙ ap (and_then in_order) (walk_is sorts.LeafList (value_data node.shape (row ∷ [])) is refl ∙ leaf_list_row_back schema formed most_levels there.front row there.last.name node below_is whole is taken [])
+  scalar_path row formed own shaped whole _ is scalar = absurd (true≢false (sym scalar))
 
 pub container_back_at : ContainersReadBack
-container_back_at schema elem elems node rows keeps at is plain part = container_path schema elem elems node at plain rows keeps is part
+container_back_at schema elem elems node rows formed at is plain part = container_path schema elem elems node at plain rows formed is part
 
 pub scalar_back_at : ScalarsReadBack
-scalar_back_at schema elem elems node row keeps at is plain own shaped whole = scalar_path schema elem elems node at plain row keeps own shaped whole node.sort refl is
+scalar_back_at schema elem elems node row formed at is plain own shaped whole = scalar_path schema elem elems node at plain row formed own shaped whole node.sort refl is

@@ -37,7 +37,7 @@ all_good schema here (row ∷ rows) below known shaped outside whole =
 
 -- ---- keys
 
-any_in : (test : Row → Bool) (rows : List Row) → list_any test rows ≡ true → (r : Row) × In r rows × (test r ≡ true)
+pub any_in : (test : Row → Bool) (rows : List Row) → list_any test rows ≡ true → (r : Row) × In r rows × (test r ≡ true)
 any_in test [] any = absurd (true≢false (sym any))
 any_in test (row ∷ rows) any =
     elim (either_true (test row) (list_any test rows) any) [ inl w ↦ (row, inl refl, w) | inr w ↦ (let later = any_in test rows w in (later.0, inr later.1, later.2)) ]
@@ -68,6 +68,6 @@ ordered schema here ms rows back up =
     ap (λ (x : Members). and_then in_order (members_at schema here [] [] x)) back.is ∙ ap (and_then in_order) (walk schema here back.parts [] back.reads back.own) ∙ ap Ok (in_order_again rows (rows_in back.parts) up back.same)
 
 pub tree_back : TreesReadBack
-tree_back schema rows keeps part =
+tree_back schema rows formed part =
     let good = all_good schema [] rows part.below part.known part.shaped part.ordered part.whole in
-    ordered schema [] _ rows (object_back schema keeps most_levels None [] rows good part.rising (all_keyed_behind rows [] rows part.keyed)) part.rising
+    ordered schema [] _ rows (object_back schema formed most_levels None [] rows good part.rising (all_keyed_behind rows [] rows part.keyed)) part.rising

@@ -15,18 +15,20 @@ use Rattle.base_kinds.specs.declared.operation.Row.{Row}
 use Rattle.base_kinds.specs.Paths.{text_cmp, key_cmp}
 use Rattle.base_kinds.specs.Match.{rests, fronts, key_matches, elem_matches, first_matches, matches, covers}
 use Rattle.base_kinds.specs.Schema.{SchemaNode, names_of, same_names, node_of, node_at}
-use Rattle.base_kinds.specs.Valid.{if_some, same_path, child, has_key_leaf, row_keyed, row_shaped, is_leafy, has_just_keys, steps_from, steps, step_known, row_known, all_known, all_shaped, all_keyed, all_stand, all_refer, all_within, valid}
+use Rattle.base_kinds.specs.Valid.{if_some, same_path, child, has_key_leaf, row_keyed, row_shaped, is_leafy, has_just_keys, steps_from, steps, step_known, row_known, all_known, all_shaped, all_keyed, all_stand, all_refer, all_within}
 use Rattle.base_kinds.specs.Keys.{key_text}
 use Rattle.base_kinds.specs.Parts.{is_covered, part}
 use Rattle.base_kinds.specs.declared.schema.Sort.{Sort}
 use Rattle.base_kinds.specs.declared.schema.Sort.TheVariants as sorts
 use Rattle.schema_core.specs.Nodes.{is_inner}
+use Rattle.schema_core.specs.WellFormed.{texts_differ, IsWellFormed}
+use Rattle.schema_core.proofs.WellFormedLemmas.{formed_node, no_root}
 use Rattle.base_kinds.specs.Legal.{rises, is_fit_elem, is_fit_path, is_fit_value, is_fit_row}
 use Rattle.history_laws.proofs.PathOrder.{key_total}
 use Rattle.history_laws.proofs.Values.{same_path as is_path_same}
-use Rattle.history_laws.specs.Rising.{IsRising, row_cmp}
+use Rattle.history_laws.specs.Rising.{row_cmp}
 use Rattle.json_text.specs.Laws.{IsWhole, IsBelow, IsPart, with_name, in_name_order, step_ordered, row_ordered, keyed_behind}
-use Rattle.json_text.specs.ValidLaws.{names_differ, KeepsKeys, is_plain_elem, IsInstance}
+use Rattle.json_text.specs.ValidLaws.{is_plain_elem, IsWholeTree, IsInstance}
 use Rattle.json_text.proofs.Below.{names_below}
 use Rattle.json_text.proofs.KeysBack.{either_true, or_left, or_right}
 
@@ -189,10 +191,10 @@ apart_all name [] none = tt
 apart_all name (other ∷ others) none =
     (λ same. none (or_left (bytes_eq name other) (list_any (bytes_eq name) others) ((bytes_eq-Decides name other).1 same)), apart_all name others (λ e. none (or_right (bytes_eq name other) (list_any (bytes_eq name) others) e)))
 
-apart_from : (names : Names) → names_differ names ≡ true → Apart names
+apart_from : (names : Names) → texts_differ names ≡ true → Apart names
 apart_from [] is = tt
 apart_from (name ∷ names) is =
-    let both = and_parts (not (list_any (bytes_eq name) names)) (names_differ names) is in
+    let both = and_parts (not (list_any (bytes_eq name) names)) (texts_differ names) is in
     (apart_all name names (not_true (list_any (bytes_eq name) names) both.0), apart_from names both.1)
 
 -- ---- the keys of an element
@@ -216,7 +218,7 @@ same_themselves : (names : Names) → same_names names names ≡ true
 same_themselves [] = refl
 same_themselves (name ∷ names) = and_from (bytes_eq name name) (same_names names names) ((bytes_eq-Decides name name).1 refl) (same_themselves names)
 
-keys_ordered : (elem : Elem) (names : Names) → is_fit_elem elem ≡ true → has_just_keys elem names ≡ true → names_differ names ≡ true → same_names (firsts elem.keys) (in_name_order [] names) ≡ true
+keys_ordered : (elem : Elem) (names : Names) → is_fit_elem elem ≡ true → has_just_keys elem names ≡ true → texts_differ names ≡ true → same_names (firsts elem.keys) (in_name_order [] names) ≡ true
 keys_ordered elem names fit just differ =
     let fits = and_parts (nat_le (length elem.keys) 65535) (rises (λ a b. text_cmp a.0 b.0) elem.keys) fit in
     let keys = and_parts (length elem.keys == length names) (list_all (λ key. list_any (λ pair. bytes_eq key pair.0) elem.keys) names) just in
@@ -229,10 +231,10 @@ keys_ordered elem names fit just differ =
 
 -- ---- the rows
 
-module _ (schema : List SchemaNode) (keeps : KeepsKeys schema) where
+module _ (schema : List SchemaNode) (formed : IsWellFormed schema) where
   some_ordered : (names : Names) (elem : Elem) (found : Option SchemaNode) → node_of schema names ≡ found → is_fit_elem elem ≡ true → if_some found (λ node. has_just_keys elem node.keys) ≡ true → if_some found (λ node. same_names (firsts elem.keys) (in_name_order [] node.keys)) ≡ true
   some_ordered names elem None at fit known = known
-  some_ordered names elem (Some node) at fit known = keys_ordered elem node.keys fit known (keeps.keys_differ names node at)
+  some_ordered names elem (Some node) at fit known = keys_ordered elem node.keys fit known (formed_node schema formed names node at).keys_differ
 
   steps_ordered : (front path : List Elem) → list_all is_fit_elem path ≡ true → list_all (step_known schema) (steps_from front path) ≡ true → list_all (step_ordered schema) (steps_from front path) ≡ true
   steps_ordered front [] fit known = refl
@@ -243,7 +245,7 @@ module _ (schema : List SchemaNode) (keeps : KeepsKeys schema) where
       and_from (step_ordered schema (there, elem)) (list_all (step_ordered schema) (steps_from there elems)) (some_ordered (names_of there) elem (node_at schema there) refl fits.0 knowns.0) (steps_ordered there elems fits.1 knowns.1)
 
   below_root : (path : List Elem) → length path ≤ 32 → if_some (node_at schema path) (λ node. is_leafy node.sort) ≡ true → IsBelow [] path
-  below_root [] few known = absurd (true≢false (sym known ∙ ap (λ (o : Option SchemaNode). if_some o (λ node. is_leafy node.sort)) keeps.no_root))
+  below_root [] few known = absurd (true≢false (sym known ∙ ap (λ (o : Option SchemaNode). if_some o (λ node. is_leafy node.sort)) (no_root schema formed)))
   below_root (elem ∷ elems) few known = record { elem = elem; rest = elems; is = refl; few = few }
 
   rows_below : (rows : List Row) → list_all is_fit_row rows ≡ true → all_known schema rows ≡ true → AllByRecursion (λ row. IsBelow [] row.path) rows
@@ -266,23 +268,23 @@ module _ (schema : List SchemaNode) (keeps : KeepsKeys schema) where
       let all = (and_parts (if_some (node_at schema row.path) (λ node. is_leafy node.sort)) (list_all (step_known schema) (steps row.path)) knowns.0).1 in
       and_from (row_ordered schema row) (list_all (row_ordered schema) rows) (steps_ordered [] row.path elems all) (rows_ordered rows fits.1 knowns.1)
 
-pub tree_is_part : (schema : List SchemaNode) (tree : List Row) → KeepsKeys schema → valid schema tree ≡ true → IsRising tree → list_all is_fit_row tree ≡ true → AllByRecursion (λ row. IsWhole row.value) tree → IsPart schema [] tree
-tree_is_part schema tree keeps good rising fit whole =
+pub tree_is_part : (schema : List SchemaNode) (tree : List Row) → IsWellFormed schema → IsWholeTree schema tree → IsPart schema [] tree
+tree_is_part schema tree formed is =
     let known = all_known schema tree in
     let shaped = all_shaped schema tree in
     let keyed = all_keyed tree in
-    let within = and_parts (known && shaped && keyed && all_stand schema tree && all_refer schema tree) (all_within schema tree) good in
+    let within = and_parts (known && shaped && keyed && all_stand schema tree && all_refer schema tree) (all_within schema tree) is.is_valid in
     let referring = and_parts (known && shaped && keyed && all_stand schema tree) (all_refer schema tree) within.0 in
     let standing = and_parts (known && shaped && keyed) (all_stand schema tree) referring.0 in
     let keys = and_parts (known && shaped) keyed standing.0 in
     let both = and_parts known shaped keys.0 in
     record {
-      below = rows_below schema keeps tree fit both.0;
-      rising = rising;
+      below = rows_below schema formed tree is.fit both.0;
+      rising = is.rising;
       known = both.0;
       shaped = both.1;
-      whole = whole;
-      ordered = rows_ordered schema keeps tree fit both.0;
+      whole = is.whole;
+      ordered = rows_ordered schema formed tree is.fit both.0;
       keyed = keys.1;
     }
 
@@ -413,7 +415,7 @@ module _ (schema : List SchemaNode) where
       λ i. record { name = name i; keys = keys i }
 
   -- the path is that of the instance, with more behind it
-  behind : (front here path : List Elem) → list_all is_plain_elem here ≡ true → list_all is_fit_elem here ≡ true → list_all is_fit_elem path ≡ true → list_all (step_known schema) (steps_from front here) ≡ true → list_all (step_known schema) (steps_from front path) ≡ true → covers here path ≡ true → (rest : List Elem) × (path ≡ here ++ rest)
+  pub behind : (front here path : List Elem) → list_all is_plain_elem here ≡ true → list_all is_fit_elem here ≡ true → list_all is_fit_elem path ≡ true → list_all (step_known schema) (steps_from front here) ≡ true → list_all (step_known schema) (steps_from front path) ≡ true → covers here path ≡ true → (rest : List Elem) × (path ≡ here ++ rest)
   behind front [] path plain fit fits known knowns covered = (path, refl)
   behind front (a ∷ here) [] plain fit fits known knowns covered =
       let one = (plain_from a (and_parts (is_plain_elem a) (list_all is_plain_elem here) plain).0).one in
@@ -440,7 +442,7 @@ all_kept_at : (P : Row → Type 0) (keep : Bool) (row : Row) (kept : List Row) �
 all_kept_at P true row kept here all = (here refl, all)
 all_kept_at P false row kept here all = all
 
-all_kept : (P Q : Row → Type 0) (keep : Row → Bool) (rows : List Row) → ((row : Row) → keep row ≡ true → P row → Q row) → AllByRecursion P rows → AllByRecursion Q (filter keep rows)
+pub all_kept : (P Q : Row → Type 0) (keep : Row → Bool) (rows : List Row) → ((row : Row) → keep row ≡ true → P row → Q row) → AllByRecursion P rows → AllByRecursion Q (filter keep rows)
 all_kept P Q keep [] goes all = tt
 all_kept P Q keep (row ∷ rows) goes all = all_kept_at Q (keep row) row (filter keep rows) (λ is. goes row is all.0) (all_kept P Q keep rows goes all.1)
 
@@ -452,7 +454,7 @@ all_pass : (test : Row → Bool) (rows : List Row) → AllByRecursion (λ row. t
 all_pass test [] all = refl
 all_pass test (row ∷ rows) all = and_from (test row) (list_all test rows) all.0 (all_pass test rows all.1)
 
-kept_pass : (test keep : Row → Bool) (rows : List Row) → list_all test rows ≡ true → list_all test (filter keep rows) ≡ true
+pub kept_pass : (test keep : Row → Bool) (rows : List Row) → list_all test rows ≡ true → list_all test (filter keep rows) ≡ true
 kept_pass test keep rows all = all_pass test (filter keep rows) (all_kept (λ row. test row ≡ true) (λ row. test row ≡ true) keep rows (λ row is pass. pass) (each_passes test rows all))
 
 any_kept_at : (test : Row → Bool) (keep : Bool) (row : Row) (kept : List Row) → (test row ≡ true → keep ≡ true) → (test row ≡ true) ⊎ (list_any test kept ≡ true) → list_any test (cond keep (row ∷ kept) kept) ≡ true
@@ -460,7 +462,7 @@ any_kept_at test true row kept goes some = elim some [ inl w ↦ or_left (test r
 any_kept_at test false row kept goes some = elim some [ inl w ↦ absurd (true≢false (sym (goes w))) | inr w ↦ w ]
 
 -- what only rows that are kept pass, some row that is kept passes
-any_kept : (test keep : Row → Bool) (rows : List Row) → ((row : Row) → test row ≡ true → keep row ≡ true) → list_any test rows ≡ true → list_any test (filter keep rows) ≡ true
+pub any_kept : (test keep : Row → Bool) (rows : List Row) → ((row : Row) → test row ≡ true → keep row ≡ true) → list_any test rows ≡ true → list_any test (filter keep rows) ≡ true
 any_kept test keep [] goes is = is
 any_kept test keep (row ∷ rows) goes is =
     any_kept_at test (keep row) row (filter keep rows) (goes row) (elim (either_true (test row) (list_any test rows) is) [ inl w ↦ inl w | inr w ↦ inr (any_kept test keep rows goes w) ])
@@ -472,7 +474,7 @@ later_steps test front (elem ∷ here) rest all =
     subst (λ (path : List Elem). list_all test (steps_from path rest) ≡ true) (append_assoc front (elem ∷ []) here) later
 
 module _ (tree : List Row) (here : List Elem) (plain : list_all is_plain_elem here ≡ true) where
-  covered_below : (more : List Elem) → is_covered (here ∷ []) (here ++ more) ≡ true
+  pub covered_below : (more : List Elem) → is_covered (here ∷ []) (here ++ more) ≡ true
   covered_below more = or_left (covers here (here ++ more)) false (covers_below here more plain)
 
   leaf_kept : (front more : List Elem) (key : List ℕ × List ℕ) → front ≡ here ++ more → has_key_leaf tree front key ≡ true → has_key_leaf (part (here ∷ []) tree) front key ≡ true
@@ -485,7 +487,7 @@ module _ (tree : List Row) (here : List Elem) (plain : list_all is_plain_elem he
       subst (λ (p : List Elem). is_covered (here ∷ []) p ≡ true) (sym path) (covered_below (more ++ leaf ∷ [])) in
       any_kept (λ row. same_path row.path (child front key.0) && bytes_eq (key_text row.value) key.1) (λ row. is_covered (here ∷ []) row.path) tree goes is
 
-  leaves_kept : (front more : List Elem) (keys : List (List ℕ × List ℕ)) → front ≡ here ++ more → list_all (has_key_leaf tree front) keys ≡ true → list_all (has_key_leaf (part (here ∷ []) tree) front) keys ≡ true
+  pub leaves_kept : (front more : List Elem) (keys : List (List ℕ × List ℕ)) → front ≡ here ++ more → list_all (has_key_leaf tree front) keys ≡ true → list_all (has_key_leaf (part (here ∷ []) tree) front) keys ≡ true
   leaves_kept front more [] at all = refl
   leaves_kept front more (key ∷ keys) at all =
       let both = and_parts (has_key_leaf tree front key) (list_all (has_key_leaf tree front) keys) all in
@@ -508,7 +510,7 @@ module _ (tree : List Row) (here : List Elem) (plain : list_all is_plain_elem he
       subst (λ (p : List Elem). list_all (λ step. list_all (has_key_leaf (part (here ∷ []) tree) step.0) step.1.keys) (steps_from here p) ≡ true) (sym dropped) kept
 
 -- what each row of the tree has
-record IsGood (schema : List SchemaNode) (tree : List Row) (row : Row) : Type 0 where
+pub record IsGood (schema : List SchemaNode) (tree : List Row) (row : Row) : Type 0 where
   pub fit : is_fit_row row ≡ true
   pub known : row_known schema row ≡ true
   pub keyed : row_keyed tree row ≡ true
@@ -521,14 +523,17 @@ each_good schema tree (row ∷ rows) fit known keyed =
     let keys = and_parts (row_keyed tree row) (list_all (row_keyed tree) rows) keyed in
     (record { fit = fits.0; known = knowns.0; keyed = keys.0 }, each_good schema tree rows fits.1 knowns.1 keys.1)
 
-no_inner_leaf : (sort : Sort) → is_inner sort ≡ true → is_leafy sort ≡ true → ⊥
+pub all_rows_good : (schema : List SchemaNode) (tree : List Row) → IsWellFormed schema → IsWholeTree schema tree → AllByRecursion (IsGood schema tree) tree
+all_rows_good schema tree formed is = let root = tree_is_part schema tree formed is in each_good schema tree tree is.fit root.known root.keyed
+
+pub no_inner_leaf : (sort : Sort) → is_inner sort ≡ true → is_leafy sort ≡ true → ⊥
 no_inner_leaf sorts.Container inner leafy = true≢false (sym leafy)
 no_inner_leaf sorts.List inner leafy = true≢false (sym leafy)
 no_inner_leaf sorts.Leaf inner leafy = true≢false (sym inner)
 no_inner_leaf sorts.LeafList inner leafy = true≢false (sym inner)
 
 module _ (schema : List SchemaNode) (tree : List Row) (here : List Elem) (instance : IsInstance schema here) where
-  rest_of : (row : Row) → is_covered (here ∷ []) row.path ≡ true → IsGood schema tree row → (rest : List Elem) × (row.path ≡ here ++ rest)
+  pub rest_of : (row : Row) → is_covered (here ∷ []) row.path ≡ true → IsGood schema tree row → (rest : List Elem) × (row.path ≡ here ++ rest)
   rest_of row covered good =
       let path = (and_parts (is_fit_path row.path) (is_fit_value row.value) good.fit).0 in
       let elems = (and_parts (nat_le (length row.path) 32) (list_all is_fit_elem row.path) path).1 in
@@ -554,17 +559,17 @@ module _ (schema : List SchemaNode) (tree : List Row) (here : List Elem) (instan
   keyed_here : (row : Row) → is_covered (here ∷ []) row.path ≡ true → IsGood schema tree row → keyed_behind (part (here ∷ []) tree) here row ≡ true
   keyed_here row covered good = let rest = rest_of row covered good in row_kept tree here instance.plain row rest.0 rest.1 good.keyed
 
-pub instance_is_part : (schema : List SchemaNode) (tree : List Row) (here : List Elem) → KeepsKeys schema → valid schema tree ≡ true → IsRising tree → list_all is_fit_row tree ≡ true → AllByRecursion (λ row. IsWhole row.value) tree → IsInstance schema here → IsPart schema here (part (here ∷ []) tree)
-instance_is_part schema tree here keeps good rising fit whole instance =
-    let root = tree_is_part schema tree keeps good rising fit whole in
+pub instance_is_part : (schema : List SchemaNode) (tree : List Row) (here : List Elem) → IsWellFormed schema → IsWholeTree schema tree → IsInstance schema here → IsPart schema here (part (here ∷ []) tree)
+instance_is_part schema tree here formed is instance =
+    let root = tree_is_part schema tree formed is in
     let keep : Row → Bool = λ row. is_covered (here ∷ []) row.path in
-    let goods = each_good schema tree tree fit root.known root.keyed in
+    let goods = all_rows_good schema tree formed is in
     record {
       below = all_kept (IsGood schema tree) (λ row. IsBelow here row.path) keep tree (below_here schema tree here instance) goods;
-      rising = IsStrictlySortedBy-filter row_cmp keep tree rising;
+      rising = IsStrictlySortedBy-filter row_cmp keep tree is.rising;
       known = kept_pass (row_known schema) keep tree root.known;
       shaped = kept_pass (row_shaped schema) keep tree root.shaped;
-      whole = all_kept (λ row. IsWhole row.value) (λ row. IsWhole row.value) keep tree (λ row is whole_row. whole_row) whole;
+      whole = all_kept (λ row. IsWhole row.value) (λ row. IsWhole row.value) keep tree (λ row covered whole. whole) is.whole;
       ordered = kept_pass (row_ordered schema) keep tree root.ordered;
       keyed = all_pass (keyed_behind (part (here ∷ []) tree) here) (part (here ∷ []) tree) (all_kept (IsGood schema tree) (λ row. keyed_behind (part (here ∷ []) tree) here row ≡ true) keep tree (keyed_here schema tree here instance) goods);
     }

@@ -1,7 +1,6 @@
 -- What is written is read as itself.
-use Rattle.std.specs.Prelude.{◌≡◌, ℕ, List, [], ◌∷◌, ◌++◌, Bool, false, true, not, Some, Ok, map, length, drop, ◌≤◌, if◌then◌else◌}
-use Rattle.std.specs.List.{AllByRecursion, list_all, list_any}
-use Rattle.std.specs.Str.{bytes_eq}
+use Rattle.std.specs.Prelude.{◌≡◌, ℕ, List, [], ◌∷◌, ◌++◌, Bool, false, true, Some, Ok, map, length, drop, ◌≤◌, if◌then◌else◌}
+use Rattle.std.specs.List.{AllByRecursion, list_all}
 use Rattle.std.specs.Ordering.{is_gt}
 use Rattle.base_kinds.specs.Paths.{text_cmp}
 use Rattle.serde_json.specs.Data.{object, no_members}
@@ -10,17 +9,15 @@ use Rattle.base_kinds.specs.declared.value.Value.{Value}
 use Rattle.base_kinds.specs.declared.schema.Shape.{Shape}
 use Rattle.base_kinds.specs.declared.path.Elem.{Elem}
 use Rattle.base_kinds.specs.declared.operation.Row.{Row}
-use Rattle.base_kinds.specs.declared.schema.Sort.{Sort}
 use Rattle.base_kinds.specs.declared.schema.Sort.TheVariants as sorts
-use Rattle.base_kinds.specs.Schema.{SchemaNode, names_of, same_names, node_of, node_at}
-use Rattle.base_kinds.specs.Valid.{if_some, steps, steps_from, has_key_leaf, own_name, all_known, all_shaped, row_shaped}
+use Rattle.base_kinds.specs.Schema.{SchemaNode, same_names, node_at}
+use Rattle.base_kinds.specs.Valid.{if_some, is_leafy, steps, steps_from, has_key_leaf, all_known, all_shaped, row_shaped}
 use Rattle.history_laws.specs.Rising.{IsRising}
-use Rattle.schema_core.specs.Nodes.{is_inner}
+use Rattle.schema_core.specs.WellFormed.{IsWellFormed}
 use Rattle.base_kinds.specs.Legal.{is_fit_scalar}
 use Rattle.base_kinds.specs.Values.{has_shape, all_differ, is_list, values_in}
 use Rattle.value_core.specs.KeyTexts.{IsStored}
 use Rattle.json_rows.specs.Leaves.{leaf_of, values_from}
-use Rattle.json_rows.specs.Members.{is_colon}
 use Rattle.json_rows.specs.Reading.{rows_meant}
 use Rattle.json_text.specs.Trees.{most_levels, ends_plain, json_data}
 use Rattle.json_text.specs.Leaves.{scalar_data}
@@ -34,26 +31,6 @@ pub record IsPlainScalar (value : Value) : Type 0 where
 pub record IsScalarOf (shape : Shape) (value : Value) : Type 0 where
   pub shaped : has_shape shape value ≡ true
   pub plain : IsPlainScalar value
-
-abbrev pub is_list_sort : Sort → Bool
-is_list_sort sorts.List = true
-is_list_sort _ = false
-
-abbrev pub is_list_node : SchemaNode → Bool
-is_list_node node = is_list_sort node.sort
-
--- no octet is a `:`, which stands between a module's name and a node's (RFC 7950 6.2)
-abbrev pub lacks_colon : List ℕ → Bool
-lacks_colon text = list_all (λ octet. not (is_colon octet)) text
-
--- What the grammar of a schema's text keeps of its nodes (RFC 7950 4.2.2, 6.2, 7.8.2), as a premise here: what stands above a node is a container or a list,
--- no name of a node or of a module has a `:`, and a list alone has keys, which are leaves.
-pub record KeepsNames (schema : List SchemaNode) : Type 0 where
-  pub inner : (names : List (List ℕ)) (name : List ℕ) (node child : SchemaNode) → node_of schema names ≡ Some node → node_of schema (names ++ name ∷ []) ≡ Some child → is_inner node.sort ≡ true
-  pub node_names : (names : List (List ℕ)) (node : SchemaNode) → node_of schema names ≡ Some node → lacks_colon (own_name node.names) ≡ true
-  pub module_names : (names : List (List ℕ)) (node : SchemaNode) → node_of schema names ≡ Some node → lacks_colon node.module_name ≡ true
-  pub keyless : (names : List (List ℕ)) (node : SchemaNode) → node_of schema names ≡ Some node → is_list_node node ≡ false → node.keys ≡ []
-  pub key_leaves : (names : List (List ℕ)) (node child : SchemaNode) (key : List ℕ) → node_of schema names ≡ Some node → list_any (bytes_eq key) node.keys ≡ true → node_of schema (names ++ key ∷ []) ≡ Some child → child.sort ≡ sorts.Leaf
 
 -- the numbers have 64 bits, octets are below 256, a decimal has 1 to 18 digits behind the point, and a leaf-list has some value
 pub record IsWhole (value : Value) : Type 0 where
@@ -99,39 +76,34 @@ pub record IsPart (schema : List SchemaNode) (here : List Elem) (rows : List Row
   pub ordered : list_all (row_ordered schema) rows ≡ true
   pub keyed : list_all (keyed_behind rows here) rows ≡ true
 
+-- the JSON of these rows, at this path, means just these rows
+abbrev pub ReadsBack : List SchemaNode → List Elem → List Row → Type 0
+ReadsBack schema path rows = rows_meant schema path (Some (json_data schema path rows)) ≡ Ok rows
+
 -- the JSON of a whole tree means its rows
 abbrev pub TreesReadBack : Type 0
-TreesReadBack = (schema : List SchemaNode) (rows : List Row) → KeepsNames schema → IsPart schema [] rows → rows_meant schema [] (Some (json_data schema [] rows)) ≡ Ok rows
+TreesReadBack = (schema : List SchemaNode) (rows : List Row) → IsWellFormed schema → IsPart schema [] rows → ReadsBack schema [] rows
 
 -- the JSON at the path of a container means the rows below it
 abbrev pub ContainersReadBack : Type 0
-ContainersReadBack = (schema : List SchemaNode) (elem : Elem) (elems : List Elem) (node : SchemaNode) (rows : List Row) → KeepsNames schema → node_at schema (elem ∷ elems) ≡ Some node → node.sort ≡ sorts.Container → ends_plain (elem ∷ elems) ≡ true
-    → IsPart schema (elem ∷ elems) rows → rows_meant schema (elem ∷ elems) (Some (json_data schema (elem ∷ elems) rows)) ≡ Ok rows
+ContainersReadBack = (schema : List SchemaNode) (elem : Elem) (elems : List Elem) (node : SchemaNode) (rows : List Row) → IsWellFormed schema → node_at schema (elem ∷ elems) ≡ Some node → node.sort ≡ sorts.Container → ends_plain (elem ∷ elems) ≡ true
+    → IsPart schema (elem ∷ elems) rows → ReadsBack schema (elem ∷ elems) rows
 
 -- The JSON at the path of a list's entry means the rows below it, its own key leaves among them. Their key texts are
 -- its keys.
 abbrev pub EntriesReadBack : Type 0
-EntriesReadBack = (schema : List SchemaNode) (above : List Elem) (entry : Elem) (node : SchemaNode) (rows : List Row) → KeepsNames schema → node_at schema (above ++ entry ∷ []) ≡ Some node → node.sort ≡ sorts.List → ends_plain (above ++ entry ∷ []) ≡ false
-    → IsPart schema (above ++ entry ∷ []) rows → list_all (has_key_leaf rows (above ++ entry ∷ [])) entry.keys ≡ true → rows_meant schema (above ++ entry ∷ []) (Some (json_data schema (above ++ entry ∷ []) rows)) ≡ Ok rows
-
--- the schema has a node of this name there
-abbrev pub has_child : List SchemaNode → List (List ℕ) → List ℕ → Bool
-has_child schema names name = if_some (node_of schema (names ++ name ∷ [])) (λ child. true)
+EntriesReadBack = (schema : List SchemaNode) (above : List Elem) (entry : Elem) (node : SchemaNode) (rows : List Row) → IsWellFormed schema → node_at schema (above ++ entry ∷ []) ≡ Some node → node.sort ≡ sorts.List → ends_plain (above ++ entry ∷ []) ≡ false
+    → IsPart schema (above ++ entry ∷ []) rows → list_all (has_key_leaf rows (above ++ entry ∷ [])) entry.keys ≡ true → ReadsBack schema (above ++ entry ∷ []) rows
 
 -- the JSON at the path of an entry without rows is an empty object, and means no rows
 abbrev pub NoEntriesReadBack : Type 0
-NoEntriesReadBack = (schema : List SchemaNode) (above : List Elem) (entry : Elem) (node : SchemaNode) → node_at schema (above ++ entry ∷ []) ≡ Some node → node.sort ≡ sorts.List → ends_plain (above ++ entry ∷ []) ≡ false
-    → list_all (has_child schema (names_of (above ++ entry ∷ []))) node.keys ≡ true → (json_data schema (above ++ entry ∷ []) [] ≡ object no_members) × (rows_meant schema (above ++ entry ∷ []) (Some (json_data schema (above ++ entry ∷ []) [])) ≡ Ok [])
-
-abbrev pub is_scalar_sort : Sort → Bool
-is_scalar_sort sorts.Leaf = true
-is_scalar_sort sorts.LeafList = true
-is_scalar_sort _ = false
+NoEntriesReadBack = (schema : List SchemaNode) (above : List Elem) (entry : Elem) (node : SchemaNode) → IsWellFormed schema → node_at schema (above ++ entry ∷ []) ≡ Some node → node.sort ≡ sorts.List → ends_plain (above ++ entry ∷ []) ≡ false
+    → (json_data schema (above ++ entry ∷ []) [] ≡ object no_members) × ReadsBack schema (above ++ entry ∷ []) []
 
 -- the JSON at the path of a leaf or a leaf-list means its row
 abbrev pub ScalarsReadBack : Type 0
-ScalarsReadBack = (schema : List SchemaNode) (elem : Elem) (elems : List Elem) (node : SchemaNode) (row : Row) → KeepsNames schema → node_at schema (elem ∷ elems) ≡ Some node → is_scalar_sort node.sort ≡ true → ends_plain (elem ∷ elems) ≡ true
-    → row.path ≡ elem ∷ elems → row_shaped schema row ≡ true → IsWhole row.value → rows_meant schema (elem ∷ elems) (Some (json_data schema (elem ∷ elems) (row ∷ []))) ≡ Ok (row ∷ [])
+ScalarsReadBack = (schema : List SchemaNode) (elem : Elem) (elems : List Elem) (node : SchemaNode) (row : Row) → IsWellFormed schema → node_at schema (elem ∷ elems) ≡ Some node → is_leafy node.sort ≡ true → ends_plain (elem ∷ elems) ≡ true
+    → row.path ≡ elem ∷ elems → row_shaped schema row ≡ true → IsWhole row.value → ReadsBack schema (elem ∷ elems) (row ∷ [])
 
 -- a leaf's JSON means its value
 abbrev pub LeavesReadBack : Type 0

@@ -12,4 +12,4 @@ mod valid_laws;
 pub use laws::{leaf_lists_read_back, leaves_read_back, trees_read_back};
 pub use leaves::leaf_json;
 pub use trees::json_of;
-pub use valid_laws::valid_trees_have_parts;
+pub use valid_laws::valid_trees_read_back;

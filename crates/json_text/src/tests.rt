@@ -1,4 +1,7 @@
-use crate::{json_of, leaf_json, leaf_lists_read_back, leaves_read_back, trees_read_back};
+use crate::{
+    json_of, leaf_json, leaf_lists_read_back, leaves_read_back, trees_read_back,
+    valid_trees_read_back,
+};
 use base_kinds::{Bytes, Copied, Elem, Keys, Path, Row, Rows, Shape, Text, Texts, Value, Values};
 use schema_core::{Node, Schema};
 use std::alloc::Global;
@@ -329,5 +332,6 @@ fn leaves_are_written_by_their_shapes(rt: HostRuntime) -> Result<(), Fail> {
     leaves_read_back();
     leaf_lists_read_back();
     trees_read_back();
+    valid_trees_read_back();
     Ok(())
 }

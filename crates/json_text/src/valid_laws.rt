@@ -1,8 +1,8 @@
-// The rows of a valid tree can be read back.
-ghost use Rattle.json_text.specs.ValidLaws.{ValidTreesHaveParts, InstancesHaveParts};
+// What is written of a valid tree is read as itself.
+ghost use Rattle.json_text.specs.ValidLaws.{ValidTreesReadBack};
 
-/// The rows of a valid tree are those that the law of reading back speaks of, and so are its rows below an instance.
-pub fn valid_trees_have_parts()
-    ensures root { ValidTreesHaveParts }
-    ensures instance { InstancesHaveParts }
+/// Under a well-formed schema the JSON of a valid tree means its rows, and so does that of what stands at or below a
+/// container, an entry of a list, a leaf or a leaf-list.
+pub fn valid_trees_read_back()
+    ensures { ValidTreesReadBack }
 {}

@@ -17,7 +17,7 @@ some_is x y is = ap (λ o. unwrap_or o x) is
 pub no_some : {G : Type 0} (x : SchemaNode) → Some x ≡ None → G
 no_some x is = absurd (true≢false (ap is_some is))
 
-no_none : {G : Type 0} (x : SchemaNode) → None ≡ Some x → G
+pub no_none : {G : Type 0} (x : SchemaNode) → None ≡ Some x → G
 no_none x is = absurd (true≢false (sym (ap is_some is)))
 
 pub names_of_got : (nodes : List SchemaNode) (number : ℕ) (node : SchemaNode) → slice_get nodes number ≡ Some node → names_at nodes number ≡ node.names

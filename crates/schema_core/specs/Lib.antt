@@ -1,4 +1,5 @@
 pub mod Nodes
 pub mod Index
 pub mod Wanted
+pub mod WellFormed
 pub mod Examples

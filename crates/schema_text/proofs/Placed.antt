@@ -1,10 +1,9 @@
 -- The nodes of a schema text have their parents before them, and no names stand twice.
-use Rattle.std.proofs.Common.{◌≡◌, ℕ, ◌+◌, List, [], ◌∷◌, ◌++◌, Bool, true, false, not, cond, leb, length, Option, Some, None, Result, Ok, Err, is_some, refl, ap, ◌∙◌, subst}
+use Rattle.std.proofs.Common.{◌≡◌, ℕ, List, [], ◌∷◌, ◌++◌, Bool, true, false, not, cond, leb, length, Option, Some, None, Result, Ok, Err, is_some, refl, ap, ◌∙◌, subst}
 use Rattle.base_kinds.specs.Schema.{SchemaNode, node_of}
 use Rattle.schema_core.specs.Nodes.{has_parent, AllPlaced}
 use Rattle.schema_core.proofs.NodeLemmas.{placed_more}
-use Rattle.schema_text.specs.declared.cause.Cause.{Cause}
-use Rattle.schema_text.specs.declared.cause.Cause.TheVariants.{NoParent, Twice, TooLarge, Syntax}
+use Rattle.schema_text.specs.declared.cause.Cause.TheVariants.{NoParent, Twice, TooLarge}
 use Rattle.schema_text.specs.declared.cause.SchemaFault.{SchemaFault}
 use Rattle.schema_text.specs.declared.line.Declared.{Declared}
 use Rattle.schema_text.specs.declared.line.Declared.TheVariants as declared
@@ -12,11 +11,14 @@ use Rattle.schema_text.specs.declared.line.Line.{Line}
 use Rattle.schema_text.specs.declared.line.Line.TheVariants.{Skipped, Module, Node}
 use Rattle.schema_text.specs.Grammar.{line_of}
 use Rattle.schema_text.specs.Parts.{parts_of}
-use Rattle.schema_text.specs.Schemas.{Read, nothing_read, node_in, in_module, with_line, is_too_long, with_part, at_line, then_ok, read_parts, first_fault, unless_fault, schema_of}
+use Rattle.schema_text.specs.Schemas.{Read, nothing_read, node_in, in_module, with_line, then_ok, read_parts, first_fault, unless_fault, schema_of}
+use Rattle.schema_text.proofs.Folded.{Keeps, kept_if, kept_parts}
+
+abbrev HasPlaces : Read → Type 0
+HasPlaces read = AllPlaced read.nodes
 
 abbrev KeepsRead : {E : Type 0} → Result Read E → Type 0
-KeepsRead (Ok read) = AllPlaced read.nodes
-KeepsRead (Err fault) = Unit {0}
+KeepsRead result = Keeps HasPlaces result
 
 abbrev KeepsNodes : Result (List SchemaNode) SchemaFault → Type 0
 KeepsNodes (Ok nodes) = AllPlaced nodes
@@ -37,32 +39,11 @@ kept_module : (number : ℕ) (read : Read) (names : List (List ℕ)) (node : Dec
 kept_module number read names node None placed = tt
 kept_module number read names node (Some name) placed = kept_in number read name names node (has_parent read.nodes names) (node_of read.nodes names) refl refl placed
 
-kept_if : (b : Bool) (cause : Cause) (other : Result Read Cause) → KeepsRead other → KeepsRead (cond b (Err cause) other)
-kept_if true cause other kept = tt
-kept_if false cause other kept = kept
-
 kept_line : (number : ℕ) (read : Read) (line : Option Line) → AllPlaced read.nodes → KeepsRead (with_line number read line)
 kept_line number read None placed = tt
 kept_line number read (Some Skipped) placed = placed
 kept_line number read (Some (Module name)) placed = placed
-kept_line number read (Some (Node names node)) placed = kept_if (leb 4096 (length read.nodes)) TooLarge (in_module number read names node read.module_name) (kept_module number read names node read.module_name placed)
-
-kept_either : (b : Bool) (cause other : Cause) → KeepsRead (cond b (Err cause) (Err other))
-kept_either true cause other = tt
-kept_either false cause other = tt
-
-kept_part : (number place : ℕ) (read : Read) (part : List ℕ) (parts : List (List ℕ)) → AllPlaced read.nodes → KeepsRead (with_part number place read part parts)
-kept_part number place read [] [] placed = placed
-kept_part number place read (octet ∷ octets) [] placed = kept_either (is_too_long (octet ∷ octets) place 0) TooLarge Syntax
-kept_part number place read part (next ∷ parts) placed = kept_if (is_too_long part place 1) TooLarge (with_line number read (line_of part)) (kept_line number read (line_of part) placed)
-
-kept_then : (number : ℕ) (part : Result Read Cause) (next : Read → Result Read SchemaFault) → KeepsRead part → ((more : Read) → AllPlaced more.nodes → KeepsRead (next more)) → KeepsRead (then_ok (at_line number part) next)
-kept_then number (Ok more) next kept then = then more kept
-kept_then number (Err cause) next kept then = tt
-
-kept_parts : (number place : ℕ) (read : Read) (parts : List (List ℕ)) → AllPlaced read.nodes → KeepsRead (read_parts number place read parts)
-kept_parts number place read [] placed = placed
-kept_parts number place read (part ∷ parts) placed = kept_then number (with_part number place read part parts) (λ more. read_parts (number + 1) (place + length part + 1) more parts) (kept_part number place read part parts placed) (λ more kept. kept_parts (number + 1) (place + length part + 1) more parts kept)
+kept_line number read (Some (Node names node)) placed = kept_if HasPlaces (leb 4096 (length read.nodes)) TooLarge (in_module number read names node read.module_name) (kept_module number read names node read.module_name placed)
 
 kept_settled : (nodes : List SchemaNode) (fault : Option SchemaFault) → AllPlaced nodes → KeepsNodes (unless_fault nodes fault)
 kept_settled nodes None placed = placed
@@ -76,4 +57,4 @@ none_placed : AllPlaced []
 none_placed number node is = absurd (cc)
 
 pub all_placed : (text : List ℕ) (nodes : List SchemaNode) → schema_of text ≡ Ok nodes → AllPlaced nodes
-all_placed text nodes is = subst KeepsNodes is (kept_whole (read_parts 1 0 nothing_read (parts_of 10 text)) (kept_parts 1 0 nothing_read (parts_of 10 text) none_placed))
+all_placed text nodes is = subst KeepsNodes is (kept_whole (read_parts 1 0 nothing_read (parts_of 10 text)) (kept_parts HasPlaces (λ number read octets. kept_line number read (line_of octets)) 1 0 nothing_read (parts_of 10 text) none_placed))

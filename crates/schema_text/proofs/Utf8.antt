@@ -30,7 +30,7 @@ wider (octet ∷ octets) all =
 begins_in : (octet : ℕ) → begins_name octet ≡ true → is_in_name octet ≡ true
 begins_in octet h = or_left _ _ (or_left _ _ (or_left (begins_name octet) (is_within 48 57 octet) h))
 
-name_all : (octets : List ℕ) → is_name octets ≡ true → list_all is_in_name octets ≡ true
+pub name_all : (octets : List ℕ) → is_name octets ≡ true → list_all is_in_name octets ≡ true
 name_all [] h = refl
 name_all (octet ∷ octets) h =
     let parts = and_parts (begins_name octet && list_all is_in_name octets) (leb (length octets) 63) h in

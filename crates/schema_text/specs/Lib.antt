@@ -2,6 +2,7 @@ pub mod Causes
 pub mod Examples
 pub mod Grammar
 pub mod Kinds
+pub mod Laws
 pub mod Parts
 pub mod Schemas
 pub mod Words

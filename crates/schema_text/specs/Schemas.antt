@@ -6,9 +6,9 @@ use Rattle.base_kinds.specs.Schema.{SchemaNode, node_of, same_names}
 use Rattle.base_kinds.specs.Valid.{if_some}
 use Rattle.base_kinds.specs.declared.schema.Shape.{Shape}
 use Rattle.base_kinds.specs.declared.schema.Shape.TheVariants as shapes
-use Rattle.base_kinds.specs.declared.schema.Sort.{Sort}
 use Rattle.base_kinds.specs.declared.schema.Sort.TheVariants as sorts
 use Rattle.schema_core.specs.Nodes.{has_parent}
+use Rattle.schema_core.specs.WellFormed.{is_leaf}
 use Rattle.schema_text.specs.declared.cause.Cause.{Cause}
 use Rattle.schema_text.specs.declared.cause.Cause.TheVariants.{Syntax, NoModule, NoParent, Twice, TooLarge, NoKey, BadRef}
 use Rattle.schema_text.specs.declared.cause.SchemaFault.{SchemaFault}
@@ -36,10 +36,6 @@ node_in name names declared.Container = record { names = names; sort = sorts.Con
 node_in name names (declared.List keys maximum) = record { names = names; sort = sorts.List; shape = None; keys = keys; module_name = name; is_mandatory = false; reference = None; maximum = maximum }
 node_in name names (declared.Leaf shape is_mandatory reference) = record { names = names; sort = sorts.Leaf; shape = Some shape; keys = []; module_name = name; is_mandatory = is_mandatory; reference = reference; maximum = None }
 node_in name names (declared.LeafList shape maximum) = record { names = names; sort = sorts.LeafList; shape = Some shape; keys = []; module_name = name; is_mandatory = false; reference = None; maximum = maximum }
-
-abbrev pub is_leaf : Sort → Bool
-is_leaf sorts.Leaf = true
-is_leaf _ = false
 
 abbrev pub in_module : ℕ → Read → List (List ℕ) → Declared → Option (List ℕ) → Result Read Cause
 in_module number read names node None = Err NoModule

@@ -1,11 +1,12 @@
 -- The words of a schema's lines: names, paths, keys, numbers and shapes. All of it is this project's own.
-use Rattle.std.specs.Prelude.{ℕ, ◌+◌, ◌*◌, ◌-◌, List, [], ◌∷◌, ◌++◌, Bool, true, false, not, ◌&&◌, ◌||◌, ◌==◌, nat_le, codes, length, take, drop, Option, Some, None, if◌then◌else◌}
-use Rattle.std.specs.List.{list_all, list_any}
+use Rattle.std.specs.Prelude.{ℕ, ◌+◌, ◌*◌, ◌-◌, List, [], ◌∷◌, ◌++◌, Bool, false, ◌&&◌, ◌||◌, ◌==◌, nat_le, codes, length, take, drop, Option, Some, None, if◌then◌else◌}
+use Rattle.std.specs.List.{list_all}
 use Rattle.std.specs.Option.{option_map}
 use Rattle.std.specs.Str.{bytes_eq}
 use Rattle.base_kinds.specs.Texts.{is_within}
 use Rattle.base_kinds.specs.declared.schema.Shape.{Shape}
 use Rattle.base_kinds.specs.declared.schema.Shape.TheVariants as shapes
+use Rattle.schema_core.specs.WellFormed.{texts_differ}
 use Rattle.schema_text.specs.Parts.{parts_of}
 
 -- the value that follows from another, where there is one
@@ -45,13 +46,8 @@ abbrev pub some_parts : (List ℕ → Bool) → ℕ → List (List ℕ) → Opti
 some_parts test most [] = None
 some_parts test most (part ∷ parts) = if nat_le (length (part ∷ parts)) most && list_all test (part ∷ parts) then Some (part ∷ parts) else None
 
--- no two texts are equal
-abbrev pub all_differ : List (List ℕ) → Bool
-all_differ [] = true
-all_differ (text ∷ texts) = not (list_any (bytes_eq text) texts) && all_differ texts
-
 abbrev pub distinct : List (List ℕ) → Option (List (List ℕ))
-distinct texts = if all_differ texts then Some texts else None
+distinct texts = if texts_differ texts then Some texts else None
 
 -- nothing in front of the first `/`, and then 1 to 32 names
 abbrev pub names_behind : List (List ℕ) → Option (List (List ℕ))

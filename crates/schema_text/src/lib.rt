@@ -16,5 +16,5 @@ mod tests;
 mod texts;
 
 pub use cause::{Cause, SchemaError, SchemaFault};
-pub use laws::{empty_text_has_no_nodes, parents_stand_first};
+pub use laws::{empty_text_has_no_nodes, parents_stand_first, read_schemas_are_well_formed};
 pub use settling::read_schema;

@@ -3,7 +3,8 @@ ghost use Rattle.std.specs.Prelude.{◌≡◌, ◌<◌, ℕ, Some, length, slice
 ghost use Rattle.std.specs.List.{list_all};
 ghost use Rattle.std.specs.Option.{option_map, option_copied};
 ghost use Rattle.base_kinds.specs.Schema.{same_names as names_equal};
-ghost use Rattle.schema_text.specs.Schemas.{is_leaf as leaf_sort, has_key_leaf as key_leaf_there, same_shape as shapes_equal, same_shapes as both_shapes_equal, has_target as target_there, node_fault as fault_of_node, first_fault as fault_of_nodes, schema_of, Tells};
+ghost use Rattle.schema_core.specs.WellFormed.{is_leaf as leaf_sort, IsWellFormed};
+ghost use Rattle.schema_text.specs.Schemas.{has_key_leaf as key_leaf_there, same_shape as shapes_equal, same_shapes as both_shapes_equal, has_target as target_there, node_fault as fault_of_node, first_fault as fault_of_nodes, schema_of, Tells};
 
 use crate::cause::{Cause, SchemaError, SchemaFault};
 use crate::reading::{Reading, read_lines};
@@ -133,6 +134,7 @@ fn first_fault(schema: &Schema, lines: &[u32]) -> Option<SchemaFault>
 pub fn read_schema(alloc: Global, text: &[u8]) -> Result<Schema, SchemaError>
     ensures ok { IfOk result (λ schema. schema_of text.now ≡ Ok schema) }
     ensures refused { IfErr result (λ error. Tells error (schema_of text.now)) }
+    ensures well_formed { IfOk result (λ schema. IsWellFormed schema) }
 {
     let Reading {
         schema,

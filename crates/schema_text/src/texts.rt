@@ -2,7 +2,8 @@
 ghost use Rattle.std.specs.Prelude.{◌≡◌, IfOk};
 ghost use Rattle.std.specs.List.{list_any};
 ghost use Rattle.std.specs.Str.{bytes_eq};
-ghost use Rattle.schema_text.specs.Words.{then_some, some_parts, distinct, all_differ as differ_all, path_of, keys_of, enum_texts};
+ghost use Rattle.schema_core.specs.WellFormed.{texts_differ};
+ghost use Rattle.schema_text.specs.Words.{then_some, some_parts, distinct, path_of, keys_of, enum_texts};
 ghost use Rattle.schema_text.specs.Kinds.{passes};
 
 use crate::octets::{is_enum_text, is_name, text_of};
@@ -59,7 +60,7 @@ fn has_text(text: &Text, others: &[Text]) -> bool
 }
 
 fn all_differ(texts: &[Text]) -> bool
-    ensures { result ≡ differ_all texts.now }
+    ensures { result ≡ texts_differ texts.now }
 {
     match texts.split_first() {
         None => true,
