@@ -8,3 +8,4 @@ pub mod KeySets
 pub mod Meanings
 pub mod Apart
 pub mod Walks
+pub mod ValuesRead

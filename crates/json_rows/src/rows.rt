@@ -1,9 +1,7 @@
 // Rows of leaves and leaf-lists, and the keys of entries that differ.
 ghost use Rattle.std.specs.Prelude.{◌≡◌, ◌≢◌, ◌++◌, ◌∷◌, [], Ok, Err, IfOk, IfErr, OnOk, false};
 ghost use Rattle.std.specs.Option.{option_copied};
-ghost use Rattle.std.specs.List.{list_any};
 ghost use Rattle.serde_json.specs.View.{view, items_view};
-ghost use Rattle.base_kinds.specs.Values.{is_list, same_scalar};
 ghost use Rattle.json_rows.specs.Leaves.{leaf_at, values_from};
 ghost use Rattle.json_rows.specs.Entries.{if_other};
 ghost use Rattle.json_rows.specs.Walk.{below, leaf_told, list_told};
@@ -15,6 +13,7 @@ use crate::texts::text_of;
 use base_kinds::{Copied, Elem, Keys, NoMemory, Path, Row, Rows, Seq, Shape, Text, Value, Values};
 use serde_json::Value as Json;
 use std::alloc::Global;
+use value_order::all_differ;
 
 /// The path with one more element, in as much memory as it needs.
 pub(crate) fn below(alloc: Global, above: &Path, name: &str, keys: Keys) -> Result<Path, NoMemory>
@@ -47,28 +46,7 @@ pub(crate) fn add_leaf(
     Ok(())
 }
 
-fn same_scalar(a: &Value, b: &Value) -> bool
-    ensures { result ≡ same_scalar a.now b.now }
-{
-    match (a, b) {
-        (Value::Bool(a), Value::Bool(b)) => *a == *b,
-        (Value::Int(a), Value::Int(b)) => *a == *b,
-        (Value::Uint(a), Value::Uint(b)) => *a == *b,
-        (Value::Dec(a, p), Value::Dec(b, q)) => *a == *b && *p == *q,
-        (Value::Text(a), Value::Text(b)) => a.octets() == b.octets(),
-        (Value::Bin(a), Value::Bin(b)) => a.items() == b.items(),
-        (Value::Enum(a), Value::Enum(b)) => a.octets() == b.octets(),
-        _ => false,
-    }
-}
-
-fn is_among(value: &Value, done: &[Value]) -> bool
-    ensures { result ≡ list_any (same_scalar value.now) done.now }
-{
-    done.iter().any(|other| same_scalar(value, other))
-}
-
-/// The values of a leaf-list, where none is equal to another.
+/// The values of a leaf-list, where none is equal to another. They are compared once all are read.
 fn values_of(
     alloc: Global,
     shape: Option<&Shape>,
@@ -81,12 +59,13 @@ fn values_of(
         let Some(value) = leaf_at(alloc, shape, item)? else {
             return Ok(None);
         };
-        if is_among(&value, done.items()) {
-            return Ok(None);
-        }
         done.push(value)?;
     }
-    Ok(Some(done))
+    if all_differ(alloc, done.items())? {
+        Ok(Some(done))
+    } else {
+        Ok(None)
+    }
 }
 
 /// Adds the row of a leaf-list, where it has a value.

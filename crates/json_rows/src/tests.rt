@@ -423,6 +423,45 @@ fn entries_are_read_with_their_keys(rt: HostRuntime) -> Result<(), Fail> {
     check(&rt, rt.alloc(), &table)
 }
 
+/// An array of so many texts, of which the last is that with this number.
+fn words(alloc: Global, count: u32, last: u32) -> Result<Bytes, Fail> {
+    let mut json = Seq::empty(alloc);
+    for place in 0..count {
+        let number = if place + 1 == count { last } else { place };
+        let before = if place == 0 { '[' } else { ',' };
+        let text = format!(in alloc; "{before}\"w{number}\"")?;
+        json.extend_from_slice(text.as_bytes())?;
+    }
+    json.push(b']')?;
+    Ok(json)
+}
+
+#[test]
+fn of_many_values_no_two_are_equal(rt: HostRuntime) -> Result<(), Fail> {
+    let alloc = rt.alloc();
+    let schema = example(&rt, alloc);
+    let path = read_path_text(alloc, b"/c/tags")?;
+    let table = [
+        (16, 15, true),
+        (16, 0, false),
+        (17, 16, true),
+        (17, 0, false),
+        (300, 299, true),
+        (300, 0, false),
+    ];
+    for (count, last, is_taken) in table {
+        let json = words(alloc, count, last)?;
+        let fault = rows_of(alloc, &schema, &path, json.items()).err();
+        let expected = if is_taken {
+            None
+        } else {
+            Some(RowsFault::BadValue)
+        };
+        assert_eq!(rt; fault, expected, "{count} {last}");
+    }
+    Ok(())
+}
+
 /// An object whose member `x` has so many arrays inside one another.
 fn nested(alloc: Global, arrays: usize) -> Result<Bytes, NoMemory> {
     let mut json = Seq::empty(alloc);

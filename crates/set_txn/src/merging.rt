@@ -10,11 +10,11 @@ ghost use Rattle.base_kinds.specs.Values.{same_scalar as equal_values};
 ghost use Rattle.history_laws.specs.Rising.{value_at, is_path};
 ghost use Rattle.set_txn.specs.Operations.{keys_agree};
 
-use crate::values::same_scalar;
 use base_kinds::{Copied, NoMemory, Path, Row, Rows, Seq, Value};
 use path_core::cmp_paths;
 use std::alloc::Global;
 use std::cmp::Ordering;
+use value_order::same_scalar;
 
 /// Whether the rows have no other value at a key leaf than the path's key spells.
 pub(crate) fn keys_agree(keys: &[Row], rows: &[Row]) -> bool

@@ -48,6 +48,8 @@ enum Sent {
     Bin(&'static [u8]),
     Enum(&'static str),
     Texts(&'static [&'static str]),
+    /// So many texts, of which the last is that with this number.
+    Words(u32, u32),
     Uints(&'static [u64]),
     /// A list in a list.
     Nested,
@@ -374,6 +376,17 @@ fn path_of(rt: &impl Abort, alloc: Global, text: &str) -> Path {
     read_path_text(alloc, text.as_bytes()).expect(rt, "a path")
 }
 
+fn words(rt: &impl Abort, alloc: Global, count: u32, last: u32) -> Value {
+    let mut values = Values::empty(alloc);
+    for place in 0..count {
+        let number = if place + 1 == count { last } else { place };
+        let text = format!(in alloc; "w{number}").expect(rt, "memory");
+        let value = Value::Text(text_of(rt, alloc, text.as_str()));
+        values.push(value).expect(rt, "memory");
+    }
+    Value::List(values)
+}
+
 fn value_of(rt: &impl Abort, alloc: Global, put: Sent) -> Value {
     match put {
         Sent::Bool(is) => Value::Bool(is),
@@ -391,6 +404,7 @@ fn value_of(rt: &impl Abort, alloc: Global, put: Sent) -> Value {
             }
             Value::List(values)
         }
+        Sent::Words(count, last) => words(rt, alloc, count, last),
         Sent::Uints(numbers) => {
             let mut values = Values::empty(alloc);
             for number in numbers {
@@ -617,6 +631,26 @@ fn a_scalar_stands_for_a_value_of_its_leaf(rt: HostRuntime) {
     let alloc = rt.alloc();
     for (path, sent, value) in SCALARS {
         assert_scalar(&rt, alloc, path, sent, value);
+    }
+}
+
+#[test]
+fn of_many_scalars_no_two_are_equal(rt: HostRuntime) {
+    let alloc = rt.alloc();
+    let schema = example(&rt, alloc);
+    let table = [
+        (16, 15, true),
+        (16, 0, false),
+        (17, 16, true),
+        (17, 0, false),
+        (300, 299, true),
+        (300, 0, false),
+    ];
+    for (count, last, is_taken) in table {
+        let lines = [("update", "/lab/tag", Sent::Words(count, last))];
+        let ask = request(&rt, alloc, "/", &lines);
+        let is_ok = resolve(alloc, &schema, &ask).is_ok();
+        assert_eq!(rt; is_ok, is_taken, "{count} {last}");
     }
 }
 

@@ -1,9 +1,8 @@
 // The rows that a value gives at its path.
 ghost use Rattle.std.specs.Prelude.{◌≡◌, ◌≢◌, [], Ok, Err, IfOk, IfErr};
-ghost use Rattle.std.specs.List.{list_any};
 ghost use Rattle.std.specs.Option.{option_map};
 ghost use Rattle.base_kinds.specs.Schema.{node_at};
-ghost use Rattle.base_kinds.specs.Values.{is_list, same_scalar, all_differ};
+ghost use Rattle.base_kinds.specs.Values.{is_list, all_differ};
 ghost use Rattle.json_rows.specs.Reading.{rows_told};
 ghost use Rattle.set_txn.specs.Results.{then_some, when};
 ghost use Rattle.set_txn.specs.Scalars.{in_shape, in_shapes};
@@ -16,6 +15,7 @@ use base_kinds::{
 use json_rows::{RowsFault, rows_of};
 use schema_core::Schema;
 use std::alloc::Global;
+use value_order::all_differ;
 
 /// The rows of the value, rising by path.
 pub(crate) fn value_told(
@@ -124,7 +124,7 @@ fn distinct_told(
     let Some(kept) = in_shapes(alloc, shape, scalars)? else {
         return Ok(None);
     };
-    if !all_differ(kept.items()) {
+    if !all_differ(alloc, kept.items())? {
         return Ok(None);
     }
     Ok(Some(list_row(alloc, path, kept)?))
@@ -147,38 +147,4 @@ fn row_at(alloc: Global, path: &Path, value: Value) -> Result<Rows, NoMemory>
     let mut rows = Seq::empty(alloc);
     rows.push(Row { path, value })?;
     Ok(rows)
-}
-
-/// Whether no two of the values are equal.
-fn all_differ(values: &[Value]) -> bool
-    ensures { result ≡ all_differ values.now }
-{
-    for (i, value) in values.iter().enumerate() {
-        if has_same(value, &values[i + 1..]) {
-            return false;
-        }
-    }
-    true
-}
-
-fn has_same(value: &Value, others: &[Value]) -> bool
-    ensures { result ≡ list_any (same_scalar value.now) others.now }
-{
-    others.iter().any(|other| same_scalar(value, other))
-}
-
-/// Whether two values that are no lists are equal.
-pub(crate) fn same_scalar(a: &Value, b: &Value) -> bool
-    ensures { result ≡ same_scalar a.now b.now }
-{
-    match (a, b) {
-        (Value::Bool(a), Value::Bool(b)) => a == b,
-        (Value::Int(a), Value::Int(b)) => a == b,
-        (Value::Uint(a), Value::Uint(b)) => a == b,
-        (Value::Dec(a, places), Value::Dec(b, others)) => a == b && places == others,
-        (Value::Text(a), Value::Text(b)) => a.octets() == b.octets(),
-        (Value::Bin(a), Value::Bin(b)) => a.items() == b.items(),
-        (Value::Enum(a), Value::Enum(b)) => a.octets() == b.octets(),
-        _ => false,
-    }
 }

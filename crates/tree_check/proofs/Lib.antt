@@ -2,4 +2,3 @@ pub mod Fronts
 pub mod Runs
 pub mod Nodes
 pub mod Neighbours
-pub mod Differing

@@ -4,11 +4,12 @@ ghost use Rattle.std.specs.List.{list_all};
 ghost use Rattle.base_kinds.specs.Values.{has_shape};
 ghost use Rattle.base_kinds.specs.Valid.{is_taken, row_shaped, all_shaped};
 
-use crate::values::{all_differ, is_list, values_in};
+use crate::values::{is_list, values_in};
 use base_kinds::{NoMemory, Row, Shape, Sort, Value};
 use schema_core::Schema;
 use std::alloc::Global;
 use value_core::check_value;
+use value_order::all_differ;
 
 pub(crate) fn all_shaped(alloc: Global, schema: &Schema, rows: &[Row]) -> Result<bool, NoMemory>
     ensures { IfOk result (λ is. is ≡ all_shaped schema.now rows.now) }

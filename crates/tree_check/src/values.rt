@@ -1,15 +1,8 @@
 // The values of a leaf-list.
-ghost use Rattle.std.specs.Prelude.{◌≡◌, not, IfOk};
-ghost use Rattle.std.specs.List.{list_any};
-ghost use Rattle.base_kinds.specs.Values.{is_list, values_in, same_scalar, all_differ};
+ghost use Rattle.std.specs.Prelude.{◌≡◌};
+ghost use Rattle.base_kinds.specs.Values.{is_list, values_in};
 
-use base_kinds::{NoMemory, Value};
-use std::alloc::Global;
-use std::collections::BTreeSet;
-use tree_rules::scalar_of;
-
-/// So many values are compared each with each, which is cheaper than to sort them.
-const FEW_VALUES: usize = 16;
+use base_kinds::Value;
 
 pub(crate) fn is_list(value: &Value) -> bool
     ensures { result ≡ is_list value.now }
@@ -27,65 +20,5 @@ pub(crate) fn values_in(value: &Value) -> &[Value]
     match value {
         Value::List(values) => values.items(),
         _ => &[],
-    }
-}
-
-/// Whether no two of the values are equal. Takes memory only where there are many.
-pub(crate) fn all_differ(alloc: Global, values: &[Value]) -> Result<bool, NoMemory>
-    ensures { IfOk result (λ is. is ≡ all_differ values.now) }
-{
-    if values.len() <= FEW_VALUES {
-        Ok(few_differ(values))
-    } else {
-        many_differ(alloc, values)
-    }
-}
-
-/// The same by comparing each two values.
-fn few_differ(values: &[Value]) -> bool
-    ensures { result ≡ all_differ values.now }
-{
-    for (n, value) in values.iter().enumerate() {
-        if has_same(value, &values[n + 1..]) {
-            return false;
-        }
-    }
-    true
-}
-
-/// The same from the last value to the first, where those behind it are kept in order.
-fn many_differ(alloc: Global, values: &[Value]) -> Result<bool, NoMemory>
-    ensures { IfOk result (λ is. is ≡ all_differ values.now) }
-{
-    let mut behind = BTreeSet::new(alloc);
-    for n in (0..values.len()).rev() {
-        if let Some(scalar) = scalar_of(&values[n]) {
-            if !behind.insert(scalar)? {
-                return Ok(false);
-            }
-        }
-    }
-    Ok(true)
-}
-
-fn has_same(value: &Value, others: &[Value]) -> bool
-    ensures { result ≡ list_any (same_scalar value.now) others.now }
-{
-    others.iter().any(|other| same_scalar(value, other))
-}
-
-/// Whether two values that are no lists are equal.
-fn same_scalar(a: &Value, b: &Value) -> bool
-    ensures { result ≡ same_scalar a.now b.now }
-{
-    match (a, b) {
-        (Value::Bool(a), Value::Bool(b)) => a == b,
-        (Value::Int(a), Value::Int(b)) => a == b,
-        (Value::Uint(a), Value::Uint(b)) => a == b,
-        (Value::Dec(a, places), Value::Dec(b, others)) => a == b && places == others,
-        (Value::Text(a), Value::Text(b)) => a.octets() == b.octets(),
-        (Value::Bin(a), Value::Bin(b)) => a.items() == b.items(),
-        (Value::Enum(a), Value::Enum(b)) => a.octets() == b.octets(),
-        _ => false,
     }
 }

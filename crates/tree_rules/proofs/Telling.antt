@@ -21,11 +21,11 @@ use Rattle.base_kinds.specs.Values.{is_list, same_scalar}
 use Rattle.base_kinds.specs.Valid.{if_some, unless_none, refers, row_refers, all_refer}
 use Rattle.schema_core.specs.Nodes.{names_at}
 use Rattle.schema_core.proofs.NodeLemmas.{same_decides, got, no_some}
-use Rattle.tree_rules.specs.declared.scalar.Scalar.{Scalar}
-use Rattle.tree_rules.specs.declared.scalar.Scalar.TheVariants as scalars
-use Rattle.tree_rules.specs.Scalars.{value_of}
+use Rattle.value_order.specs.declared.scalar.Scalar.{Scalar}
+use Rattle.value_order.specs.declared.scalar.Scalar.TheVariants as scalars
+use Rattle.value_order.specs.Scalars.{value_of}
 use Rattle.tree_rules.specs.Told.{has_told, row_told, told_cmp, AreNumbered, IsTold}
-use Rattle.tree_rules.proofs.ScalarOrder.{scalars_total, tied_scalars}
+use Rattle.value_order.proofs.ScalarOrder.{scalars_total, tied_scalars}
 
 told_total : IsTotalOrder told_cmp
 told_total = then_total (on_total (λ (one : ℕ × Scalar). one.0) nat_cmp_total) (on_total (λ (one : ℕ × Scalar). one.1) scalars_total)

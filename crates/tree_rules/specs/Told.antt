@@ -9,9 +9,9 @@ use Rattle.base_kinds.specs.Schema.{SchemaNode, same_names, node_at}
 use Rattle.base_kinds.specs.Values.{same_scalar}
 use Rattle.base_kinds.specs.Valid.{if_some, unless_none, refers}
 use Rattle.schema_core.specs.Nodes.{names_at}
-use Rattle.tree_rules.specs.declared.scalar.Scalar.{Scalar}
-use Rattle.tree_rules.specs.contracts.scalar.ScalarOrd.TheImpl.{ghosts}
-use Rattle.tree_rules.specs.Scalars.{value_of}
+use Rattle.value_order.specs.declared.scalar.Scalar.{Scalar}
+use Rattle.value_order.specs.contracts.scalar.ScalarOrd.TheImpl.{ghosts}
+use Rattle.value_order.specs.Scalars.{value_of}
 
 -- the value stands at the leaf with these names
 abbrev pub has_told : List SchemaNode → List (ℕ × Scalar) → Value → List (List ℕ) → Bool

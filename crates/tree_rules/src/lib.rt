@@ -5,7 +5,6 @@ mod keyed;
 mod leaf;
 mod mandatory;
 mod referring;
-mod scalar;
 mod seen;
 #[cfg(test)]
 mod tests;
@@ -14,4 +13,3 @@ pub use keyed::all_keyed;
 pub use leaf::find_leaf;
 pub use mandatory::all_stand;
 pub use referring::all_refer;
-pub use scalar::{Scalar, scalar_of};

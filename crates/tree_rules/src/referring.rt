@@ -5,10 +5,10 @@ ghost use Rattle.std.specs.List.Sorted.{IsSorted};
 ghost use Rattle.base_kinds.specs.Valid.{all_refer};
 ghost use Rattle.tree_rules.specs.Told.{has_told, row_told, told_cmp, AreNumbered, IsTold};
 
-use crate::scalar::{Scalar, scalar_of};
 use base_kinds::{NoMemory, Row, Text, Value};
 use schema_core::Schema;
 use std::alloc::Global;
+use value_order::{Scalar, scalar_of};
 
 /// Whether the value of each row of a leaf that refers to another one is the value of some row of that leaf. The values
 /// are sorted once, and each is looked up in the logarithm of their number.

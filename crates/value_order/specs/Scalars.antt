@@ -1,8 +1,8 @@
 -- The values that scalars stand for.
 use Rattle.base_kinds.specs.declared.value.Value.{Value}
 use Rattle.base_kinds.specs.declared.value.Value as v
-use Rattle.tree_rules.specs.declared.scalar.Scalar.{Scalar}
-use Rattle.tree_rules.specs.declared.scalar.Scalar.TheVariants as scalars
+use Rattle.value_order.specs.declared.scalar.Scalar.{Scalar}
+use Rattle.value_order.specs.declared.scalar.Scalar.TheVariants as scalars
 
 abbrev pub value_of : Scalar → Value
 value_of (scalars.Bool is) = v.Bool is

@@ -2,7 +2,7 @@
 ghost use Rattle.std.specs.Prelude.{◌≡◌, Some, None, if◌then◌else◌};
 ghost use Rattle.std.specs.Option.{option_map};
 ghost use Rattle.base_kinds.specs.Values.{is_list};
-ghost use Rattle.tree_rules.specs.Scalars.{value_of};
+ghost use Rattle.value_order.specs.Scalars.{value_of};
 
 use base_kinds::Value;
 

@@ -10,11 +10,11 @@ use Rattle.std.proofs.lemmas.List.{drop_more}
 use Rattle.base_kinds.specs.declared.value.Value.{Value}
 use Rattle.base_kinds.specs.declared.value.Value as v
 use Rattle.base_kinds.specs.Values.{is_list, same_scalar, all_differ}
-use Rattle.tree_rules.specs.declared.scalar.Scalar.{Scalar}
-use Rattle.tree_rules.specs.declared.scalar.Scalar.TheVariants as scalars
-use Rattle.tree_rules.specs.contracts.scalar.ScalarOrd.TheImpl.{ghosts as order}
-use Rattle.tree_rules.specs.Scalars.{value_of}
-use Rattle.tree_rules.proofs.ScalarOrder.{scalars_total, tied_scalars}
+use Rattle.value_order.specs.declared.scalar.Scalar.{Scalar}
+use Rattle.value_order.specs.declared.scalar.Scalar.TheVariants as scalars
+use Rattle.value_order.specs.contracts.scalar.ScalarOrd.TheImpl.{ghosts as order}
+use Rattle.value_order.specs.Scalars.{value_of}
+use Rattle.value_order.proofs.ScalarOrder.{scalars_total, tied_scalars}
 
 pub made_from : (made value : Value) (listed : Bool) → Some made ≡ cond listed None (Some value) → made ≡ value
 made_from made value true is = absurd (true≢false (ap is_some is))

@@ -2,10 +2,10 @@ use Rattle.std.proofs.Common.{◌≡◌, ◌≤◌, true, drop, length}
 use Rattle.std.specs.List.{list_any}
 use Rattle.std.specs.BTreeSet.{contains}
 use Rattle.base_kinds.specs.Values.{same_scalar, all_differ}
-use Rattle.tree_rules.specs.declared.scalar.Scalar.{Scalar}
-use Rattle.tree_rules.specs.contracts.scalar.ScalarOrd.TheImpl.{ghosts}
-use Rattle.tree_rules.specs.Scalars.{value_of}
-use Rattle.tree_check.proofs.values.many_differ.Given as goal
+use Rattle.value_order.specs.declared.scalar.Scalar.{Scalar}
+use Rattle.value_order.specs.contracts.scalar.ScalarOrd.TheImpl.{ghosts}
+use Rattle.value_order.specs.Scalars.{value_of}
+use Rattle.value_order.proofs.differing.many_differ.Given as goal
 
 -- those behind differ, and the set has just them
 abbrev pub invariant-loop-n : goal.invariant-loop-n

@@ -3,12 +3,12 @@ use Rattle.std.proofs.Common.{◌≡◌, refl, sym, ◌∙◌}
 use Rattle.std.specs.Ordering.{is_eq}
 use Rattle.std.specs.Cmp.{IsTotalOrder}
 use Rattle.base_kinds.specs.Values.{same_scalar}
-use Rattle.tree_rules.specs.declared.scalar.Scalar.{Scalar}
-use Rattle.tree_rules.specs.declared.scalar.Scalar.TheVariants as scalars
-use Rattle.tree_rules.specs.contracts.scalar.ScalarOrd.TheImpl.{ghosts as order}
-use Rattle.tree_rules.specs.contracts.scalar.ScalarOrd.TheImpl.Laws as laws
-use Rattle.tree_rules.specs.contracts.scalar.ScalarPartialEq.TheImpl.{ghosts as equality}
-use Rattle.tree_rules.specs.Scalars.{value_of}
+use Rattle.value_order.specs.declared.scalar.Scalar.{Scalar}
+use Rattle.value_order.specs.declared.scalar.Scalar.TheVariants as scalars
+use Rattle.value_order.specs.contracts.scalar.ScalarOrd.TheImpl.{ghosts as order}
+use Rattle.value_order.specs.contracts.scalar.ScalarOrd.TheImpl.Laws as laws
+use Rattle.value_order.specs.contracts.scalar.ScalarPartialEq.TheImpl.{ghosts as equality}
+use Rattle.value_order.specs.Scalars.{value_of}
 
 pub equal_scalars : (a b : Scalar) → equality.eq a b ≡ same_scalar (value_of a) (value_of b)
 equal_scalars (scalars.Bool a) (scalars.Bool b) = refl

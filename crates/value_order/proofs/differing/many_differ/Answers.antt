@@ -2,9 +2,9 @@ use Rattle.std.proofs.Common.{◌≡◌, drop, true, ap, sym, ◌∙◌, arith}
 use Rattle.std.specs.List.{list_any}
 use Rattle.std.proofs.lemmas.Bool.{not-false, not-true}
 use Rattle.base_kinds.specs.Values.{is_list, same_scalar, all_differ}
-use Rattle.tree_rules.specs.Scalars.{value_of}
-use Rattle.tree_check.proofs.Differing.{made_from, made_none, list_differs, list_is_no_member, one_member_more, new_differs, at_place, same_behind}
-use Rattle.tree_check.proofs.values.many_differ.Goals as goal
+use Rattle.value_order.specs.Scalars.{value_of}
+use Rattle.value_order.proofs.Behind.{made_from, made_none, list_differs, list_is_no_member, one_member_more, new_differs, at_place, same_behind}
+use Rattle.value_order.proofs.differing.many_differ.Goals as goal
 
 pub returns-then-not-branch : goal.returns-then-not-branch
 returns-then-not-branch c =

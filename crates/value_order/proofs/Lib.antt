@@ -1,0 +1,3 @@
+pub mod ScalarOrder
+pub mod Behind
+pub mod OneMore
