@@ -1,6 +1,6 @@
 use Rattle.std.proofs.Common.{IfSome, map, refl, string_bytes}
 use Rattle.schema_text.specs.Schemas.{schema_of}
-use Rattle.target_top.specs.ScriptRuns.{OfText, AppendsRun, AppendsRunFront, PrintsWhatItRead}
+use Rattle.target_top.specs.ScriptRuns.{OfText, AppendsRun, AppendsRunFront, LeavesUnread, PrintsWhatItRead}
 use Rattle.target_top.proofs.WordLists.{of_script, no_form}
 use Rattle.target_top.proofs.top.run.Goals as goal
 
@@ -39,3 +39,14 @@ returns-clause-bad_words g c = (λ _. no_form (map (λ word. string_bytes word) 
 
 pub returns-clause-script_statuses : goal.returns-clause-script_statuses
 returns-clause-script_statuses g c = λ name limits is. absurd (c.in_default.ensures.none name limits is)
+
+pub returns-in-Some-clause-no_schema_untouched : goal.returns-in-Some-clause-no_schema_untouched
+returns-in-Some-clause-no_schema_untouched g c = λ name limits is.
+    let held = g.K.Files.Files.held in
+    let left = g.K.Input.Source.left in
+    let reads = g.K.Input.Source.faults in
+    of_script (λ n l. OfText (held c.args.host.files n) (λ schema. LeavesUnread (schema_of schema) (left c.args.host.input) (left c.script-status.new.input) (reads c.args.host.input) (reads c.script-status.new.input)))
+    _ _ name _ limits c.in-Some.ensures.some is c.script-status.ensures.no_schema_untouched
+
+pub returns-clause-no_schema_untouched : goal.returns-clause-no_schema_untouched
+returns-clause-no_schema_untouched g c = λ name limits is. absurd (c.in_default.ensures.none name limits is)
