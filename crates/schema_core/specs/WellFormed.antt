@@ -35,8 +35,8 @@ texts_differ (text ∷ texts) = not (list_any (bytes_eq text) texts) && texts_di
 abbrev pub has_leaf : List SchemaNode → List (List ℕ) → Bool
 has_leaf schema names = if_some (node_of schema names) (λ node. is_leaf node.sort)
 
--- A node whose own name and module are identifiers without `:`. A list has one key or more, no key twice, and of each a
--- leaf right below it; other nodes have no keys (RFC 7950 7.8.2).
+-- A node: its own name and its module's have no `:`. A list has one key or more, no key twice, and of each a leaf right
+-- below it; other nodes have no keys (RFC 7950 7.8.2).
 pub record IsWellFormedNode (schema : List SchemaNode) (node : SchemaNode) : Type 0 where
   pub name : lacks_colon (own_name node.names) ≡ true
   pub module_name : lacks_colon node.module_name ≡ true
