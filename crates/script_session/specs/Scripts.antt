@@ -1,6 +1,6 @@
 -- What a script prints under a schema and the limits of a log: the answers to its lines, in order, as those of one commit
 -- history, and then that history's log.
-use Rattle.std.specs.Prelude.{◌≡◌, ℕ, ◌+◌, ◌<◌, ◌==◌, nat_le, nat_lt, List, [], ◌∷◌, ◌++◌, Bool, true, false, IsTrue, length, take, if◌then◌else◌, Result, Ok, Err, codes, ◌⊎◌}
+use Rattle.std.specs.Prelude.{◌≡◌, ℕ, ◌+◌, ◌<◌, ◌==◌, nat_lt, List, [], ◌∷◌, ◌++◌, Bool, true, false, IsTrue, length, take, if◌then◌else◌, Result, Ok, Err, codes, ◌⊎◌}
 use Rattle.std.specs.List.{flat_map}
 use Rattle.std.specs.Fmt.{decimal}
 use Rattle.base_kinds.specs.declared.path.Elem.{Elem}

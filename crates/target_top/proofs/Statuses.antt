@@ -1,5 +1,5 @@
 -- Cases of statuses, and facts of what may not be told.
-use Rattle.std.proofs.Common.{◌≡◌, ℕ, ◌⊎◌, inl, inr, List, Option, Some, None, Result, Ok, Err, IfSome, refl, sym, ◌∙◌, subst}
+use Rattle.std.proofs.Common.{◌≡◌, ℕ, ◌⊎◌, inl, inr, List, Option, Some, None, Result, Err, IfSome, refl, sym, ◌∙◌, subst}
 use Rattle.base_kinds.specs.declared.entry.Limits.{Limits}
 use Rattle.base_kinds.specs.Schema.{SchemaNode}
 use Rattle.schema_text.specs.declared.cause.SchemaFault.{SchemaFault}
