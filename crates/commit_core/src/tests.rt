@@ -41,7 +41,7 @@ fn put(rt: &impl Abort, schema: &mut Schema, node: Node) {
     schema.add(node).expect(rt, "memory");
 }
 
-/// The containers `/system` and `/system/config`, and two texts in the inner one.
+/// The containers `/system` and `/system/config`, and in the inner one two texts and a number of 16 bits.
 fn schema_of(rt: &impl Abort, alloc: Global) -> Schema {
     let mut schema = Schema::empty(alloc);
     for words in [["system"].as_slice(), ["system", "config"].as_slice()] {
@@ -52,13 +52,17 @@ fn schema_of(rt: &impl Abort, alloc: Global) -> Schema {
             Node::container(alloc, text_of(rt, alloc, "m"), names),
         );
     }
-    for word in ["hostname", "motd"] {
+    for (word, shape) in [
+        ("hostname", Shape::Text),
+        ("motd", Shape::Text),
+        ("mtu", Shape::Uint(16)),
+    ] {
         let names = names_of(rt, alloc, &["system", "config", word]);
         let module = text_of(rt, alloc, "m");
         put(
             rt,
             &mut schema,
-            Node::leaf(alloc, module, names, Shape::Text, false, None),
+            Node::leaf(alloc, module, names, shape, false, None),
         );
     }
     schema
@@ -214,6 +218,10 @@ fn what_is_let_go_or_refused_leaves_nothing(rt: HostRuntime) {
         refused(&mut core, alloc, unfit),
         Some(Refusal::TreeInvalid)
     );
+    for (mtu, refusal) in [(65_535, None), (65_536, Some(Refusal::TreeInvalid))] {
+        let ask = set_of(&rt, alloc, "mtu", Value::Uint(mtu));
+        assert_eq!(rt; refused(&mut core, alloc, ask), refusal, "{mtu}");
+    }
     let closing = Ask::Confirm(text_of(&rt, alloc, "t"));
     assert_eq!(rt; refused(&mut core, alloc, closing), Some(Refusal::NoTrial));
     assert!(rt; is_just(&rt, &core, alloc, 1000, "hostname", "r1"));

@@ -91,6 +91,12 @@ fn scripts_print_the_answers_of_one_history_and_its_log(rt: HostRuntime) -> Resu
             "refused 7 3\nrefused 8 5\nlog\n",
             true,
         ),
+        // The greatest value of its range is taken.
+        (
+            "at 1000\nupdate /interfaces/interface[name=e0]/config/mtu 65535\nset 1\nget 1 /\n",
+            "ok 1000\nrow /interfaces/interface[name=e0]/config/mtu 65535\nrow /interfaces/interface[name=e0]/name \"e0\"\nstate 1000\nlog\n1 1000 1 apply\n  update /interfaces/interface[name=e0]/config/mtu\n    /interfaces/interface[name=e0]/config/mtu 65535\n    /interfaces/interface[name=e0]/name \"e0\"\n",
+            true,
+        ),
         // Values of many shapes, and a leaf that refers to none.
         (
             "at 1000\nupdate /lab {\"big\":\"18446744073709551615\",\"rate\":\"1.50\",\"blob\":\"AQI=\",\"tags\":[\"x\",\"y\"]}\nset 1\nget 1 /lab\nupdate /lab/via \"e9\"\nset 1\n",
@@ -129,20 +135,22 @@ fn a_replace_leaves_only_its_own_rows(rt: HostRuntime) -> Result<(), Fail> {
         "at 1000\nupdate /interfaces/interface[name=eth0]/config {\"mtu\":1500,\"description\":\"a\"}\nset 1\nreplace /interfaces/interface[name=eth0] {\"name\":\"eth0\",\"openconfig-interfaces:config\":{\"mtu\":9000}}\n";
     let table = [
         (
-            "update /interfaces/interface[name=eth0]/config/description \"b\"\nset 1\nget 1 /interfaces\n!",
-            "ok 1000\nok 1001\nrow /interfaces/interface[name=eth0]/config/description \"b\"\nrow /interfaces/interface[name=eth0]/config/mtu 9000\nrow /interfaces/interface[name=eth0]/name \"eth0\"\nstate 1001\nscript line 8 refused\n",
+            "update /interfaces/interface[name=eth0]/config/description \"b\"\nset 1\nget 1 /interfaces\n",
+            "ok 1000\nok 1001\nrow /interfaces/interface[name=eth0]/config/description \"b\"\nrow /interfaces/interface[name=eth0]/config/mtu 9000\nrow /interfaces/interface[name=eth0]/name \"eth0\"\nstate 1001\nlog\n1 1000 1 apply\n  update /interfaces/interface[name=eth0]/config\n    /interfaces/interface[name=eth0]/config/description \"a\"\n    /interfaces/interface[name=eth0]/config/mtu 1500\n    /interfaces/interface[name=eth0]/name \"eth0\"\n2 1001 1 apply\n  replace /interfaces/interface[name=eth0]\n    /interfaces/interface[name=eth0]/config/mtu 9000\n    /interfaces/interface[name=eth0]/name \"eth0\"\n  update /interfaces/interface[name=eth0]/config/description\n    /interfaces/interface[name=eth0]/config/description \"b\"\n    /interfaces/interface[name=eth0]/name \"eth0\"\n",
+            true,
         ),
         (
             "set 1\nget 1 /interfaces\n!",
             "ok 1000\nok 1001\nrow /interfaces/interface[name=eth0]/config/mtu 9000\nrow /interfaces/interface[name=eth0]/name \"eth0\"\nstate 1001\nscript line 7 refused\n",
+            false,
         ),
     ];
-    for (rest, printed) in table {
+    for (rest, printed, is_whole) in table {
         let mut script = String::from_str(alloc, first).expect(&rt, "memory");
         script.push_str(rest).expect(&rt, "memory");
         let transcript = run(&rt, alloc, LIMITS, script.as_bytes());
         assert_eq!(rt; transcript.text.items(), printed.as_bytes(), "of {rest}");
-        assert_eq!(rt; transcript.is_whole, false, "of {rest}");
+        assert_eq!(rt; transcript.is_whole, is_whole, "of {rest}");
     }
     Ok(())
 }

@@ -13,7 +13,24 @@ fn root(alloc: Global) -> Result<Paths, Fail> {
     Ok(patterns)
 }
 
-/// Applies so many generated operations to both, one after another, and compares the rows and a part of them after each.
+/// The weight of rows whose values are numbers: 64 and 32 a row, 16 for each element and key beside its octets.
+fn weight_of(rows: &Rows) -> u64 {
+    let mut weight = 0u64;
+    for row in rows.items() {
+        weight = weight.saturating_add(96);
+        for elem in row.path.items() {
+            weight = weight.saturating_add(16 + elem.name.octets().len() as u64);
+            for (name, value) in elem.keys.items() {
+                let octets = name.octets().len() as u64 + value.octets().len() as u64;
+                weight = weight.saturating_add(16 + octets);
+            }
+        }
+    }
+    weight
+}
+
+/// Applies so many generated operations to both, one after another, and compares the rows, their number and weight,
+/// and a part of them after each.
 /// The most rows that stood are the result.
 fn compare<T: TreeLike>(
     rt: &impl Abort,
@@ -36,6 +53,11 @@ fn compare<T: TreeLike>(
             tree.count(),
             model.len() as u64,
             "count after round {round}"
+        );
+        assert_eq!(rt;
+            tree.weight(),
+            weight_of(&model),
+            "weight after round {round}"
         );
         let patterns = generator.patterns(alloc)?;
         let part = tree.part(alloc, &patterns)?;
