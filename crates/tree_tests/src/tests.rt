@@ -1,5 +1,5 @@
 use crate::generator::Generator;
-use base_kinds::{Ops, Path, Paths, Rows, Same, TreeLike};
+use base_kinds::{Ops, Path, Paths, Rows, Same, Text, TreeLike};
 use plain_model::{effect, part_of};
 use plain_tree::PlainTree;
 use std::alloc::Global;
@@ -13,16 +13,22 @@ fn root(alloc: Global) -> Result<Paths, Fail> {
     Ok(patterns)
 }
 
+fn octets_in(text: &Text) -> u64 {
+    text.octets().len() as u64
+}
+
 /// The weight of rows whose values are numbers: 64 and 32 a row, 16 for each element and key beside its octets.
 fn weight_of(rows: &Rows) -> u64 {
     let mut weight = 0u64;
     for row in rows.items() {
         weight = weight.saturating_add(96);
         for elem in row.path.items() {
-            weight = weight.saturating_add(16 + elem.name.octets().len() as u64);
+            weight = weight
+                .saturating_add(16)
+                .saturating_add(octets_in(&elem.name));
             for (name, value) in elem.keys.items() {
-                let octets = name.octets().len() as u64 + value.octets().len() as u64;
-                weight = weight.saturating_add(16 + octets);
+                weight = weight.saturating_add(16).saturating_add(octets_in(name));
+                weight = weight.saturating_add(octets_in(value));
             }
         }
     }

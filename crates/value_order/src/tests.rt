@@ -1,7 +1,6 @@
-use crate::{Scalar, all_differ, same_scalar, scalar_of};
+use crate::{all_differ, same_scalar, scalar_of};
 use base_kinds::{Bytes, Text, Value, Values};
 use std::alloc::Global;
-use std::cmp::Ordering;
 use std::process::Abort;
 use std::test::Fail;
 
@@ -44,21 +43,12 @@ fn rising(rt: &impl Abort, alloc: Global) -> Result<Vec<Value>, Fail> {
 fn scalars_are_in_order(rt: HostRuntime) -> Result<(), Fail> {
     let alloc = rt.alloc();
     let values = rising(&rt, alloc)?;
-    let mut scalars: Vec<Scalar<'_>> = Vec::new(alloc);
-    for value in &values {
-        scalars.push(scalar_of(value).expect(&rt, "a scalar"))?;
-    }
-    for (i, one) in scalars.iter().enumerate() {
-        for (j, other) in scalars.iter().enumerate() {
-            let order = if i == j {
-                Ordering::Equal
-            } else if i < j {
-                Ordering::Less
-            } else {
-                Ordering::Greater
-            };
-            assert_eq!(rt; one.cmp(other), order, "{i} {j}");
-            assert_eq!(rt; same_scalar(&values[i], &values[j]), i == j, "{i} {j}");
+    for (i, one) in values.iter().enumerate() {
+        for (j, other) in values.iter().enumerate() {
+            let first = scalar_of(one).expect(&rt, "a scalar");
+            let second = scalar_of(other).expect(&rt, "a scalar");
+            assert_eq!(rt; first.cmp(&second), i.cmp(&j), "{i} {j}");
+            assert_eq!(rt; same_scalar(one, other), i == j, "{i} {j}");
         }
     }
     assert!(rt;
