@@ -3,8 +3,6 @@
 
 mod commits;
 mod log;
-#[cfg(test)]
-mod tests;
 mod trees;
 
 pub use commits::Core;

@@ -4,8 +4,6 @@
 mod log;
 mod numbers;
 mod rows;
-#[cfg(test)]
-mod tests;
 
 pub use log::put_log;
 pub use numbers::{put_number, put_number_line};

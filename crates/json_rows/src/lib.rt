@@ -10,8 +10,6 @@ mod reading;
 mod rows;
 mod seen_keys;
 mod sorting;
-#[cfg(test)]
-mod tests;
 mod texts;
 mod walk;
 

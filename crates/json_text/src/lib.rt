@@ -4,8 +4,6 @@
 mod laws;
 mod leaves;
 mod runs;
-#[cfg(test)]
-mod tests;
 mod trees;
 mod valid_laws;
 

@@ -8,8 +8,6 @@ mod paths;
 mod rules;
 mod schema;
 mod steps;
-#[cfg(test)]
-mod tests;
 mod trees;
 mod validity;
 mod values;

@@ -6,8 +6,6 @@ mod laws;
 mod pending;
 mod readable;
 mod session;
-#[cfg(test)]
-mod tests;
 mod transcript;
 
 pub use laws::{

@@ -10,8 +10,6 @@ mod lines;
 mod names;
 mod numbers;
 mod parts;
-#[cfg(test)]
-mod tests;
 mod words;
 
 pub use laws::{first_lines_stay, line_meant, one_meaning};

@@ -9,8 +9,6 @@ mod numbers;
 mod operations;
 mod resolving;
 mod scalars;
-#[cfg(test)]
-mod tests;
 mod values;
 mod walking;
 

@@ -6,8 +6,6 @@ mod files;
 mod laws;
 mod script_run;
 mod status;
-#[cfg(test)]
-mod tests;
 mod top;
 mod words;
 

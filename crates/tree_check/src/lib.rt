@@ -6,8 +6,6 @@ mod fault;
 mod known;
 mod rising;
 mod shaped;
-#[cfg(test)]
-mod tests;
 mod values;
 mod weighing;
 mod within;

@@ -6,8 +6,6 @@ mod leaf;
 mod mandatory;
 mod referring;
 mod seen;
-#[cfg(test)]
-mod tests;
 
 pub use keyed::all_keyed;
 pub use leaf::find_leaf;

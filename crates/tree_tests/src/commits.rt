@@ -1,12 +1,9 @@
 ghost use Rattle.commit_core.specs.Cores.{OpensNoTrial};
 
-use crate::Core;
-use base_kinds::{
-    Act, Ask, Elem, Keys, Limits, Op, Ops, Path, Paths, Refusal, Row, Rows, Same, Seq, Shape, Text,
-    Texts, Value,
-};
+use crate::builders::{path_of, schema_of, text_of};
+use base_kinds::{Act, Ask, Limits, Op, Ops, Path, Paths, Refusal, Row, Rows, Same, Text, Value};
+use commit_core::Core;
 use plain_tree::PlainTree;
-use schema_core::{MOST_NODES, Node, Schema};
 use std::alloc::Global;
 use std::process::Abort;
 
@@ -21,81 +18,30 @@ const NARROW: Limits = Limits {
     octets: 4_096,
 };
 
-fn text_of(rt: &impl Abort, alloc: Global, word: &str) -> Text {
-    Text::of(alloc, word.as_bytes()).expect(rt, "a text")
-}
-
-fn names_of(rt: &impl Abort, alloc: Global, words: &[&str]) -> Texts {
-    let mut names = Seq::empty(alloc);
-    for word in words {
-        names.push(text_of(rt, alloc, word)).expect(rt, "memory");
-    }
-    names
-}
-
-fn put(rt: &impl Abort, schema: &mut Schema, node: Node) {
-    let is_room = schema.nodes() < MOST_NODES;
-    let has_parent = schema.has_parent(node.names().items());
-    let found = schema.find_names(node.names().items());
-    assert!(rt; is_room && has_parent && found.is_none(), "a place");
-    schema.add(node).expect(rt, "memory");
-}
-
-/// The containers `/system` and `/system/config`, and in the inner one two texts and a number of 16 bits.
-fn schema_of(rt: &impl Abort, alloc: Global) -> Schema {
-    let mut schema = Schema::empty(alloc);
-    for words in [["system"].as_slice(), ["system", "config"].as_slice()] {
-        let names = names_of(rt, alloc, words);
-        put(
-            rt,
-            &mut schema,
-            Node::container(alloc, text_of(rt, alloc, "m"), names),
-        );
-    }
-    for (word, shape) in [
-        ("hostname", Shape::Text),
-        ("motd", Shape::Text),
-        ("mtu", Shape::Uint(16)),
-    ] {
-        let names = names_of(rt, alloc, &["system", "config", word]);
-        let module = text_of(rt, alloc, "m");
-        put(
-            rt,
-            &mut schema,
-            Node::leaf(alloc, module, names, shape, false, None),
-        );
-    }
-    schema
-}
+/// Two texts and a number of 16 bits.
+const SCHEMA: &str = "\
+module m\n\
+container /system\n\
+container /system/config\n\
+leaf /system/config/hostname string\n\
+leaf /system/config/motd string\n\
+leaf /system/config/mtu uint16\n\
+";
 
 fn core_of(rt: &impl Abort, alloc: Global, limits: Limits) -> Core<PlainTree> {
-    Core::make(alloc, schema_of(rt, alloc), PlainTree::empty(alloc), limits)
-}
-
-fn path_of(rt: &impl Abort, alloc: Global, words: &[&str]) -> Path {
-    let mut path = Path::empty(alloc);
-    for word in words {
-        let elem = Elem {
-            name: text_of(rt, alloc, word),
-            keys: Keys::empty(alloc),
-        };
-        path.push(elem).expect(rt, "memory");
-    }
-    path
+    let schema = schema_of(rt, alloc, SCHEMA);
+    Core::make(alloc, schema, PlainTree::empty(alloc), limits)
 }
 
 /// The update of `/system/config/WORD` to this value.
 fn update_of(rt: &impl Abort, alloc: Global, word: &str, value: Value) -> Op {
-    let words = ["system", "config", word];
+    let text = format!(in alloc; "/system/config/{word}").expect(rt, "memory");
+    let path = path_of(rt, alloc, text.as_str());
     let mut rows = Rows::empty(alloc);
-    let row = Row {
-        path: path_of(rt, alloc, &words),
-        value,
-    };
-    rows.push(row).expect(rt, "memory");
+    rows.push(Row { path, value }).expect(rt, "memory");
     Op {
         act: Act::Update,
-        path: path_of(rt, alloc, &words),
+        path: path_of(rt, alloc, text.as_str()),
         rows,
     }
 }
@@ -163,24 +109,25 @@ fn is_just(
     view.stamp == stamp && view.rows.same(&row)
 }
 
+const READINGS: &[(u64, u64)] = &[
+    (0, 1),
+    (0, 2),
+    (1000, 1000),
+    (1000, 1001),
+    (10, 1002),
+    (1003, 1003),
+    (4_102_444_799_999_999_999, 4_102_444_799_999_999_999),
+    (4_102_444_800_000_000_000, 4_102_444_800_000_000_000),
+    (4_102_444_800_000_000_005, 4_102_444_800_000_000_001),
+    (u64::MAX, 4_102_444_800_000_000_002),
+    (0, 4_102_444_800_000_000_003),
+];
+
 #[test]
 fn stamps_follow_the_clock_and_rise(rt: HostRuntime) {
     let alloc = rt.alloc();
     let mut core = core_of(&rt, alloc, ROOMY);
-    let table = [
-        (0, 1),
-        (0, 2),
-        (1000, 1000),
-        (1000, 1001),
-        (10, 1002),
-        (1003, 1003),
-        (4_102_444_799_999_999_999, 4_102_444_799_999_999_999),
-        (4_102_444_800_000_000_000, 4_102_444_800_000_000_000),
-        (4_102_444_800_000_000_005, 4_102_444_800_000_000_001),
-        (u64::MAX, 4_102_444_800_000_000_002),
-        (0, 4_102_444_800_000_000_003),
-    ];
-    for (now, stamp) in table {
+    for (now, stamp) in READINGS.iter().copied() {
         let ask = set_text(&rt, alloc, "motd", "m");
         assert_eq!(rt; accept(&rt, &mut core, alloc, now, ask), stamp, "at {now}");
         assert!(rt; is_just(&rt, &core, alloc, stamp, "motd", "m"), "at {now}");
@@ -244,7 +191,7 @@ fn deletes_come_before_updates(rt: HostRuntime) {
     let update = update_of(&rt, alloc, "motd", Value::Text(text_of(&rt, alloc, "new")));
     let delete = Op {
         act: Act::Delete,
-        path: path_of(&rt, alloc, &["system", "*"]),
+        path: path_of(&rt, alloc, "/system/*"),
         rows: Rows::empty(alloc),
     };
     let mut ops = Ops::empty(alloc);
@@ -264,7 +211,7 @@ fn trees_and_logs_have_limits(rt: HostRuntime) {
         (NARROW, 3_972, Some(Refusal::LogFull)),
         (NARROW, 316_645, Some(Refusal::TreeFull)),
     ];
-    for (limits, size, refusal) in table {
+    for (limits, size, refusal) in table.iter().copied() {
         let mut core = core_of(&rt, alloc, limits);
         let ask = set_long(&rt, alloc, size);
         assert_eq!(rt; refused(&mut core, alloc, ask), refusal, "{size} octets");

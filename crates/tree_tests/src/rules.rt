@@ -1,15 +1,12 @@
-ghost use Rattle.std.specs.Prelude.{◌≡◌};
-ghost use Rattle.base_kinds.specs.Legal.{rises};
-ghost use Rattle.history_laws.specs.Rising.{row_cmp, IsRising};
+ghost use Rattle.history_laws.specs.Rising.{IsRising};
 
-use crate::{all_keyed, all_refer, all_stand, find_leaf};
 use base_kinds::{Copied, Elem, Path, Row, Rows, Seq, Shape, Text, Texts, Value};
-use history_laws::rising_is_tested;
 use schema_core::{MOST_NODES, Node, Schema};
 use std::alloc::Global;
 use std::cmp::Ordering;
 use std::process::Abort;
-use std::test::Fail;
+use tree_check::are_rising;
+use tree_rules::{all_keyed, all_refer, all_stand, find_leaf};
 
 /// A node on each line: its names, what it is, and the names of its keys or of the leaf that it refers to.
 const NODES: [(&str, &str, &str); 17] = [
@@ -33,7 +30,7 @@ const NODES: [(&str, &str, &str); 17] = [
 ];
 
 /// Rows on each line, with the answer whether the keys of each element have their leaves.
-const KEYED: [(&str, bool); 15] = [
+const KEYED: &[(&str, bool)] = &[
     ("", true),
     ("kinds=x", true),
     ("if[name:x]/name=x", true),
@@ -52,7 +49,7 @@ const KEYED: [(&str, bool); 15] = [
 ];
 
 /// Rows on each line, with the answer whether each mandatory leaf stands where it has to.
-const STANDING: [(&str, bool); 9] = [
+const STANDING: &[(&str, bool)] = &[
     ("", true),
     ("kinds=x", true),
     ("if[name:x]/mtu=1", true),
@@ -68,7 +65,7 @@ const STANDING: [(&str, bool); 9] = [
 ];
 
 /// Rows on each line, with the answer whether each reference has its row.
-const REFERRING: [(&str, bool); 14] = [
+const REFERRING: &[(&str, bool)] = &[
     ("", true),
     ("kinds=x", true),
     ("if[name:x]/name=x route[from:a][to:b]/via=x", true),
@@ -91,209 +88,191 @@ const REFERRING: [(&str, bool); 14] = [
     ("stranger=x", false),
 ];
 
-fn text_of(alloc: Global, word: &str) -> Result<Text, Fail> {
-    Ok(Text::of(alloc, word.as_bytes())?)
+fn text_of(rt: &impl Abort, alloc: Global, word: &str) -> Text {
+    Text::of(alloc, word.as_bytes()).expect(rt, "memory")
 }
 
-fn texts_of(alloc: Global, line: &str) -> Result<Texts, Fail> {
+fn texts_of(rt: &impl Abort, alloc: Global, line: &str) -> Texts {
     let mut texts = Seq::empty(alloc);
     for word in line.split_whitespace() {
-        texts.push(text_of(alloc, word)?)?;
+        texts.push(text_of(rt, alloc, word)).expect(rt, "memory");
     }
-    Ok(texts)
+    texts
 }
 
-fn node_of(alloc: Global, line: &str, word: &str, other: &str) -> Result<Node, Fail> {
-    let module = text_of(alloc, "m")?;
-    let names = texts_of(alloc, line)?;
-    Ok(match word {
+fn node_of(rt: &impl Abort, alloc: Global, line: &str, word: &str, other: &str) -> Node {
+    let module = text_of(rt, alloc, "m");
+    let names = texts_of(rt, alloc, line);
+    match word {
         "container" => Node::container(alloc, module, names),
-        "list" => Node::list(module, names, texts_of(alloc, other)?, None),
+        "list" => Node::list(module, names, texts_of(rt, alloc, other), None),
         "mandatory" => Node::leaf(alloc, module, names, Shape::Text, true, None),
         "reference" => {
-            let target = texts_of(alloc, other)?;
+            let target = texts_of(rt, alloc, other);
             Node::leaf(alloc, module, names, Shape::Text, false, Some(target))
         }
         _ => Node::leaf(alloc, module, names, Shape::Text, false, None),
-    })
+    }
 }
 
-fn schema_of(rt: &impl Abort, alloc: Global, lines: &[(&str, &str, &str)]) -> Result<Schema, Fail> {
+fn schema_of(rt: &impl Abort, alloc: Global, lines: &[(&str, &str, &str)]) -> Schema {
     let mut schema = Schema::empty(alloc);
     for (line, word, other) in lines {
-        let node = node_of(alloc, line, word, other)?;
+        let node = node_of(rt, alloc, line, word, other);
         let is_room = schema.nodes() < MOST_NODES;
         let has_parent = schema.has_parent(node.names().items());
         let found = schema.find_names(node.names().items());
         assert!(rt; is_room && has_parent && found.is_none(), "{line}");
-        schema.add(node)?;
+        schema.add(node).expect(rt, "memory");
     }
-    Ok(schema)
+    schema
 }
 
 /// The element of a text as `route[from:a][to:b]`.
-fn elem_of(alloc: Global, text: &str) -> Result<Elem, Fail> {
+fn elem_of(rt: &impl Abort, alloc: Global, text: &str) -> Elem {
     let mut keys = Seq::empty(alloc);
     let mut parts = text.split('[');
-    let name = text_of(alloc, parts.next().unwrap_or(""))?;
+    let name = text_of(rt, alloc, parts.next().unwrap_or(""));
     for part in parts {
-        let (key, value) = part.split_once(':').ok_or("a key")?;
+        let (key, value) = part.split_once(':').ok_or("a key").expect(rt, "memory");
         let value = value.split(']').next().unwrap_or("");
-        keys.push((text_of(alloc, key)?, text_of(alloc, value)?))?;
+        keys.push((text_of(rt, alloc, key), text_of(rt, alloc, value)))
+            .expect(rt, "memory");
     }
-    Ok(Elem { name, keys })
+    Elem { name, keys }
 }
 
-fn path_of(alloc: Global, text: &str) -> Result<Path, Fail> {
+fn path_of(rt: &impl Abort, alloc: Global, text: &str) -> Path {
     let mut path = Seq::empty(alloc);
     for part in text.split('/') {
-        path.push(elem_of(alloc, part)?)?;
+        path.push(elem_of(rt, alloc, part)).expect(rt, "memory");
     }
-    Ok(path)
+    path
 }
 
 /// A number behind `#`, a list without values for `&`, and else a text.
-fn value_of(alloc: Global, text: &str) -> Result<Value, Fail> {
+fn value_of(rt: &impl Abort, alloc: Global, text: &str) -> Value {
     if text == "&" {
-        return Ok(Value::List(Seq::empty(alloc)));
+        return Value::List(Seq::empty(alloc));
     }
     match text.split_once('#') {
-        Some((_, digits)) => Ok(Value::Uint(digits.parse()?)),
-        None => Ok(Value::Text(text_of(alloc, text)?)),
+        Some((_, digits)) => Value::Uint(digits.parse().expect(rt, "a number")),
+        None => Value::Text(text_of(rt, alloc, text)),
     }
 }
 
-fn rows_of(alloc: Global, line: &str) -> Result<Rows, Fail> {
+fn rows_of(rt: &impl Abort, alloc: Global, line: &str) -> Rows {
     let mut rows = Seq::empty(alloc);
     for word in line.split_whitespace() {
-        let (path, value) = word.split_once('=').ok_or("a value")?;
+        let (path, value) = word.split_once('=').ok_or("a value").expect(rt, "memory");
         rows.push(Row {
-            path: path_of(alloc, path)?,
-            value: value_of(alloc, value)?,
-        })?;
+            path: path_of(rt, alloc, path),
+            value: value_of(rt, alloc, value),
+        })
+        .expect(rt, "memory");
     }
-    Ok(rows)
-}
-
-/// Whether each row's path is above that of the row before it.
-fn are_rising(rows: &[Row]) -> bool
-    ensures { result ≡ rises row_cmp rows.now }
-{
-    let Some((row, others)) = rows.split_first() else {
-        return true;
-    };
-    let Some((other, _)) = others.split_first() else {
-        return true;
-    };
-    row.path.cmp(&other.path).is_lt() && are_rising(others)
+    rows
 }
 
 #[test]
-fn keys_have_their_leaves(rt: HostRuntime) -> Result<(), Fail> {
+fn keys_have_their_leaves(rt: HostRuntime) {
     let alloc = rt.alloc();
-    rising_is_tested();
-    for (line, wanted) in KEYED {
-        let rows = rows_of(alloc, line)?;
+    for (line, wanted) in KEYED.iter().copied() {
+        let rows = rows_of(&rt, alloc, line);
         assert!(rt; are_rising(rows.items()), "{line}");
-        let found = all_keyed(alloc, rows.items())?;
+        let found = all_keyed(alloc, rows.items()).expect(&rt, "memory");
         assert_eq!(rt; found, wanted, "{line}");
     }
-    Ok(())
 }
 
 #[test]
-fn mandatory_leaves_stand(rt: HostRuntime) -> Result<(), Fail> {
+fn mandatory_leaves_stand(rt: HostRuntime) {
     let alloc = rt.alloc();
-    rising_is_tested();
-    let schema = schema_of(&rt, alloc, &NODES)?;
-    for (line, wanted) in STANDING {
-        let rows = rows_of(alloc, line)?;
+    let schema = schema_of(&rt, alloc, &NODES);
+    for (line, wanted) in STANDING.iter().copied() {
+        let rows = rows_of(&rt, alloc, line);
         assert!(rt; are_rising(rows.items()), "{line}");
-        let found = all_stand(alloc, &schema, rows.items())?;
+        let found = all_stand(alloc, &schema, rows.items()).expect(&rt, "memory");
         assert_eq!(rt; found, wanted, "{line}");
     }
-    Ok(())
 }
 
 #[test]
-fn a_mandatory_leaf_of_the_root_stands_in_every_tree_with_rows(
-    rt: HostRuntime,
-) -> Result<(), Fail> {
+fn a_mandatory_leaf_of_the_root_stands_in_every_tree_with_rows(rt: HostRuntime) {
     let alloc = rt.alloc();
-    rising_is_tested();
     let schema = schema_of(
         &rt,
         alloc,
         &[("host", "mandatory", ""), ("motd", "leaf", "")],
-    )?;
+    );
     for (line, wanted) in [
         ("", true),
         ("host=x", true),
         ("motd=x", false),
         ("host=x motd=x", true),
-    ] {
-        let rows = rows_of(alloc, line)?;
+    ]
+    .iter()
+    .copied()
+    {
+        let rows = rows_of(&rt, alloc, line);
         assert!(rt; are_rising(rows.items()), "{line}");
-        let found = all_stand(alloc, &schema, rows.items())?;
+        let found = all_stand(alloc, &schema, rows.items()).expect(&rt, "memory");
         assert_eq!(rt; found, wanted, "{line}");
     }
-    Ok(())
 }
 
 #[test]
-fn references_have_a_row_of_their_value(rt: HostRuntime) -> Result<(), Fail> {
+fn references_have_a_row_of_their_value(rt: HostRuntime) {
     let alloc = rt.alloc();
-    let schema = schema_of(&rt, alloc, &NODES)?;
-    for (line, wanted) in REFERRING {
-        let rows = rows_of(alloc, line)?;
-        let found = all_refer(alloc, &schema, rows.items())?;
+    let schema = schema_of(&rt, alloc, &NODES);
+    for (line, wanted) in REFERRING.iter().copied() {
+        let rows = rows_of(&rt, alloc, line);
+        let found = all_refer(alloc, &schema, rows.items()).expect(&rt, "memory");
         assert_eq!(rt; found, wanted, "{line}");
     }
-    Ok(())
 }
 
 /// Three leaves below each of a hundred entries of a list, each with a number of its own.
-fn many_rows(alloc: Global) -> Result<Rows, Fail> {
+fn many_rows(rt: &impl Abort, alloc: Global) -> Rows {
     let mut rows = Seq::empty(alloc);
     for number in 0..300u64 {
         let name = ["a", "c", "e"][(number % 3) as usize];
-        let path = format!(in alloc; "l[k:{}]/{name}", 100 + number / 3)?;
+        let path = format!(in alloc; "l[k:{}]/{name}", 100 + number / 3).expect(rt, "memory");
         rows.push(Row {
-            path: path_of(alloc, path.as_str())?,
+            path: path_of(rt, alloc, path.as_str()),
             value: Value::Uint(number),
-        })?;
+        })
+        .expect(rt, "memory");
     }
-    Ok(rows)
+    rows
 }
 
 /// Whether the leaf that is found is the one that a scan finds.
-fn is_as_scanned(alloc: Global, rows: &[Row], key: u64, name: &str) -> Result<bool, Fail>
+fn is_as_scanned(rt: &impl Abort, alloc: Global, rows: &[Row], key: u64, name: &str) -> bool
     requires { IsRising rows.now }
 {
-    let instance = format!(in alloc; "l[k:{key}]")?;
-    let instance = path_of(alloc, instance.as_str())?;
-    let mut path = instance.copy(alloc)?;
-    path.push(elem_of(alloc, name)?)?;
+    let instance = format!(in alloc; "l[k:{key}]").expect(rt, "memory");
+    let instance = path_of(rt, alloc, instance.as_str());
+    let mut path = instance.copy(alloc).expect(rt, "memory");
+    path.push(elem_of(rt, alloc, name)).expect(rt, "memory");
     let found = find_leaf(rows, instance.items(), name.as_bytes());
     for row in rows {
         if row.path.cmp(&path) == Ordering::Equal {
-            return Ok(found.is_some_and(|other| other.value == row.value));
+            return found.is_some_and(|other| other.value == row.value);
         }
     }
-    Ok(found.is_none())
+    found.is_none()
 }
 
 #[test]
-fn a_leaf_is_found_among_many_rows(rt: HostRuntime) -> Result<(), Fail> {
+fn a_leaf_is_found_among_many_rows(rt: HostRuntime) {
     let alloc = rt.alloc();
-    rising_is_tested();
-    let rows = many_rows(alloc)?;
+    let rows = many_rows(&rt, alloc);
     assert!(rt; are_rising(rows.items()));
     for key in 99..201u64 {
         for name in ["", "a", "b", "c", "d", "e", "f"] {
-            let is = is_as_scanned(alloc, rows.items(), key, name)?;
+            let is = is_as_scanned(&rt, alloc, rows.items(), key, name);
             assert!(rt; is, "{key} {name}");
         }
     }
-    Ok(())
 }

@@ -1,39 +1,41 @@
-use crate::resolve;
+use crate::builders::{octets_of, path_of, schema_of, text_of};
 use base_kinds::{
     Act, Action, Ask, Bytes, Change, Changes, Elem, Given, Keys, Op, Path, Paths, Refusal, Row,
-    SetAsk, Shape, Span, Text, Texts, Value, Values,
+    SetAsk, Span, Text, Value, Values,
 };
-use path_core::{read_path_text, write_path_text};
-use schema_core::{MOST_NODES, Node, Schema};
+use path_core::write_path_text;
+use schema_core::Schema;
+use set_txn::resolve;
 use std::alloc::Global;
 use std::process::Abort;
 use value_core::value_text;
 
-/// The names and the sort or the shape of each node.
-const EXAMPLE: [(&str, &str); 22] = [
-    ("system", "container"),
-    ("system hostname", "string"),
-    ("system state", "enum"),
-    ("interfaces", "container"),
-    ("interfaces interface", "list name"),
-    ("interfaces interface name", "string"),
-    ("interfaces interface mtu", "uint16"),
-    ("lab", "container"),
-    ("lab on", "bool"),
-    ("lab low", "int8"),
-    ("lab big", "int64"),
-    ("lab count", "uint64"),
-    ("lab rate", "dec2"),
-    ("lab blob", "binary"),
-    ("lab tag", "list-string"),
-    ("lab port", "list-uint16"),
-    ("lab up", "list-enum"),
-    ("lab route", "list port id"),
-    ("lab route port", "uint16"),
-    ("lab route id", "dec2"),
-    ("lab route key", "binary"),
-    ("lab route next", "container"),
-];
+/// Leaves of each shape, leaf-lists, and lists with one key and with two.
+const SCHEMA: &str = "\
+module m\n\
+container /system\n\
+leaf /system/hostname string\n\
+leaf /system/state enum(UP|DOWN)\n\
+container /interfaces\n\
+list /interfaces/interface name\n\
+leaf /interfaces/interface/name string\n\
+leaf /interfaces/interface/mtu uint16\n\
+container /lab\n\
+leaf /lab/on bool\n\
+leaf /lab/low int8\n\
+leaf /lab/big int64\n\
+leaf /lab/count uint64\n\
+leaf /lab/rate dec2\n\
+leaf /lab/blob binary\n\
+leaf-list /lab/tag string\n\
+leaf-list /lab/port uint16\n\
+leaf-list /lab/up enum(UP|DOWN)\n\
+list /lab/route port,id\n\
+leaf /lab/route/port uint16\n\
+leaf /lab/route/id dec2\n\
+leaf /lab/route/key binary\n\
+container /lab/route/next\n\
+";
 
 /// A value of a request in a table: JSON, a scalar, or none where it is missing or the operation is a delete.
 #[derive(Clone, Copy)]
@@ -56,7 +58,7 @@ enum Sent {
 }
 
 /// Requests, each with a prefix and operations, and what becomes of them.
-const OPERATIONS: [(&str, &[(&str, &str, Sent)], &str); 12] = [
+const OPERATIONS: &[(&str, &[(&str, &str, Sent)], &str)] = &[
     ("/", &[], "apply"),
     (
         "/",
@@ -125,7 +127,7 @@ const OPERATIONS: [(&str, &[(&str, &str, Sent)], &str); 12] = [
 ];
 
 /// Paths and values, and the refusal of an update.
-const REFUSED: [(&str, Sent, &str); 33] = [
+const REFUSED: &[(&str, Sent, &str)] = &[
     ("/*", Sent::Bool(true), "refused 5"),
     ("/...", Sent::Bool(true), "refused 5"),
     ("/none/*", Sent::Nothing, "refused 5"),
@@ -202,7 +204,7 @@ const REFUSED: [(&str, Sent, &str); 33] = [
 ];
 
 /// Leaves, scalars, and the texts of their values, which are empty where they are refused.
-const SCALARS: [(&str, Sent, &str); 42] = [
+const SCALARS: &[(&str, Sent, &str)] = &[
     ("/lab/on", Sent::Bool(false), "false"),
     ("/lab/on", Sent::Text("true"), ""),
     ("/lab/on", Sent::Uint(1), ""),
@@ -256,7 +258,7 @@ const SCALARS: [(&str, Sent, &str); 42] = [
 ];
 
 /// Prefixes, paths and JSON texts, and what becomes of an update.
-const JSON: [(&str, &str, &str, &str); 12] = [
+const JSON: &[(&str, &str, &str, &str)] = &[
     (
         "/system",
         "/",
@@ -312,70 +314,6 @@ const JSON: [(&str, &str, &str, &str); 12] = [
     ("/system", "/", "{", "refused 7"),
 ];
 
-fn text_of(rt: &impl Abort, alloc: Global, word: &str) -> Text {
-    Text::of(alloc, word.as_bytes()).expect(rt, "a text")
-}
-
-fn texts_of(rt: &impl Abort, alloc: Global, line: &str) -> Texts {
-    let mut texts = Texts::empty(alloc);
-    for word in line.split_whitespace() {
-        texts.push(text_of(rt, alloc, word)).expect(rt, "memory");
-    }
-    texts
-}
-
-fn shape_of(rt: &impl Abort, alloc: Global, word: &str) -> Shape {
-    match word {
-        "bool" => Shape::Bool,
-        "int8" => Shape::Int(8),
-        "int64" => Shape::Int(64),
-        "uint16" => Shape::Uint(16),
-        "uint64" => Shape::Uint(64),
-        "dec2" => Shape::Dec(2),
-        "binary" => Shape::Bin,
-        "enum" => Shape::Enum(texts_of(rt, alloc, "UP DOWN")),
-        _ => Shape::Text,
-    }
-}
-
-fn node_of(rt: &impl Abort, alloc: Global, line: &str, word: &str) -> Node {
-    let module = text_of(rt, alloc, "m");
-    let names = texts_of(rt, alloc, line);
-    if word == "container" {
-        return Node::container(alloc, module, names);
-    }
-    if let Some(keys) = word.strip_prefix("list ") {
-        return Node::list(module, names, texts_of(rt, alloc, keys), None);
-    }
-    match word.strip_prefix("list-") {
-        Some(values) => {
-            let shape = shape_of(rt, alloc, values);
-            Node::leaf_list(alloc, module, names, shape, None)
-        }
-        None => {
-            let shape = shape_of(rt, alloc, word);
-            Node::leaf(alloc, module, names, shape, false, None)
-        }
-    }
-}
-
-fn example(rt: &impl Abort, alloc: Global) -> Schema {
-    let mut schema = Schema::empty(alloc);
-    for (line, word) in EXAMPLE {
-        let node = node_of(rt, alloc, line, word);
-        let is_room = schema.nodes() < MOST_NODES;
-        let has_parent = schema.has_parent(node.names().items());
-        let found = schema.find_names(node.names().items());
-        assert!(rt; is_room && has_parent && found.is_none(), "a place");
-        schema.add(node).expect(rt, "memory");
-    }
-    schema
-}
-
-fn path_of(rt: &impl Abort, alloc: Global, text: &str) -> Path {
-    read_path_text(alloc, text.as_bytes()).expect(rt, "a path")
-}
-
 fn words(rt: &impl Abort, alloc: Global, count: u32, last: u32) -> Value {
     let mut values = Values::empty(alloc);
     for place in 0..count {
@@ -420,12 +358,6 @@ fn value_of(rt: &impl Abort, alloc: Global, put: Sent) -> Value {
             Value::List(values)
         }
     }
-}
-
-fn octets_of(rt: &impl Abort, alloc: Global, octets: &[u8]) -> Bytes {
-    let mut list = Bytes::empty(alloc);
-    list.extend_from_slice(octets).expect(rt, "memory");
-    list
 }
 
 fn nothing(rt: &impl Abort, alloc: Global) -> SetAsk {
@@ -565,7 +497,7 @@ fn assert_request(
     lines: &[(&str, &str, Sent)],
     expected: &str,
 ) {
-    let schema = example(rt, alloc);
+    let schema = schema_of(rt, alloc, SCHEMA);
     let ask = request(rt, alloc, prefix, lines);
     assert_answer(rt, alloc, &schema, &ask, expected);
 }
@@ -578,7 +510,7 @@ fn assert_update(rt: &impl Abort, alloc: Global, path: &str, sent: Sent, expecte
 #[test]
 fn operations_have_their_rows_and_key_leaves(rt: HostRuntime) {
     let alloc = rt.alloc();
-    for (prefix, lines, expected) in OPERATIONS {
+    for (prefix, lines, expected) in OPERATIONS.iter().copied() {
         assert_request(&rt, alloc, prefix, lines, expected);
     }
 }
@@ -603,7 +535,7 @@ fn assert_json(
 #[test]
 fn json_gives_rows_and_its_entries_key_leaves(rt: HostRuntime) {
     let alloc = rt.alloc();
-    for (prefix, path, json, expected) in JSON {
+    for (prefix, path, json, expected) in JSON.iter().copied() {
         assert_json(&rt, alloc, prefix, path, json, expected);
     }
 }
@@ -611,7 +543,7 @@ fn json_gives_rows_and_its_entries_key_leaves(rt: HostRuntime) {
 #[test]
 fn an_update_is_refused_by_its_first_cause(rt: HostRuntime) {
     let alloc = rt.alloc();
-    for (path, sent, expected) in REFUSED {
+    for (path, sent, expected) in REFUSED.iter().copied() {
         assert_update(&rt, alloc, path, sent, expected);
     }
 }
@@ -629,7 +561,7 @@ fn assert_scalar(rt: &impl Abort, alloc: Global, path: &str, sent: Sent, value: 
 #[test]
 fn a_scalar_stands_for_a_value_of_its_leaf(rt: HostRuntime) {
     let alloc = rt.alloc();
-    for (path, sent, value) in SCALARS {
+    for (path, sent, value) in SCALARS.iter().copied() {
         assert_scalar(&rt, alloc, path, sent, value);
     }
 }
@@ -637,7 +569,7 @@ fn a_scalar_stands_for_a_value_of_its_leaf(rt: HostRuntime) {
 #[test]
 fn of_many_scalars_no_two_are_equal(rt: HostRuntime) {
     let alloc = rt.alloc();
-    let schema = example(&rt, alloc);
+    let schema = schema_of(&rt, alloc, SCHEMA);
     let table = [
         (16, 15, true),
         (16, 0, false),
@@ -646,7 +578,7 @@ fn of_many_scalars_no_two_are_equal(rt: HostRuntime) {
         (300, 299, true),
         (300, 0, false),
     ];
-    for (count, last, is_taken) in table {
+    for (count, last, is_taken) in table.iter().copied() {
         let lines = [("update", "/lab/tag", Sent::Words(count, last))];
         let ask = request(&rt, alloc, "/", &lines);
         let is_ok = resolve(alloc, &schema, &ask).is_ok();
@@ -673,7 +605,7 @@ fn acting(rt: &impl Abort, alloc: Global, lines: &[(&str, &str, Sent)], action: 
 }
 
 /// Spans, and their nanoseconds, which are 0 where they are refused.
-const SPANS: [(Span, u64); 16] = [
+const SPANS: &[(Span, u64)] = &[
     (Span::Absent, 600_000_000_000),
     (Span::Of(1, 0), 1_000_000_000),
     (Span::Of(0, 999_999_999), 0),
@@ -705,8 +637,8 @@ fn duration_text(rt: &impl Abort, alloc: Global, word: &str, nanos: u64) -> Byte
 #[test]
 fn durations_have_bounds(rt: HostRuntime) {
     let alloc = rt.alloc();
-    let schema = example(&rt, alloc);
-    for (span, nanos) in SPANS {
+    let schema = schema_of(&rt, alloc, SCHEMA);
+    for (span, nanos) in SPANS.iter().copied() {
         for word in ["trial", "extend"] {
             let action = action_of(word, text_of(&rt, alloc, "t"), span);
             let ask = acting(&rt, alloc, &[], action);
@@ -729,7 +661,7 @@ fn long_text(rt: &impl Abort, alloc: Global, length: usize) -> Text {
 #[test]
 fn ids_have_1_to_64_octets(rt: HostRuntime) {
     let alloc = rt.alloc();
-    let schema = example(&rt, alloc);
+    let schema = schema_of(&rt, alloc, SCHEMA);
     for (length, is_taken) in [(0, false), (1, true), (64, true), (65, false)] {
         for word in ["trial", "confirm", "cancel", "extend"] {
             let id = long_text(&rt, alloc, length);
@@ -742,7 +674,7 @@ fn ids_have_1_to_64_octets(rt: HostRuntime) {
 }
 
 /// Whether something isn't supported, the action, its id, its span, the path of an update, and what becomes of the request.
-const CAUSES: [(bool, &str, &str, Span, &str, &str); 6] = [
+const CAUSES: &[(bool, &str, &str, Span, &str, &str)] = &[
     (true, "extend", "", Span::Of(0, 0), "/none", "refused 9"),
     (false, "extend", "", Span::Of(0, 0), "/none", "refused 14"),
     (false, "trial", "", Span::Of(0, 0), "/none", "refused 15"),
@@ -761,8 +693,8 @@ const CAUSES: [(bool, &str, &str, Span, &str, &str); 6] = [
 #[test]
 fn the_first_cause_of_a_request_decides(rt: HostRuntime) {
     let alloc = rt.alloc();
-    let schema = example(&rt, alloc);
-    for (unsupported, word, id, span, path, expected) in CAUSES {
+    let schema = schema_of(&rt, alloc, SCHEMA);
+    for (unsupported, word, id, span, path, expected) in CAUSES.iter().copied() {
         let lines = [("update", path, Sent::Bool(true))];
         let action = action_of(word, text_of(&rt, alloc, id), span);
         let mut ask = acting(&rt, alloc, &lines, action);
@@ -772,7 +704,7 @@ fn the_first_cause_of_a_request_decides(rt: HostRuntime) {
 }
 
 /// Actions, and how what becomes of them beside an operation begins.
-const ACTIONS: [(&str, &str); 6] = [
+const ACTIONS: &[(&str, &str)] = &[
     ("plain", "apply; "),
     ("trial", "trial t 600000000000; "),
     ("confirm", "refused 14"),
@@ -784,8 +716,8 @@ const ACTIONS: [(&str, &str); 6] = [
 #[test]
 fn an_action_without_operations_is_mixed_with_any(rt: HostRuntime) {
     let alloc = rt.alloc();
-    let schema = example(&rt, alloc);
-    for (word, expected) in ACTIONS {
+    let schema = schema_of(&rt, alloc, SCHEMA);
+    for (word, expected) in ACTIONS.iter().copied() {
         for act in ["delete", "replace", "update"] {
             let action = action_of(word, text_of(&rt, alloc, "t"), Span::Absent);
             let lines = [(act, "/lab/on", Sent::Bool(true))];
@@ -811,7 +743,7 @@ fn long_path(rt: &impl Abort, alloc: Global, name: &str, length: usize) -> Path 
 #[test]
 fn a_path_has_at_most_32_named_elements(rt: HostRuntime) {
     let alloc = rt.alloc();
-    let schema = example(&rt, alloc);
+    let schema = schema_of(&rt, alloc, SCHEMA);
     let table = [
         ("a", 0, 0, true),
         ("a", 16, 16, true),
@@ -821,7 +753,7 @@ fn a_path_has_at_most_32_named_elements(rt: HostRuntime) {
         ("", 0, 1, false),
         ("", 1, 0, false),
     ];
-    for (name, above, below, is_taken) in table {
+    for (name, above, below, is_taken) in table.iter().copied() {
         let mut ask = nothing(&rt, alloc);
         ask.prefix = long_path(&rt, alloc, name, above);
         let path = long_path(&rt, alloc, name, below);
@@ -848,7 +780,7 @@ fn keyed_path(rt: &impl Abort, alloc: Global, one: &str, other: &str) -> Path {
 #[test]
 fn keys_rise_by_name(rt: HostRuntime) {
     let alloc = rt.alloc();
-    let schema = example(&rt, alloc);
+    let schema = schema_of(&rt, alloc, SCHEMA);
     for (one, other, is_taken) in [("a", "b", true), ("b", "a", false), ("a", "a", false)] {
         let mut ask = nothing(&rt, alloc);
         let path = keyed_path(&rt, alloc, one, other);

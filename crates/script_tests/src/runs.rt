@@ -1,11 +1,12 @@
 ghost use Rattle.std.specs.Prelude.{Some, None};
 
-use crate::{Host, Kit, MemFiles, RunEnd, run};
+use crate::examples::{HOSTNAME, HOSTNAME_PRINTED, SCHEMA};
 use base_lists::{Bytes, Text, Texts};
 use edge_traits::{Failed, MemSink, MemSource, Sink, Source};
 use std::alloc::Global;
 use std::process::Abort;
 use std::test::Fail;
+use target_top::{Host, Kit, MemFiles, RunEnd, run};
 
 /// A source that gives one octet at a time.
 #[derive(Drop)]
@@ -198,15 +199,6 @@ fn drip_over<A: Abort>(
     (status, sink)
 }
 
-const HOSTNAME: &str = "at 1000\nupdate /system/config/hostname \"r1\"\nset 1\n";
-
-const HOSTNAME_PRINTED: &str =
-    "ok 1000\nlog\n1 1000 1 apply\n  update /system/config/hostname\n    /system/config/hostname \"r1\"\n";
-
-/// A schema of three modules and 17 nodes.
-const SCHEMA: &str =
-    "module openconfig-system\ncontainer /system\ncontainer /system/config\nleaf /system/config/hostname string\nleaf /system/config/motd string\nmodule openconfig-interfaces\ncontainer /interfaces\nlist /interfaces/interface name\nleaf /interfaces/interface/name string\ncontainer /interfaces/interface/config\nleaf /interfaces/interface/config/mtu uint16\nleaf /interfaces/interface/config/description string\nleaf /interfaces/interface/config/enabled bool\nmodule lab\ncontainer /lab\nleaf /lab/big uint64\nleaf /lab/rate dec2\nleaf /lab/blob binary\nleaf-list /lab/tags string\nleaf /lab/via string ref /interfaces/interface/name\n";
-
 #[test]
 fn a_script_runs_under_its_schema_and_limits(rt: HostRuntime) -> Result<(), Fail> {
     let alloc = rt.alloc();
@@ -221,7 +213,7 @@ fn a_script_runs_under_its_schema_and_limits(rt: HostRuntime) -> Result<(), Fail
             0,
         ),
     ];
-    for (words, script, printed, status) in table {
+    for (words, script, printed, status) in table.iter().copied() {
         let (ended, output) = run_over(&rt, alloc, words, SCHEMA, script.as_bytes(), &[]);
         assert_eq!(rt; output.octets(), printed.as_bytes(), "of {script}");
         assert_eq!(rt; ended, status, "of {script}");
@@ -243,29 +235,31 @@ fn a_script_runs_under_its_schema_and_limits(rt: HostRuntime) -> Result<(), Fail
     Ok(())
 }
 
+const BAD_WORDS: &[&str] = &[
+    "",
+    "script",
+    "scripts S",
+    "Script S",
+    "script S x",
+    "script S 2",
+    "script S 2 4096 1",
+    "script S 1 4096",
+    "script S 2 4095",
+    "script S 65537 4096",
+    "script S 2 268435457",
+    "script S 02 4096",
+    "script S 2 +4096",
+    "script S 4294967298 4096",
+    "log",
+    "check",
+    "check a b",
+    "checks a",
+];
+
 #[test]
 fn other_words_are_refused(rt: HostRuntime) -> Result<(), Fail> {
     let alloc = rt.alloc();
-    for words in [
-        "",
-        "script",
-        "scripts S",
-        "Script S",
-        "script S x",
-        "script S 2",
-        "script S 2 4096 1",
-        "script S 1 4096",
-        "script S 2 4095",
-        "script S 65537 4096",
-        "script S 2 268435457",
-        "script S 02 4096",
-        "script S 2 +4096",
-        "script S 4294967298 4096",
-        "log",
-        "check",
-        "check a b",
-        "checks a",
-    ] {
+    for words in BAD_WORDS.iter().copied() {
         let (ended, output) = run_over(&rt, alloc, words, SCHEMA, b"set 1\n", &[]);
         assert_eq!(rt; output.octets(), b"bad words\n".as_slice(), "{words}");
         assert_eq!(rt; ended, 2, "{words}");
@@ -289,7 +283,7 @@ fn a_schema_is_checked(rt: HostRuntime) -> Result<(), Fail> {
             3,
         ),
     ];
-    for (text, printed, status) in table {
+    for (text, printed, status) in table.iter().copied() {
         let text_octets = Some(text.as_bytes());
         let (ended, output, texts, reads) = fails_over(&rt, alloc, "check S", text_octets, &[]);
         assert_eq!(rt; output.octets(), printed.as_bytes(), "of {text}");
@@ -313,7 +307,7 @@ fn a_script_is_read_only_under_a_schema(rt: HostRuntime) -> Result<(), Fail> {
         (no_schema, "schema line 2: no parent\n", 3, 0, 0),
         (Some(SCHEMA.as_bytes()), "input fault\n", 6, 0, 1),
     ];
-    for (text, printed, status, text_faults, read_faults) in table {
+    for (text, printed, status, text_faults, read_faults) in table.iter().copied() {
         let (ended, output, texts, reads) = fails_over(&rt, alloc, "script S", text, &[]);
         assert_eq!(rt; output.octets(), printed.as_bytes());
         assert_eq!(rt; (ended, texts, reads), (status, text_faults, read_faults));

@@ -1,37 +1,38 @@
-use crate::{CheckFault, are_rising, check};
-use base_kinds::{Bytes, Row, Rows, Shape, Text, Texts, Value, Values};
-use path_core::read_path_text;
-use schema_core::{MOST_NODES, Node, Schema};
+use crate::builders::{path_of, schema_of, text_of};
+use base_kinds::{Bytes, Row, Rows, Value, Values};
+use schema_core::Schema;
 use std::alloc::Global;
 use std::process::Abort;
 use std::test::Fail;
+use tree_check::{CheckFault, are_rising, check};
 
-/// The names of each node, its sort or its shape, and the keys, the leaf that it refers to, or the maximum.
-const NODES: [(&str, &str, &str, Option<u32>); 20] = [
-    ("host", "container", "", None),
-    ("host blob", "binary", "", None),
-    ("host mtu", "uint16", "", None),
-    ("host name", "mandatory", "", None),
-    ("host on", "bool", "", None),
-    ("links", "container", "", None),
-    ("links link", "list", "a b", None),
-    ("links link a", "text", "", None),
-    ("links link b", "text", "", None),
-    ("ports", "container", "", None),
-    ("ports port", "list", "name", Some(2)),
-    ("ports port name", "text", "", None),
-    ("ports port speed", "uint8", "", None),
-    ("ports port tags", "leaf-list", "", Some(3)),
-    ("ports port vlan", "list", "id", Some(1)),
-    ("ports port vlan id", "uint16", "", None),
-    ("ports port vlan label", "mandatory", "", None),
-    ("words", "leaf-list", "", None),
-    ("uplink", "reference", "ports port name", None),
-    ("version", "uint8", "", None),
-];
+/// Keys, mandatory leaves, a reference, and maxima of a list, of a list below it and of a leaf-list.
+const SCHEMA: &str = "\
+module m\n\
+container /host\n\
+leaf /host/blob binary\n\
+leaf /host/mtu uint16\n\
+leaf /host/name string mandatory\n\
+leaf /host/on bool\n\
+container /links\n\
+list /links/link a,b\n\
+leaf /links/link/a string\n\
+leaf /links/link/b string\n\
+container /ports\n\
+list /ports/port name max 2\n\
+leaf /ports/port/name string\n\
+leaf /ports/port/speed uint8\n\
+leaf-list /ports/port/tags string max 3\n\
+list /ports/port/vlan id max 1\n\
+leaf /ports/port/vlan/id uint16\n\
+leaf /ports/port/vlan/label string mandatory\n\
+leaf-list /words string\n\
+leaf /uplink string ref /ports/port/name\n\
+leaf /version uint8\n\
+";
 
 /// Trees that are valid and small enough, a row in each line: its path and its value.
-const TAKEN: [&str; 12] = [
+const TAKEN: &[&str] = &[
     "",
     "/version 255",
     "/host/name r1",
@@ -47,7 +48,7 @@ const TAKEN: [&str; 12] = [
 ];
 
 /// Trees that break one rule each.
-const REFUSED: [(&str, &str); 34] = [
+const REFUSED: &[(&str, &str)] = &[
     ("no node", "/nothing x"),
     ("no node below a leaf", "/version/x 1"),
     ("the root", "/ x"),
@@ -117,63 +118,6 @@ const REFUSED: [(&str, &str); 34] = [
     ),
 ];
 
-fn text_of(rt: &impl Abort, alloc: Global, word: &str) -> Text {
-    Text::of(alloc, word.as_bytes()).expect(rt, "a text")
-}
-
-fn texts_of(rt: &impl Abort, alloc: Global, line: &str) -> Texts {
-    let mut texts = Texts::empty(alloc);
-    for word in line.split_whitespace() {
-        texts.push(text_of(rt, alloc, word)).expect(rt, "memory");
-    }
-    texts
-}
-
-fn node_of(
-    rt: &impl Abort,
-    alloc: Global,
-    line: &str,
-    word: &str,
-    more: &str,
-    maximum: Option<u32>,
-) -> Node {
-    let module = text_of(rt, alloc, "m");
-    let names = texts_of(rt, alloc, line);
-    let others = texts_of(rt, alloc, more);
-    match word {
-        "container" => Node::container(alloc, module, names),
-        "list" => Node::list(module, names, others, maximum),
-        "leaf-list" => Node::leaf_list(alloc, module, names, Shape::Text, maximum),
-        "reference" => Node::leaf(alloc, module, names, Shape::Text, false, Some(others)),
-        "mandatory" => Node::leaf(alloc, module, names, Shape::Text, true, None),
-        "binary" => Node::leaf(alloc, module, names, Shape::Bin, false, None),
-        "bool" => Node::leaf(alloc, module, names, Shape::Bool, false, None),
-        "uint8" => Node::leaf(alloc, module, names, Shape::Uint(8), false, None),
-        "uint16" => Node::leaf(alloc, module, names, Shape::Uint(16), false, None),
-        _ => Node::leaf(alloc, module, names, Shape::Text, false, None),
-    }
-}
-
-fn put(rt: &impl Abort, schema: &mut Schema, node: Node) {
-    let is_room = schema.nodes() < MOST_NODES;
-    let has_parent = schema.has_parent(node.names().items());
-    let found = schema.find_names(node.names().items());
-    assert!(rt; is_room && has_parent && found.is_none(), "a place");
-    schema.add(node).expect(rt, "memory");
-}
-
-fn example(rt: &impl Abort, alloc: Global) -> Schema {
-    let mut schema = Schema::empty(alloc);
-    for (line, word, more, maximum) in NODES {
-        put(
-            rt,
-            &mut schema,
-            node_of(rt, alloc, line, word, more, maximum),
-        );
-    }
-    schema
-}
-
 fn scalar_of(rt: &impl Abort, alloc: Global, word: &str) -> Value {
     match (word, word.parse::<u64>()) {
         ("true", _) => Value::Bool(true),
@@ -200,7 +144,7 @@ fn rows_of(rt: &impl Abort, alloc: Global, lines: &str) -> Rows {
     let mut rows = Rows::empty(alloc);
     for line in lines.split(';') {
         if let Some((path, word)) = line.split_once(' ') {
-            let path = read_path_text(alloc, path.as_bytes()).expect(rt, "a path");
+            let path = path_of(rt, alloc, path);
             let value = value_of(rt, alloc, word);
             rows.push(Row { path, value }).expect(rt, "memory");
         }
@@ -223,8 +167,8 @@ fn answer(
 #[test]
 fn each_rule_is_kept(rt: HostRuntime) {
     let alloc = rt.alloc();
-    let schema = example(&rt, alloc);
-    for lines in TAKEN {
+    let schema = schema_of(&rt, alloc, SCHEMA);
+    for lines in TAKEN.iter().copied() {
         let rows = rows_of(&rt, alloc, lines);
         assert_eq!(rt;
             answer(&rt, alloc, &schema, &rows, lines),
@@ -237,8 +181,8 @@ fn each_rule_is_kept(rt: HostRuntime) {
 #[test]
 fn each_rule_is_broken_alone(rt: HostRuntime) {
     let alloc = rt.alloc();
-    let schema = example(&rt, alloc);
-    for (what, lines) in REFUSED {
+    let schema = schema_of(&rt, alloc, SCHEMA);
+    for (what, lines) in REFUSED.iter().copied() {
         let rows = rows_of(&rt, alloc, lines);
         assert_eq!(rt;
             answer(&rt, alloc, &schema, &rows, lines),
@@ -256,10 +200,10 @@ fn heavy(rt: &impl Abort, alloc: Global, octets: usize, name: Value) -> Rows {
         blob.push(0).expect(rt, "memory");
     }
     let mut rows = Rows::empty(alloc);
-    let path = read_path_text(alloc, b"/host/blob").expect(rt, "a path");
+    let path = path_of(rt, alloc, "/host/blob");
     let value = Value::Bin(blob);
     rows.push(Row { path, value }).expect(rt, "memory");
-    let path = read_path_text(alloc, b"/host/name").expect(rt, "a path");
+    let path = path_of(rt, alloc, "/host/name");
     rows.push(Row { path, value: name }).expect(rt, "memory");
     rows
 }
@@ -267,13 +211,13 @@ fn heavy(rt: &impl Abort, alloc: Global, octets: usize, name: Value) -> Rows {
 #[test]
 fn a_tree_is_full_where_it_is_valid_and_too_heavy(rt: HostRuntime) {
     let alloc = rt.alloc();
-    let schema = example(&rt, alloc);
+    let schema = schema_of(&rt, alloc, SCHEMA);
     let table = [
         (949_891, true, Ok(())),
         (949_892, true, Err(CheckFault::TreeFull)),
         (949_892, false, Err(CheckFault::TreeInvalid)),
     ];
-    for (octets, is_valid, wanted) in table {
+    for (octets, is_valid, wanted) in table.iter().copied() {
         let name = if is_valid {
             Value::Text(text_of(&rt, alloc, ""))
         } else {
@@ -298,7 +242,7 @@ fn words(rt: &impl Abort, alloc: Global, count: u32, is_twice: bool) -> Rows {
         values.push(value).expect(rt, "memory");
     }
     let mut rows = Rows::empty(alloc);
-    let path = read_path_text(alloc, b"/words").expect(rt, "a path");
+    let path = path_of(rt, alloc, "/words");
     let value = Value::List(values);
     rows.push(Row { path, value }).expect(rt, "memory");
     rows
@@ -307,7 +251,7 @@ fn words(rt: &impl Abort, alloc: Global, count: u32, is_twice: bool) -> Rows {
 #[test]
 fn of_many_values_no_two_are_equal(rt: HostRuntime) {
     let alloc = rt.alloc();
-    let schema = example(&rt, alloc);
+    let schema = schema_of(&rt, alloc, SCHEMA);
     let table = [
         (16, false, Ok(())),
         (17, false, Ok(())),
@@ -316,7 +260,7 @@ fn of_many_values_no_two_are_equal(rt: HostRuntime) {
         (400, false, Ok(())),
         (400, true, Err(CheckFault::TreeInvalid)),
     ];
-    for (count, is_twice, wanted) in table {
+    for (count, is_twice, wanted) in table.iter().copied() {
         let rows = words(&rt, alloc, count, is_twice);
         assert_eq!(rt;
             answer(&rt, alloc, &schema, &rows, "words"),
@@ -338,7 +282,7 @@ fn rows_rise_one_above_the_other(rt: HostRuntime) {
         ("/b 1;/a 1", false),
         ("/a 1;/c 1;/b 1", false),
     ];
-    for (lines, is_rising) in table {
+    for (lines, is_rising) in table.iter().copied() {
         let rows = rows_of(&rt, alloc, lines);
         assert_eq!(rt; are_rising(rows.items()), is_rising, "{lines}");
     }
@@ -352,7 +296,7 @@ fn faults_print_as_they_are_called(rt: HostRuntime) -> Result<(), Fail> {
         (CheckFault::TreeFull, "tree full"),
         (CheckFault::NoMemory, "no memory"),
     ];
-    for (fault, printed) in table {
+    for (fault, printed) in table.iter().copied() {
         assert_eq!(rt; format!(in alloc; "{fault}")?.as_str(), printed);
     }
     Ok(())

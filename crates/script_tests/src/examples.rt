@@ -1,0 +1,12 @@
+//! The schema and the first Set that sessions and runs are tried with.
+
+/// A first Set of the hostname, at the reading 1000.
+pub const HOSTNAME: &str = "at 1000\nupdate /system/config/hostname \"r1\"\nset 1\n";
+
+/// What it prints.
+pub const HOSTNAME_PRINTED: &str =
+    "ok 1000\nlog\n1 1000 1 apply\n  update /system/config/hostname\n    /system/config/hostname \"r1\"\n";
+
+/// A schema of three modules and 17 nodes.
+pub const SCHEMA: &str =
+    "module openconfig-system\ncontainer /system\ncontainer /system/config\nleaf /system/config/hostname string\nleaf /system/config/motd string\nmodule openconfig-interfaces\ncontainer /interfaces\nlist /interfaces/interface name\nleaf /interfaces/interface/name string\ncontainer /interfaces/interface/config\nleaf /interfaces/interface/config/mtu uint16\nleaf /interfaces/interface/config/description string\nleaf /interfaces/interface/config/enabled bool\nmodule lab\ncontainer /lab\nleaf /lab/big uint64\nleaf /lab/rate dec2\nleaf /lab/blob binary\nleaf-list /lab/tags string\nleaf /lab/via string ref /interfaces/interface/name\n";
