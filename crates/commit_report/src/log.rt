@@ -1,7 +1,8 @@
-ghost use Rattle.std.specs.Prelude.{◌≡◌, ◌++◌, ◌∷◌, [], OnOk};
+ghost use Rattle.std.specs.Prelude.{◌≡◌, ◌++◌, ◌∷◌, [], OnOk, OnErr};
 ghost use Rattle.std.specs.List.{flat_map};
 ghost use Rattle.base_kinds.specs.Tree.{with_act, is_act as same_act};
 ghost use Rattle.commit_report.specs.Logs.{act_text, op_lines, ops_lines, ops_of, kind_text, entry_front, entry_lines, log_text};
+ghost use Rattle.path_core.specs.Writing.{AppendsFront};
 
 use crate::numbers::put_number;
 use crate::rows::put_rows;
@@ -11,7 +12,9 @@ use std::alloc::Global;
 
 /// Adds a line for each entry, followed by a line for each of its operations and of their rows.
 pub fn put_log(alloc: Global, entries: &[Entry], out: &mut Bytes) -> Result<(), NoMemory>
-    ensures { OnOk result (out.new ≡ out.old ++ log_text entries.now) }
+    ensures ok { OnOk result (out.new ≡ out.old ++ log_text entries.now) }
+    // What was added before memory ran out is a front of it.
+    ensures err { OnErr result (AppendsFront out.old out.new (log_text entries.now)) }
 {
     for entry in entries {
         put_entry(alloc, entry, out)?;
@@ -20,7 +23,8 @@ pub fn put_log(alloc: Global, entries: &[Entry], out: &mut Bytes) -> Result<(), 
 }
 
 fn put_entry(alloc: Global, entry: &Entry, out: &mut Bytes) -> Result<(), NoMemory>
-    ensures { OnOk result (out.new ≡ out.old ++ entry_lines entry.now) }
+    ensures ok { OnOk result (out.new ≡ out.old ++ entry_lines entry.now) }
+    ensures err { OnErr result (AppendsFront out.old out.new (entry_lines entry.now)) }
 {
     put_front(alloc, entry, out)?;
     put_kind(alloc, &entry.kind, out)?;
@@ -29,7 +33,8 @@ fn put_entry(alloc: Global, entry: &Entry, out: &mut Bytes) -> Result<(), NoMemo
 }
 
 fn put_front(alloc: Global, entry: &Entry, out: &mut Bytes) -> Result<(), NoMemory>
-    ensures { OnOk result (out.new ≡ out.old ++ entry_front entry.now) }
+    ensures ok { OnOk result (out.new ≡ out.old ++ entry_front entry.now) }
+    ensures err { OnErr result (AppendsFront out.old out.new (entry_front entry.now)) }
 {
     put_number(alloc, entry.number, out)?;
     out.extend_from_slice(b" ")?;
@@ -40,7 +45,8 @@ fn put_front(alloc: Global, entry: &Entry, out: &mut Bytes) -> Result<(), NoMemo
 }
 
 fn put_kind(alloc: Global, kind: &Kind, out: &mut Bytes) -> Result<(), NoMemory>
-    ensures { OnOk result (out.new ≡ out.old ++ kind_text kind.now) }
+    ensures ok { OnOk result (out.new ≡ out.old ++ kind_text kind.now) }
+    ensures err { OnErr result (AppendsFront out.old out.new (kind_text kind.now)) }
 {
     match kind {
         Kind::Apply(_) => out.extend_from_slice(b"apply"),
@@ -72,7 +78,8 @@ fn ops_of(kind: &Kind) -> &[Op]
 }
 
 fn put_ops(alloc: Global, ops: &[Op], out: &mut Bytes) -> Result<(), NoMemory>
-    ensures { OnOk result (out.new ≡ out.old ++ ops_lines ops.now) }
+    ensures ok { OnOk result (out.new ≡ out.old ++ ops_lines ops.now) }
+    ensures err { OnErr result (AppendsFront out.old out.new (ops_lines ops.now)) }
 {
     put_ops_with(alloc, Act::Delete, ops, out)?;
     put_ops_with(alloc, Act::Replace, ops, out)?;
@@ -89,7 +96,8 @@ fn is_act(a: Act, b: Act) -> bool
 }
 
 fn put_ops_with(alloc: Global, act: Act, ops: &[Op], out: &mut Bytes) -> Result<(), NoMemory>
-    ensures { OnOk result (out.new ≡ out.old ++ flat_map op_lines (with_act act ops.now)) }
+    ensures ok { OnOk result (out.new ≡ out.old ++ flat_map op_lines (with_act act ops.now)) }
+    ensures err { OnErr result (AppendsFront out.old out.new (flat_map op_lines (with_act act ops.now))) }
 {
     for op in ops {
         if is_act(act, op.act) {
@@ -100,7 +108,8 @@ fn put_ops_with(alloc: Global, act: Act, ops: &[Op], out: &mut Bytes) -> Result<
 }
 
 fn put_act(act: Act, out: &mut Bytes) -> Result<(), NoMemory>
-    ensures { OnOk result (out.new ≡ out.old ++ act_text act) }
+    ensures ok { OnOk result (out.new ≡ out.old ++ act_text act) }
+    ensures err { OnErr result (AppendsFront out.old out.new (act_text act)) }
 {
     match act {
         Act::Delete => out.extend_from_slice(b"delete"),
@@ -110,7 +119,8 @@ fn put_act(act: Act, out: &mut Bytes) -> Result<(), NoMemory>
 }
 
 fn put_op(alloc: Global, op: &Op, out: &mut Bytes) -> Result<(), NoMemory>
-    ensures { OnOk result (out.new ≡ out.old ++ op_lines op.now) }
+    ensures ok { OnOk result (out.new ≡ out.old ++ op_lines op.now) }
+    ensures err { OnErr result (AppendsFront out.old out.new (op_lines op.now)) }
 {
     out.extend_from_slice(b"  ")?;
     put_act(op.act, out)?;

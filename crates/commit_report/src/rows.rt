@@ -1,6 +1,7 @@
-ghost use Rattle.std.specs.Prelude.{◌≡◌, ◌++◌, OnOk};
+ghost use Rattle.std.specs.Prelude.{◌≡◌, ◌++◌, OnOk, OnErr};
 ghost use Rattle.std.specs.List.{flat_map};
 ghost use Rattle.commit_report.specs.Logs.{row_text};
+ghost use Rattle.path_core.specs.Writing.{AppendsFront};
 
 use base_kinds::{Bytes, NoMemory, Row};
 use path_core::write_path_text;
@@ -9,7 +10,8 @@ use value_core::value_text;
 
 /// Adds a line for each row: this front, the row's path, a space and its value.
 pub fn put_rows(alloc: Global, front: &[u8], rows: &[Row], out: &mut Bytes) -> Result<(), NoMemory>
-    ensures { OnOk result (out.new ≡ out.old ++ flat_map (λ row. front.now ++ row_text row) rows.now) }
+    ensures ok { OnOk result (out.new ≡ out.old ++ flat_map (λ row. front.now ++ row_text row) rows.now) }
+    ensures err { OnErr result (AppendsFront out.old out.new (flat_map (λ row. front.now ++ row_text row) rows.now)) }
 {
     for row in rows {
         out.extend_from_slice(front)?;
@@ -19,7 +21,8 @@ pub fn put_rows(alloc: Global, front: &[u8], rows: &[Row], out: &mut Bytes) -> R
 }
 
 fn put_row(alloc: Global, row: &Row, out: &mut Bytes) -> Result<(), NoMemory>
-    ensures { OnOk result (out.new ≡ out.old ++ row_text row.now) }
+    ensures ok { OnOk result (out.new ≡ out.old ++ row_text row.now) }
+    ensures err { OnErr result (AppendsFront out.old out.new (row_text row.now)) }
 {
     write_path_text(alloc, &row.path, out)?;
     out.extend_from_slice(b" ")?;
