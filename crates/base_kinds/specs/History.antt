@@ -7,13 +7,13 @@ use Rattle.base_kinds.specs.declared.entry.Kind.TheVariants as kinds
 use Rattle.base_kinds.specs.Tree.{effect}
 
 -- numbers go on from this one, and stamps rise above this one
-abbrev pub GoesOn : ℕ → ℕ → List Entry → Type 0
-GoesOn number stamp [] = Unit {0}
-GoesOn number stamp (entry ∷ entries) = (entry.number ≡ number) × (stamp < entry.stamp) × GoesOn (number + 1) entry.stamp entries
+abbrev pub IsNumberedFrom : ℕ → ℕ → List Entry → Type 0
+IsNumberedFrom number stamp [] = Unit {0}
+IsNumberedFrom number stamp (entry ∷ entries) = (entry.number ≡ number) × (stamp < entry.stamp) × IsNumberedFrom (number + 1) entry.stamp entries
 
 -- numbers count from 1, and stamps rise from 1 on
 abbrev pub IsHistory : List Entry → Type 0
-IsHistory entries = GoesOn 1 0 entries
+IsHistory entries = IsNumberedFrom 1 0 entries
 
 -- the stamp of the last entry, or this one
 abbrev pub last_stamp : ℕ → List Entry → ℕ
@@ -49,19 +49,19 @@ extended deadline None = None
 extended deadline (Some trial) = Some (record trial { deadline = deadline })
 
 -- the state after an entry of this kind
-abbrev pub after : Kind → World → World
-after (kinds.Apply ops) world = record { tree = effect ops world.tree; trial = None }
-after (kinds.Trial id ops deadline) world = record { tree = effect ops world.tree; trial = Some (record { id = id; before = world.tree; deadline = deadline }) }
-after kinds.Confirm world = record { tree = world.tree; trial = None }
-after kinds.Cancel world = record { tree = tree_before world.tree world.trial; trial = None }
-after kinds.Expire world = record { tree = tree_before world.tree world.trial; trial = None }
-after kinds.Restart world = record { tree = tree_before world.tree world.trial; trial = None }
-after (kinds.Extend deadline) world = record { tree = world.tree; trial = extended deadline world.trial }
+abbrev pub world_after : Kind → World → World
+world_after (kinds.Apply ops) world = record { tree = effect ops world.tree; trial = None }
+world_after (kinds.Trial id ops deadline) world = record { tree = effect ops world.tree; trial = Some (record { id = id; before = world.tree; deadline = deadline }) }
+world_after kinds.Confirm world = record { tree = world.tree; trial = None }
+world_after kinds.Cancel world = record { tree = tree_before world.tree world.trial; trial = None }
+world_after kinds.Expire world = record { tree = tree_before world.tree world.trial; trial = None }
+world_after kinds.Restart world = record { tree = tree_before world.tree world.trial; trial = None }
+world_after (kinds.Extend deadline) world = record { tree = world.tree; trial = extended deadline world.trial }
 
 -- the state after these entries, from this state on
 abbrev pub world_from : World → List Entry → World
 world_from world [] = world
-world_from world (entry ∷ entries) = world_from (after entry.kind world) entries
+world_from world (entry ∷ entries) = world_from (world_after entry.kind world) entries
 
 -- the state that the history stands for
 abbrev pub world_of : List Entry → World

@@ -5,14 +5,14 @@ use Rattle.std.specs.Str.{bytes_eq}
 use Rattle.base_kinds.specs.declared.path.Elem.{Elem}
 
 -- what is left of a path behind each of its fronts, the whole path first
-abbrev pub rests : List Elem → List (List Elem)
-rests [] = [] ∷ []
-rests (elem ∷ elems) = (elem ∷ elems) ∷ rests elems
+abbrev pub suffixes : List Elem → List (List Elem)
+suffixes [] = [] ∷ []
+suffixes (elem ∷ elems) = (elem ∷ elems) ∷ suffixes elems
 
 -- the fronts of a path, the empty one first
-abbrev pub fronts : List Elem → List (List Elem)
-fronts [] = [] ∷ []
-fronts (elem ∷ elems) = [] ∷ map (λ front. elem ∷ front) (fronts elems)
+abbrev pub prefixes : List Elem → List (List Elem)
+prefixes [] = [] ∷ []
+prefixes (elem ∷ elems) = [] ∷ map (λ front. elem ∷ front) (prefixes elems)
 
 -- the pattern's key has the value `*`, or stands in the element with its value
 abbrev pub key_matches : Elem → List ℕ × List ℕ → Bool
@@ -32,8 +32,8 @@ abbrev pub matches : List Elem → List Elem → Bool
 matches [] [] = true
 matches [] (elem ∷ elems) = false
 matches (pattern ∷ patterns) path =
-    if bytes_eq pattern.name (codes "...") then list_any (matches patterns) (rests path) else first_matches pattern (matches patterns) path
+    if bytes_eq pattern.name (codes "...") then list_any (matches patterns) (suffixes path) else first_matches pattern (matches patterns) path
 
 -- some front of the path matches
 abbrev pub covers : List Elem → List Elem → Bool
-covers pattern path = list_any (matches pattern) (fronts path)
+covers pattern path = list_any (matches pattern) (prefixes path)

@@ -27,16 +27,16 @@ abbrev pub unchecked : Rules
 unchecked = record { valid = λ tree. true; fits = λ tree. true; record_octets = λ entry. 0; has_room = λ h entries octets. true }
 
 -- a reading of the clock counts up to the year 2100
-abbrev pub cut : ℕ → ℕ
-cut now = min now 4102444800000000000
+abbrev pub clamped_reading : ℕ → ℕ
+clamped_reading now = min now 4102444800000000000
 
 -- the time at a reading: it doesn't go back behind the last entry
 abbrev pub time_at : List Entry → ℕ → ℕ
-time_at h now = max (cut now) (stamp_of h)
+time_at h now = max (clamped_reading now) (stamp_of h)
 
 -- the stamp of a new entry: it is above the last one
 abbrev pub new_stamp : List Entry → ℕ → ℕ
-new_stamp h now = max (cut now) (stamp_of h + 1)
+new_stamp h now = max (clamped_reading now) (stamp_of h + 1)
 
 -- the entry that comes next
 abbrev pub next_entry : List Entry → ℕ → ℕ → Kind → Entry
@@ -51,8 +51,8 @@ abbrev pub is_due : List Entry → ℕ → Bool
 is_due h now = is_past (world_of h).trial (time_at h now)
 
 -- a trial that is due expires before anything else
-abbrev pub clock : List Entry → ℕ → List Entry
-clock h now = if is_due h now then h ++ next_entry h (new_stamp h now) 0 kinds.Expire ∷ [] else h
+abbrev pub after_expiry : List Entry → ℕ → List Entry
+after_expiry h now = if is_due h now then h ++ next_entry h (new_stamp h now) 0 kinds.Expire ∷ [] else h
 
 abbrev pub is_open : Option OpenTrial → Bool
 is_open None = false
@@ -64,41 +64,41 @@ is_other None id = false
 is_other (Some trial) id = not (bytes_eq trial.id id)
 
 -- what an ask becomes, as an entry with this stamp
-abbrev pub content : ℕ → Ask → Kind
-content stamp (asks.Apply ops) = kinds.Apply ops
-content stamp (asks.Trial id ops duration) = kinds.Trial id ops (stamp + duration)
-content stamp (asks.Confirm id) = kinds.Confirm
-content stamp (asks.Cancel id) = kinds.Cancel
-content stamp (asks.Extend id duration) = kinds.Extend (stamp + duration)
+abbrev pub kind_of_ask : ℕ → Ask → Kind
+kind_of_ask stamp (asks.Apply ops) = kinds.Apply ops
+kind_of_ask stamp (asks.Trial id ops duration) = kinds.Trial id ops (stamp + duration)
+kind_of_ask stamp (asks.Confirm id) = kinds.Confirm
+kind_of_ask stamp (asks.Cancel id) = kinds.Cancel
+kind_of_ask stamp (asks.Extend id duration) = kinds.Extend (stamp + duration)
 
 -- The cases in which operations are refused. Where room has to be left, a trial can still be closed: by an entry of 14 octets.
-abbrev pub against_ops : Rules → List Entry → World → List Op → ℕ → ℕ → List (Bool × Refusal)
-against_ops rules h world ops entries octets =
+abbrev pub refusal_cases_of_ops : Rules → List Entry → World → List Op → ℕ → ℕ → List (Bool × Refusal)
+refusal_cases_of_ops rules h world ops entries octets =
     (is_open world.trial, TrialOpen)
     ∷ (not (rules.valid (effect ops world.tree)), TreeInvalid)
     ∷ (not (rules.fits (effect ops world.tree)), TreeFull)
     ∷ (not (rules.has_room h entries octets), LogFull) ∷ []
 
-abbrev pub against_trial : World → List ℕ → List (Bool × Refusal) → List (Bool × Refusal)
-against_trial world id others = (not (is_open world.trial), NoTrial) ∷ (is_other world.trial id, WrongId) ∷ others
+abbrev pub refusal_cases_of_trial : World → List ℕ → List (Bool × Refusal) → List (Bool × Refusal)
+refusal_cases_of_trial world id others = (not (is_open world.trial), NoTrial) ∷ (is_other world.trial id, WrongId) ∷ others
 
 -- the cases in which the ask is refused, whose entry's record has so many octets: 1 more is the octet in front of it
-abbrev pub against : Rules → List Entry → World → Ask → ℕ → List (Bool × Refusal)
-against rules h world (asks.Apply ops) octets = against_ops rules h world ops 1 (octets + 1)
-against rules h world (asks.Trial id ops duration) octets = against_ops rules h world ops 2 (octets + 15)
-against rules h world (asks.Confirm id) octets = against_trial world id []
-against rules h world (asks.Cancel id) octets = against_trial world id []
-against rules h world (asks.Extend id duration) octets = against_trial world id ((not (rules.has_room h 2 (octets + 15)), LogFull) ∷ [])
+abbrev pub refusal_cases : Rules → List Entry → World → Ask → ℕ → List (Bool × Refusal)
+refusal_cases rules h world (asks.Apply ops) octets = refusal_cases_of_ops rules h world ops 1 (octets + 1)
+refusal_cases rules h world (asks.Trial id ops duration) octets = refusal_cases_of_ops rules h world ops 2 (octets + 15)
+refusal_cases rules h world (asks.Confirm id) octets = refusal_cases_of_trial world id []
+refusal_cases rules h world (asks.Cancel id) octets = refusal_cases_of_trial world id []
+refusal_cases rules h world (asks.Extend id duration) octets = refusal_cases_of_trial world id ((not (rules.has_room h 2 (octets + 15)), LogFull) ∷ [])
 
 -- the refusal of the first case that holds, else the entry
-abbrev pub first_case : List (Bool × Refusal) → Entry → Result Entry Refusal
-first_case [] entry = Ok entry
-first_case (this ∷ others) entry = if this.0 then Err this.1 else first_case others entry
+abbrev pub first_refusal : List (Bool × Refusal) → Entry → Result Entry Refusal
+first_refusal [] entry = Ok entry
+first_refusal (this ∷ others) entry = if this.0 then Err this.1 else first_refusal others entry
 
 abbrev pub judge_at : Rules → List Entry → ℕ → ℕ → Ask → Result Entry Refusal
 judge_at rules h stamp author ask =
-    let entry = next_entry h stamp author (content stamp ask) in
-    first_case (against rules h (world_of h) ask (rules.record_octets entry)) entry
+    let entry = next_entry h stamp author (kind_of_ask stamp ask) in
+    first_refusal (refusal_cases rules h (world_of h) ask (rules.record_octets entry)) entry
 
 -- what becomes of an ask at this reading of the clock: an entry, or why it is refused
 abbrev pub judge : Rules → List Entry → ℕ → ℕ → Ask → Result Entry Refusal
@@ -106,7 +106,7 @@ judge rules h now author ask = judge_at rules h (new_stamp h now) author ask
 
 -- the same, after the event of the clock
 abbrev pub step : Rules → List Entry → ℕ → ℕ → Ask → Result Entry Refusal
-step rules h now author ask = judge rules (clock h now) now author ask
+step rules h now author ask = judge rules (after_expiry h now) now author ask
 
 -- the history with the entry, where there is one
 abbrev pub with_answer : List Entry → Result Entry Refusal → List Entry

@@ -17,7 +17,7 @@ use Rattle.base_kinds.specs.WorkedTrees.{system_schema, port_schema, port_rows, 
 use Rattle.base_kinds.specs.declared.operation.Act.TheVariants.{Update}
 use Rattle.base_kinds.specs.History.{world_of}
 use Rattle.base_kinds.specs.Rules.{rules_of}
-use Rattle.base_kinds.specs.Step.{Rules, clock, step, with_answer}
+use Rattle.base_kinds.specs.Step.{Rules, after_expiry, step, with_answer}
 
 -- a reading of the clock, an author, and what is asked
 abbrev pub Asked : Type 0
@@ -26,7 +26,7 @@ Asked = ℕ × ℕ × Ask
 -- the history after these steps
 abbrev pub history_after : Rules → List Entry → List Asked → List Entry
 history_after rules h [] = h
-history_after rules h (asked ∷ others) = history_after rules (with_answer (clock h asked.0) (step rules h asked.0 asked.1 asked.2)) others
+history_after rules h (asked ∷ others) = history_after rules (with_answer (after_expiry h asked.0) (step rules h asked.0 asked.1 asked.2)) others
 
 abbrev pub stamp_in : Result Entry Refusal → Result ℕ Refusal
 stamp_in (Ok entry) = Ok entry.stamp
@@ -35,7 +35,7 @@ stamp_in (Err refusal) = Err refusal
 -- the answer to each of them: a stamp or a refusal
 abbrev pub answers : Rules → List Entry → List Asked → List (Result ℕ Refusal)
 answers rules h [] = []
-answers rules h (asked ∷ others) = stamp_in (step rules h asked.0 asked.1 asked.2) ∷ answers rules (with_answer (clock h asked.0) (step rules h asked.0 asked.1 asked.2)) others
+answers rules h (asked ∷ others) = stamp_in (step rules h asked.0 asked.1 asked.2) ∷ answers rules (with_answer (after_expiry h asked.0) (step rules h asked.0 asked.1 asked.2)) others
 
 abbrev pub default_limits : Limits
 default_limits = record { entries = 65536; octets = 268435456 }

@@ -3,7 +3,7 @@ use Rattle.std.proofs.Common.{◌≡◌, ℕ, ◌+◌, ◌<◌, ◌^◌, List, [
 use Rattle.base_kinds.specs.declared.operation.Row.{Row}
 use Rattle.base_kinds.specs.declared.entry.Entry.{Entry}
 use Rattle.base_kinds.specs.declared.entry.Limits.{Limits}
-use Rattle.base_kinds.specs.History.{World, OpenTrial, after, world_of, stamp_of}
+use Rattle.base_kinds.specs.History.{World, OpenTrial, world_after, world_of, stamp_of}
 use Rattle.base_kinds.specs.Records.{record_octets, counted}
 use Rattle.base_kinds.specs.Rules.{size_of}
 use Rattle.base_kinds.specs.Schema.{SchemaNode}
@@ -15,7 +15,7 @@ use Rattle.commit_core.specs.Logs.{LogView}
 -- the state after the entry is that of the tree that was staged
 staged_world : (core : CoreView) (entry : Entry) (tree : List Row) → IsNext core entry → core.staged ≡ Some tree → world_of (core.entries ++ entry ∷ []) ≡ record { tree = tree; trial = None }
 staged_world core entry tree next is =
-    let world : World = after entry.kind (world_of core.entries) in
+    let world : World = world_after entry.kind (world_of core.entries) in
     let both : Some world.tree ≡ Some tree = sym next.tree ∙ is in
     let same : world.tree ≡ tree = cc both in
     world_after_one core.entries entry ∙ ap (λ (rows : List Row). record world { tree = rows }) same ∙ ap (λ (trial : Option OpenTrial). record { tree = tree; trial = trial }) next.trial

@@ -7,7 +7,7 @@ use Rattle.base_kinds.specs.declared.entry.Entry.{Entry}
 use Rattle.base_kinds.specs.declared.entry.Limits.{Limits}
 use Rattle.base_kinds.specs.declared.refusal.Refusal.{Refusal}
 use Rattle.base_kinds.specs.declared.refusal.Refusal.TheVariants as refusals
-use Rattle.base_kinds.specs.History.{IsHistory, after, world_of, stamp_of}
+use Rattle.base_kinds.specs.History.{IsHistory, world_after, world_of, stamp_of}
 use Rattle.base_kinds.specs.Records.{record_octets}
 use Rattle.base_kinds.specs.Rules.{size_of}
 use Rattle.base_kinds.specs.Schema.{SchemaNode}
@@ -27,8 +27,8 @@ pub record IsNext (core : CoreView) (entry : Entry) : Type 0 where
   pub number : entry.number ≡ length core.entries + 1
   pub above : stamp_of core.entries < entry.stamp
   pub bound : entry.stamp ≤ 4102444800000000000 + entry.number
-  pub tree : core.staged ≡ Some (after entry.kind (world_of core.entries)).tree
-  pub trial : (after entry.kind (world_of core.entries)).trial ≡ None
+  pub tree : core.staged ≡ Some (world_after entry.kind (world_of core.entries)).tree
+  pub trial : (world_after entry.kind (world_of core.entries)).trial ≡ None
   pub room : HasRoom core.limits core.entries 1 (record_octets entry + 1)
 
 -- The tree, the stamp and the octets are those of the history, no trial is open, and there is room for the entry that was judged.

@@ -7,9 +7,9 @@ use Rattle.disk_model.specs.Content.{Content, Moved, Tells, Changes}
 use Rattle.disk_model.specs.Images.{synced, touched}
 use Rattle.disk_model.specs.Moments.{Put, Since, Leaves, LeavesNow, LeavesOnly}
 use Rattle.disk_model.proofs.Moving.{moved_tells, moved_map, moved_on, changes_since, put_since, leaves_then, leaves_same}
-use Rattle.record_format.specs.Spelling.{record_of}
-use Rattle.record_format.proofs.Lengths.{record_length}
-use Rattle.record_format.specs.Kept.{IsKept}
+use Rattle.journal_record.specs.Spelling.{record_of}
+use Rattle.journal_record.proofs.Lengths.{record_length}
+use Rattle.journal_record.specs.Kept.{IsKept}
 use Rattle.journal_format.specs.Legal.{IsNext, IsLegalFor}
 use Rattle.journal_format.specs.Journal.{front, AreKept, IsJournal}
 use Rattle.commit_journal.specs.Images.{IsJournalOr, IsSettled, IsInDoubt, Keeps, Holds}

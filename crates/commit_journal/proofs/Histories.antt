@@ -4,8 +4,8 @@ use Rattle.std.proofs.lemmas.List.{append-nil}
 use Rattle.std.specs.List.{flat_map, AllByRecursion}
 use Rattle.base_kinds.specs.declared.entry.Entry.{Entry}
 use Rattle.base_kinds.specs.declared.entry.Limits.{Limits}
-use Rattle.record_format.specs.Spelling.{record_of}
-use Rattle.record_format.specs.Kept.{IsKept}
+use Rattle.journal_record.specs.Spelling.{record_of}
+use Rattle.journal_record.specs.Kept.{IsKept}
 use Rattle.journal_format.specs.Legal.{IsNext, FollowInTurn, IsLegalFor}
 use Rattle.journal_format.specs.Journal.{header, gated, front, AreKept}
 

@@ -9,8 +9,8 @@ use Rattle.disk_model.specs.Images.{IsImage, synced}
 use Rattle.disk_model.specs.Moments.{Leaves}
 use Rattle.disk_model.proofs.Images.{image_self}
 use Rattle.disk_model.proofs.Masks.{image_split}
-use Rattle.record_format.specs.Spelling.{record_of}
-use Rattle.record_format.specs.Kept.{IsKept}
+use Rattle.journal_record.specs.Spelling.{record_of}
+use Rattle.journal_record.specs.Kept.{IsKept}
 use Rattle.journal_format.specs.Legal.{IsNext, IsLegalFor}
 use Rattle.journal_format.specs.Journal.{front, AreKept, IsJournal}
 use Rattle.commit_journal.specs.Images.{IsJournalOr, IsSettled, IsInDoubt, Keeps, Holds}

@@ -7,8 +7,8 @@ use Rattle.base_kinds.specs.declared.entry.Entry.{Entry}
 use Rattle.base_kinds.specs.declared.entry.Limits.{Limits}
 use Rattle.base_kinds.specs.Records.{record_octets}
 use Rattle.base_kinds.specs.Rules.{limited, size_of}
-use Rattle.record_format.specs.Spelling.{record_of}
-use Rattle.record_format.proofs.Lengths.{record_length}
+use Rattle.journal_record.specs.Spelling.{record_of}
+use Rattle.journal_record.proofs.Lengths.{record_length}
 use Rattle.journal_format.specs.Legal.{IsNext, FollowInTurn, IsLegalFor, has_trial, has_room}
 use Rattle.journal_format.specs.Journal.{header, gated, front}
 use Rattle.commit_journal.proofs.Histories.{front_more}

@@ -7,7 +7,7 @@ use Rattle.disk_model.specs.Content.{Content, Changes, Wrote}
 use Rattle.disk_model.specs.Images.{IsImage, synced, touched}
 use Rattle.disk_model.specs.Moments.{Put}
 use Rattle.disk_model.proofs.Masks.{image_split, touched_behind, wrote_behind}
-use Rattle.record_format.specs.Spelling.{record_of}
+use Rattle.journal_record.specs.Spelling.{record_of}
 use Rattle.journal_format.specs.Journal.{front}
 use Rattle.commit_journal.specs.Images.{IsSettled, IsInDoubt, Holds}
 use Rattle.commit_journal.specs.Writes.{PutsRecord, PutsGate, FailsAtGate}

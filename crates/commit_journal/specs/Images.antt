@@ -4,7 +4,7 @@ use Rattle.base_kinds.specs.declared.entry.Entry.{Entry}
 use Rattle.base_kinds.specs.declared.entry.Limits.{Limits}
 use Rattle.disk_model.specs.Content.{Content}
 use Rattle.disk_model.specs.Images.{IsImage, synced}
-use Rattle.record_format.specs.Spelling.{record_of}
+use Rattle.journal_record.specs.Spelling.{record_of}
 use Rattle.journal_format.specs.Journal.{front, IsJournal}
 
 -- the octets are a journal of the history, or of the history with the attempt, where there is one

@@ -4,7 +4,7 @@ use Rattle.std.specs.Coded.{Coded, code_by, coded×}
 use Rattle.base_kinds.specs.declared.entry.Entry.{Entry}
 use Rattle.base_kinds.specs.declared.entry.Limits.{Limits}
 use Rattle.disk_model.specs.Content.{Content, Moved, Tells}
-use Rattle.record_format.specs.Kept.{IsKept}
+use Rattle.journal_record.specs.Kept.{IsKept}
 use Rattle.journal_format.specs.Legal.{IsNext, IsLegalFor}
 use Rattle.journal_format.specs.Journal.{front, AreKept}
 use Rattle.commit_journal.specs.Images.{Holds}

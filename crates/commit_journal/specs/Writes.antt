@@ -6,7 +6,7 @@ use Rattle.base_kinds.specs.declared.entry.Limits.{Limits}
 use Rattle.disk_model.specs.Content.{Content, Changes}
 use Rattle.disk_model.specs.Images.{touched}
 use Rattle.disk_model.specs.Moments.{Put}
-use Rattle.record_format.specs.Spelling.{record_of}
+use Rattle.journal_record.specs.Spelling.{record_of}
 use Rattle.journal_format.specs.Journal.{front, header}
 
 -- the gate's octet is written and synced

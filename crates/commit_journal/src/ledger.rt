@@ -4,8 +4,8 @@ ghost use Rattle.disk_model.specs.Content.{Moved, Tells};
 ghost use Rattle.disk_model.specs.Moments.{LeavesNow, LeavesOnly};
 ghost use Rattle.base_kinds.specs.Limits.{AreInRange};
 ghost use Rattle.base_kinds.specs.Records.{record_octets};
-ghost use Rattle.record_format.specs.Spelling.{record_of};
-ghost use Rattle.record_format.specs.Kept.{IsKept};
+ghost use Rattle.journal_record.specs.Spelling.{record_of};
+ghost use Rattle.journal_record.specs.Kept.{IsKept};
 ghost use Rattle.journal_format.specs.Legal.{IsNext};
 ghost use Rattle.journal_format.specs.Journal.{IsJournal};
 ghost use Rattle.commit_journal.specs.Images.{IsJournalOr};
@@ -53,7 +53,7 @@ impl<D: Disk> Model for Ledger<D> {
 }
 
 /// Puts the entry's record and a closed gate in place of what is in the buffer.
-#[tactic(auto, using(record_format::proofs::Lengths::record_length))]
+#[tactic(auto, using(journal_record::proofs::Lengths::record_length))]
 fn put_record(entry: &Entry, buffer: &mut Vec<u8>) -> Result<(), NoMemory>
     ensures ok { OnOk result (buffer.new.items ≡ record_of entry.now ++ 0 ∷ []) }
     ensures kept { OnOk result (IsKept entry.now) }

@@ -8,13 +8,13 @@ use Rattle.base_kinds.specs.declared.entry.Kind.TheVariants as kinds
 use Rattle.base_kinds.specs.declared.refusal.Refusal.{Refusal}
 use Rattle.base_kinds.specs.declared.refusal.Refusal.TheVariants.{NoTrial, WrongId, TreeInvalid, TreeFull, LogFull}
 use Rattle.base_kinds.specs.History.{OpenTrial, world_of}
-use Rattle.base_kinds.specs.Step.{Rules, new_stamp, next_entry, content, is_open, is_other, first_case, judge}
+use Rattle.base_kinds.specs.Step.{Rules, new_stamp, next_entry, kind_of_ask, is_open, is_other, first_refusal, judge}
 use Rattle.std.proofs.lemmas.Slice.Eq.{bytes_eq-Decides}
 use Rattle.history_laws.specs.TrialLaws.{ClosesTrial}
 
 -- the two cases against a closing
 abbrev closing : Option OpenTrial → List ℕ → Entry → Result Entry Refusal
-closing trial id entry = first_case ((not (is_open trial), NoTrial) ∷ (is_other trial id, WrongId) ∷ []) entry
+closing trial id entry = first_refusal ((not (is_open trial), NoTrial) ∷ (is_other trial id, WrongId) ∷ []) entry
 
 own_id : (id : List ℕ) → bytes_eq id id ≡ true
 own_id id = (bytes_eq-Decides id id).1 refl
@@ -22,7 +22,7 @@ own_id id = (bytes_eq-Decides id id).1 refl
 taken : (trial : Option OpenTrial) (begun : OpenTrial) (id : List ℕ) (entry : Entry) → trial ≡ Some begun → id ≡ begun.id → closing trial id entry ≡ Ok entry
 taken trial begun id entry is same = ap (λ t. closing t id entry) is ∙ ap (λ i. closing (Some begun) i entry) same ∙ ap (λ (test : Bool). if not test then Err WrongId else Ok entry) (own_id begun.id)
 
-pub closings_are_taken : (rules : Rules) (h : List Entry) (now author : ℕ) (trial : OpenTrial) (ask : Ask) → (world_of h).trial ≡ Some trial → ClosesTrial trial.id ask → judge rules h now author ask ≡ Ok (next_entry h (new_stamp h now) author (content (new_stamp h now) ask))
+pub closings_are_taken : (rules : Rules) (h : List Entry) (now author : ℕ) (trial : OpenTrial) (ask : Ask) → (world_of h).trial ≡ Some trial → ClosesTrial trial.id ask → judge rules h now author ask ≡ Ok (next_entry h (new_stamp h now) author (kind_of_ask (new_stamp h now) ask))
 closings_are_taken rules h now author trial (asks.Confirm id) is closes = taken (world_of h).trial trial id (next_entry h (new_stamp h now) author kinds.Confirm) is closes
 closings_are_taken rules h now author trial (asks.Cancel id) is closes = taken (world_of h).trial trial id (next_entry h (new_stamp h now) author kinds.Cancel) is closes
 closings_are_taken rules h now author trial _ is closes = absurd closes

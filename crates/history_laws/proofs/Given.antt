@@ -7,8 +7,8 @@ use Rattle.base_kinds.specs.declared.entry.Kind.TheVariants as kinds
 use Rattle.base_kinds.specs.declared.entry.Ask.{Ask}
 use Rattle.base_kinds.specs.declared.entry.Ask.TheVariants as asks
 use Rattle.base_kinds.specs.declared.refusal.Refusal.{Refusal}
-use Rattle.base_kinds.specs.History.{World, OpenTrial, IsHistory, after, world_of, stamp_of}
-use Rattle.base_kinds.specs.Step.{Rules, new_stamp, time_at, next_entry, is_past, is_due, clock, content, judge, with_answer}
+use Rattle.base_kinds.specs.History.{World, OpenTrial, IsHistory, world_after, world_of, stamp_of}
+use Rattle.base_kinds.specs.Step.{Rules, new_stamp, time_at, next_entry, is_past, is_due, after_expiry, kind_of_ask, judge, with_answer}
 use Rattle.base_kinds.specs.Legal.{IsFit, Gives, GivenInTurn, IsLegal}
 use Rattle.history_laws.specs.Events.{Event, after_event, after_events, IsBounded, AreBounded}
 use Rattle.history_laws.specs.LegalLaws.{IsAhead, IsFitEvent, AreFitEvents}
@@ -54,22 +54,22 @@ given_is_bounded rules h entry bound (inr answer) = accepted_is_bounded rules h 
 
 -- ---- an open trial ends a second or more behind the last stamp
 
-ahead_after : (ask : Ask) (stamp : ℕ) (world : World) → IsFit ask → IsAhead (after (content stamp ask) world).trial stamp
+ahead_after : (ask : Ask) (stamp : ℕ) (world : World) → IsFit ask → IsAhead (world_after (kind_of_ask stamp ask) world).trial stamp
 ahead_after (asks.Apply ops) stamp world fit = tt
 ahead_after (asks.Trial id ops duration) stamp world fit = let least = fit.duration_fits.least in omega (arith, least)
 ahead_after (asks.Confirm id) stamp world fit = tt
 ahead_after (asks.Cancel id) stamp world fit = tt
 ahead_after (asks.Extend id duration) stamp world fit = by_trial world.trial
   where
-    by_trial : (trial : Option OpenTrial) → IsAhead (after (content stamp (asks.Extend id duration)) (record { tree = world.tree; trial = trial })).trial stamp
+    by_trial : (trial : Option OpenTrial) → IsAhead (world_after (kind_of_ask stamp (asks.Extend id duration)) (record { tree = world.tree; trial = trial })).trial stamp
     by_trial None = tt
     by_trial (Some trial) = let least = fit.duration_fits.least in omega (arith, least)
 
-given_is_ahead : (rules : Rules) (h : List Entry) (entry : Entry) → Gives rules h entry → IsAhead (after entry.kind (world_of h)).trial entry.stamp
-given_is_ahead rules h entry (inl expiry) = subst (λ (e : Entry). IsAhead (after e.kind (world_of h)).trial e.stamp) (sym expiry.is) tt
+given_is_ahead : (rules : Rules) (h : List Entry) (entry : Entry) → Gives rules h entry → IsAhead (world_after entry.kind (world_of h)).trial entry.stamp
+given_is_ahead rules h entry (inl expiry) = subst (λ (e : Entry). IsAhead (world_after e.kind (world_of h)).trial e.stamp) (sym expiry.is) tt
 given_is_ahead rules h entry (inr answer) =
     let next : entry ≡ asked h entry.stamp entry.author answer.ask = accepted_is_next rules h entry.stamp entry.author answer.ask entry answer.judged in
-    subst (λ (e : Entry). IsAhead (after e.kind (world_of h)).trial e.stamp) (sym next) (ahead_after answer.ask (new_stamp h entry.stamp) (world_of h) answer.ask_fits)
+    subst (λ (e : Entry). IsAhead (world_after e.kind (world_of h)).trial e.stamp) (sym next) (ahead_after answer.ask (new_stamp h entry.stamp) (world_of h) answer.ask_fits)
 
 -- the same of the history with the entry
 pub ahead_after_one : (rules : Rules) (h : List Entry) (entry : Entry) → Gives rules h entry → IsAhead (world_of (h ++ entry ∷ [])).trial (stamp_of (h ++ entry ∷ []))
@@ -136,7 +136,7 @@ given_is_legal rules base h entry legal given = legal_goes_on rules base h (h ++
 
 -- ---- events
 
-clock_is_legal : (rules : Rules) (base h : List Entry) (now : ℕ) → IsLegal rules base h → IsLegal rules base (clock h now)
+clock_is_legal : (rules : Rules) (base h : List Entry) (now : ℕ) → IsLegal rules base h → IsLegal rules base (after_expiry h now)
 clock_is_legal rules base h now legal = by_test (is_due h now) refl
   where
     by_test : (due : Bool) → is_due h now ≡ due → IsLegal rules base (if due then h ++ next_entry h (new_stamp h now) 0 kinds.Expire ∷ [] else h)
@@ -148,7 +148,7 @@ quiet_after_expiry : (h : List Entry) (stamp now : ℕ) → is_due (h ++ next_en
 quiet_after_expiry h stamp now =
     ap (λ (world : World). is_past world.trial (time_at (h ++ next_entry h stamp 0 kinds.Expire ∷ []) now)) (world_after_one h (next_entry h stamp 0 kinds.Expire))
 
-pub quiet_after_clock : (h : List Entry) (now : ℕ) → is_due (clock h now) now ≡ false
+pub quiet_after_clock : (h : List Entry) (now : ℕ) → is_due (after_expiry h now) now ≡ false
 quiet_after_clock h now = by_test (is_due h now) refl
   where
     by_test : (due : Bool) → is_due h now ≡ due → is_due (if due then h ++ next_entry h (new_stamp h now) 0 kinds.Expire ∷ [] else h) now ≡ false
@@ -165,7 +165,7 @@ judged_is_legal rules base h event ahead fit quiet legal = by_answer (judge rule
 pub event_is_legal : (rules : Rules) (base h : List Entry) (event : Event) → IsAhead (world_of base).trial (stamp_of base) → IsFitEvent event → IsLegal rules base h → IsLegal rules base (after_event rules h event)
 event_is_legal rules base h event ahead fit legal =
     let ticked = clock_is_legal rules base h event.reading legal in
-    judged_is_legal rules base (clock h event.reading) event (legal_is_ahead rules base (clock h event.reading) ahead ticked) fit (quiet_after_clock h event.reading) ticked
+    judged_is_legal rules base (after_expiry h event.reading) event (legal_is_ahead rules base (after_expiry h event.reading) ahead ticked) fit (quiet_after_clock h event.reading) ticked
 
 pub events_are_legal : (rules : Rules) (base h : List Entry) (events : List Event) → IsAhead (world_of base).trial (stamp_of base) → AreFitEvents events → IsLegal rules base h → IsLegal rules base (after_events rules h events)
 events_are_legal rules base h [] ahead fit legal = legal

@@ -7,8 +7,8 @@ use Rattle.base_kinds.specs.declared.entry.Kind.{Kind}
 use Rattle.base_kinds.specs.declared.entry.Kind.TheVariants as kinds
 use Rattle.base_kinds.specs.declared.entry.Ask.{Ask}
 use Rattle.base_kinds.specs.declared.refusal.Refusal.{Refusal}
-use Rattle.base_kinds.specs.History.{GoesOn, IsHistory, world_of, last_stamp, stamp_of}
-use Rattle.base_kinds.specs.Step.{Rules, new_stamp, next_entry, is_due, clock, content, against, first_case, judge_at, judge, step, with_answer}
+use Rattle.base_kinds.specs.History.{IsNumberedFrom, IsHistory, world_of, last_stamp, stamp_of}
+use Rattle.base_kinds.specs.Step.{Rules, new_stamp, next_entry, is_due, after_expiry, kind_of_ask, refusal_cases, first_refusal, judge_at, judge, step, with_answer}
 use Rattle.history_laws.specs.Events.{Event, after_event, after_events, IsBounded, AreBounded}
 use Rattle.history_laws.proofs.States.{history_after_one}
 
@@ -17,20 +17,20 @@ abbrev pub NoneHolds : List (Bool × Refusal) → Type 0
 NoneHolds = AllByRecursion (λ (this : Bool × Refusal). this.0 ≡ false)
 
 -- where the entry comes, no case held
-pub passed : (cases : List (Bool × Refusal)) (entry result : Entry) → first_case cases entry ≡ Ok result → NoneHolds cases × (entry ≡ result)
+pub passed : (cases : List (Bool × Refusal)) (entry result : Entry) → first_refusal cases entry ≡ Ok result → NoneHolds cases × (entry ≡ result)
 passed [] entry result is = (tt, cc is)
 passed (this ∷ others) entry result is = by_test this.0 refl is (passed others entry result)
   where
-    by_test : (test : Bool) → this.0 ≡ test → (if test then Err this.1 else first_case others entry) ≡ Ok result → (first_case others entry ≡ Ok result → NoneHolds others × (entry ≡ result)) → ((this.0 ≡ false) × NoneHolds others) × (entry ≡ result)
+    by_test : (test : Bool) → this.0 ≡ test → (if test then Err this.1 else first_refusal others entry) ≡ Ok result → (first_refusal others entry ≡ Ok result → NoneHolds others × (entry ≡ result)) → ((this.0 ≡ false) × NoneHolds others) × (entry ≡ result)
     by_test true holds never more = absurd (true≢false (sym (ap is_ok never)))
     by_test false holds further more = let rest = more further in ((holds, rest.0), rest.1)
 
 -- the entry that an ask would become
 abbrev pub asked : List Entry → ℕ → ℕ → Ask → Entry
-asked h now author ask = next_entry h (new_stamp h now) author (content (new_stamp h now) ask)
+asked h now author ask = next_entry h (new_stamp h now) author (kind_of_ask (new_stamp h now) ask)
 
-pub accepted : (rules : Rules) (h : List Entry) (now author : ℕ) (ask : Ask) (entry : Entry) → judge rules h now author ask ≡ Ok entry → NoneHolds (against rules h (world_of h) ask (rules.record_octets (asked h now author ask))) × (asked h now author ask ≡ entry)
-accepted rules h now author ask entry is = passed (against rules h (world_of h) ask (rules.record_octets (asked h now author ask))) (asked h now author ask) entry is
+pub accepted : (rules : Rules) (h : List Entry) (now author : ℕ) (ask : Ask) (entry : Entry) → judge rules h now author ask ≡ Ok entry → NoneHolds (refusal_cases rules h (world_of h) ask (rules.record_octets (asked h now author ask))) × (asked h now author ask ≡ entry)
+accepted rules h now author ask entry is = passed (refusal_cases rules h (world_of h) ask (rules.record_octets (asked h now author ask))) (asked h now author ask) entry is
 
 pub accepted_is_next : (rules : Rules) (h : List Entry) (now author : ℕ) (ask : Ask) (entry : Entry) → judge rules h now author ask ≡ Ok entry → entry ≡ asked h now author ask
 accepted_is_next rules h now author ask entry is = sym (accepted rules h now author ask entry is).1
@@ -45,7 +45,7 @@ pub next_is_bounded : (h : List Entry) (now author : ℕ) (kind : Kind) → stam
 next_is_bounded h now author kind bound = omega (arith, bound)
 
 pub accepted_is_bounded : (rules : Rules) (h : List Entry) (now author : ℕ) (ask : Ask) (entry : Entry) → stamp_of h ≤ 4102444800000000000 + length h → judge rules h now author ask ≡ Ok entry → IsBounded entry
-accepted_is_bounded rules h now author ask entry bound is = subst IsBounded (sym (accepted_is_next rules h now author ask entry is)) (next_is_bounded h now author (content (new_stamp h now) ask) bound)
+accepted_is_bounded rules h now author ask entry bound is = subst IsBounded (sym (accepted_is_next rules h now author ask entry is)) (next_is_bounded h now author (kind_of_ask (new_stamp h now) ask) bound)
 
 -- a stamp is the new stamp at itself
 pub own_stamp : (h : List Entry) (now : ℕ) → new_stamp h (new_stamp h now) ≡ new_stamp h now
@@ -61,7 +61,7 @@ accepted_at_own_stamp rules h now author ask entry is =
 
 -- ---- histories
 
-pub clock_keeps_history : (h : List Entry) (now : ℕ) → IsHistory h → IsHistory (clock h now)
+pub clock_keeps_history : (h : List Entry) (now : ℕ) → IsHistory h → IsHistory (after_expiry h now)
 clock_keeps_history h now history = by_test (is_due h now)
   where
     by_test : (due : Bool) → IsHistory (if due then h ++ next_entry h (new_stamp h now) 0 kinds.Expire ∷ [] else h)
@@ -76,7 +76,7 @@ judged_keeps_history rules h now author ask history = by_answer (judge rules h n
     by_answer (Err refusal) is = history
 
 pub event_keeps_history : (rules : Rules) (h : List Entry) (event : Event) → IsHistory h → IsHistory (after_event rules h event)
-event_keeps_history rules h event history = judged_keeps_history rules (clock h event.reading) event.reading event.author event.ask (clock_keeps_history h event.reading history)
+event_keeps_history rules h event history = judged_keeps_history rules (after_expiry h event.reading) event.reading event.author event.ask (clock_keeps_history h event.reading history)
 
 pub events_keep_history : (rules : Rules) (h : List Entry) (events : List Event) → IsHistory h → IsHistory (after_events rules h events)
 events_keep_history rules h [] history = history
@@ -84,7 +84,7 @@ events_keep_history rules h (event ∷ events) history = events_keep_history rul
 
 -- ---- bounds
 
-last_is_bounded : (number stamp : ℕ) (entries : List Entry) → GoesOn number stamp entries → AllByRecursion IsBounded entries → stamp + 1 ≤ 4102444800000000000 + number → last_stamp stamp entries + 1 ≤ 4102444800000000000 + number + length entries
+last_is_bounded : (number stamp : ℕ) (entries : List Entry) → IsNumberedFrom number stamp entries → AllByRecursion IsBounded entries → stamp + 1 ≤ 4102444800000000000 + number → last_stamp stamp entries + 1 ≤ 4102444800000000000 + number + length entries
 last_is_bounded number stamp [] goes bounded bound = omega (arith, bound)
 last_is_bounded number stamp (entry ∷ entries) goes bounded bound =
     let here : entry.stamp + 1 ≤ 4102444800000000000 + (number + 1) = omega (arith, bounded.0, goes.0) in
@@ -97,7 +97,7 @@ bounded_stamp h history bounded =
     let last = last_is_bounded 1 0 h history (recursion_from_All IsBounded h bounded) (omega arith) in
     omega (arith, last)
 
-clock_keeps_bound : (h : List Entry) (now : ℕ) → IsHistory h → AreBounded h → AreBounded (clock h now)
+clock_keeps_bound : (h : List Entry) (now : ℕ) → IsHistory h → AreBounded h → AreBounded (after_expiry h now)
 clock_keeps_bound h now history bounded = by_test (is_due h now)
   where
     by_test : (due : Bool) → AreBounded (if due then h ++ next_entry h (new_stamp h now) 0 kinds.Expire ∷ [] else h)
@@ -112,7 +112,7 @@ judged_keeps_bound rules h now author ask history bounded = by_answer (judge rul
     by_answer (Err refusal) is = bounded
 
 pub event_keeps_bound : (rules : Rules) (h : List Entry) (event : Event) → IsHistory h → AreBounded h → AreBounded (after_event rules h event)
-event_keeps_bound rules h event history bounded = judged_keeps_bound rules (clock h event.reading) event.reading event.author event.ask (clock_keeps_history h event.reading history) (clock_keeps_bound h event.reading history bounded)
+event_keeps_bound rules h event history bounded = judged_keeps_bound rules (after_expiry h event.reading) event.reading event.author event.ask (clock_keeps_history h event.reading history) (clock_keeps_bound h event.reading history bounded)
 
 pub events_keep_bound : (rules : Rules) (h : List Entry) (events : List Event) → IsHistory h → AreBounded h → AreBounded (after_events rules h events)
 events_keep_bound rules h [] history bounded = bounded
@@ -120,8 +120,8 @@ events_keep_bound rules h (event ∷ events) history bounded = events_keep_bound
 
 -- ---- answers
 
-pub accepted_adds_one : (rules : Rules) (h : List Entry) (event : Event) (entry : Entry) → step rules h event.reading event.author event.ask ≡ Ok entry → after_event rules h event ≡ clock h event.reading ++ entry ∷ []
-accepted_adds_one rules h event entry is = ap (with_answer (clock h event.reading)) is
+pub accepted_adds_one : (rules : Rules) (h : List Entry) (event : Event) (entry : Entry) → step rules h event.reading event.author event.ask ≡ Ok entry → after_event rules h event ≡ after_expiry h event.reading ++ entry ∷ []
+accepted_adds_one rules h event entry is = ap (with_answer (after_expiry h event.reading)) is
 
-pub refused_adds_none : (rules : Rules) (h : List Entry) (event : Event) (refusal : Refusal) → step rules h event.reading event.author event.ask ≡ Err refusal → after_event rules h event ≡ clock h event.reading
-refused_adds_none rules h event refusal is = ap (with_answer (clock h event.reading)) is
+pub refused_adds_none : (rules : Rules) (h : List Entry) (event : Event) (refusal : Refusal) → step rules h event.reading event.author event.ask ≡ Err refusal → after_event rules h event ≡ after_expiry h event.reading
+refused_adds_none rules h event refusal is = ap (with_answer (after_expiry h event.reading)) is

@@ -5,7 +5,7 @@ use Rattle.base_kinds.specs.declared.entry.Kind.TheVariants as kinds
 use Rattle.base_kinds.specs.declared.entry.Ask.TheVariants as asks
 use Rattle.base_kinds.specs.declared.refusal.Refusal.TheVariants.{NoTrial, WrongId}
 use Rattle.base_kinds.specs.History.{World}
-use Rattle.base_kinds.specs.Step.{Rules, new_stamp, next_entry, is_due, is_open, is_other, clock, first_case, judge, with_answer}
+use Rattle.base_kinds.specs.Step.{Rules, new_stamp, next_entry, is_due, is_open, is_other, after_expiry, first_refusal, judge, with_answer}
 use Rattle.base_kinds.specs.Legal.{Gives, GivenInTurn, IsLegal}
 use Rattle.history_laws.specs.Events.{Event, after_event, after_events}
 use Rattle.history_laws.specs.LegalLaws.{IsFitEvent, AreFitEvents}
@@ -21,9 +21,9 @@ late_is_fit reading = record { author = omega arith; ask_fits = record { least =
 late_adds_none : (rules : Rules) (h : List Entry) (stamp reading : ℕ) → with_answer (h ++ next_entry h stamp 0 kinds.Expire ∷ []) (judge rules (h ++ next_entry h stamp 0 kinds.Expire ∷ []) reading 1 (asks.Confirm (97 ∷ []))) ≡ h ++ next_entry h stamp 0 kinds.Expire ∷ []
 late_adds_none rules h stamp reading =
     let expired : List Entry = h ++ next_entry h stamp 0 kinds.Expire ∷ [] in
-    ap (λ (world : World). with_answer expired (first_case ((not (is_open world.trial), NoTrial) ∷ (is_other world.trial (97 ∷ []), WrongId) ∷ []) (next_entry expired (new_stamp expired reading) 1 kinds.Confirm))) (world_after_one h (next_entry h stamp 0 kinds.Expire))
+    ap (λ (world : World). with_answer expired (first_refusal ((not (is_open world.trial), NoTrial) ∷ (is_other world.trial (97 ∷ []), WrongId) ∷ []) (next_entry expired (new_stamp expired reading) 1 kinds.Confirm))) (world_after_one h (next_entry h stamp 0 kinds.Expire))
 
-ticked : (h : List Entry) (now : ℕ) (test : Bool) → is_due h now ≡ test → clock h now ≡ (if test then h ++ next_entry h (new_stamp h now) 0 kinds.Expire ∷ [] else h)
+ticked : (h : List Entry) (now : ℕ) (test : Bool) → is_due h now ≡ test → after_expiry h now ≡ (if test then h ++ next_entry h (new_stamp h now) 0 kinds.Expire ∷ [] else h)
 ticked h now test is = ap (λ (due : Bool). if due then h ++ next_entry h (new_stamp h now) 0 kinds.Expire ∷ [] else h) is
 
 pub reached_one : (rules : Rules) (h : List Entry) (entry : Entry) → Gives rules h entry → (event : Event) × IsFitEvent event × (after_event rules h event ≡ h ++ entry ∷ [])

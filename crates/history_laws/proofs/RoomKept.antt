@@ -9,12 +9,12 @@ use Rattle.base_kinds.specs.declared.entry.Kind.TheVariants as kinds
 use Rattle.base_kinds.specs.declared.entry.Ask.{Ask}
 use Rattle.base_kinds.specs.declared.entry.Ask.TheVariants as asks
 use Rattle.base_kinds.specs.declared.entry.Limits.{Limits}
-use Rattle.base_kinds.specs.History.{World, OpenTrial, after, world_of}
+use Rattle.base_kinds.specs.History.{World, OpenTrial, world_after, world_of}
 use Rattle.base_kinds.specs.Limits.{AreInRange}
 use Rattle.base_kinds.specs.Schema.{SchemaNode}
 use Rattle.base_kinds.specs.Records.{record_octets, kind_octets}
 use Rattle.base_kinds.specs.Rules.{size_of, limited, rules_of}
-use Rattle.base_kinds.specs.Step.{new_stamp, time_at, is_past, is_open, content, against, judge}
+use Rattle.base_kinds.specs.Step.{new_stamp, time_at, is_past, is_open, kind_of_ask, refusal_cases, judge}
 use Rattle.base_kinds.specs.Legal.{Gives, IsLegal}
 use Rattle.history_laws.specs.Room.{HasRoom, IsWithin, IsClosing, CanClose, HasRoomFor, StaysOpen}
 use Rattle.history_laws.proofs.States.{world_after_one}
@@ -46,7 +46,7 @@ test_says_room limits h entries octets = (room_if_limited limits h entries octet
 room_from_test : (limits : Limits) (h : List Entry) (entries octets : ℕ) → not (limited limits h entries octets) ≡ false → HasRoom limits h entries octets
 room_from_test limits h entries octets is = room_if_limited limits h entries octets (not-false (limited limits h entries octets) is)
 
-case_room : (schema : List SchemaNode) (limits : Limits) (h : List Entry) (world : World) (ask : Ask) (octets : ℕ) → NoneHolds (against (rules_of schema limits) h world ask octets) → HasRoomFor limits h octets ask
+case_room : (schema : List SchemaNode) (limits : Limits) (h : List Entry) (world : World) (ask : Ask) (octets : ℕ) → NoneHolds (refusal_cases (rules_of schema limits) h world ask octets) → HasRoomFor limits h octets ask
 case_room schema limits h world (asks.Apply ops) octets none = room_from_test limits h 1 (octets + 1) none.1.1.1.0
 case_room schema limits h world (asks.Trial id ops duration) octets none = room_from_test limits h 2 (octets + 15) none.1.1.1.0
 case_room schema limits h world (asks.Extend id duration) octets none = room_from_test limits h 2 (octets + 15) none.1.1.0
@@ -95,11 +95,11 @@ open_if_past : (trial : Option OpenTrial) (time : ℕ) → is_past trial time �
 open_if_past None time past = past
 open_if_past (Some trial) time past = refl
 
-extend_leaves : (limits : Limits) (h : List Entry) (tree : List Row) (trial : Option OpenTrial) (deadline : ℕ) → is_open trial ≡ true → HasRoom limits h 1 14 → CanClose limits h (after (kinds.Extend deadline) (record { tree = tree; trial = trial })).trial
+extend_leaves : (limits : Limits) (h : List Entry) (tree : List Row) (trial : Option OpenTrial) (deadline : ℕ) → is_open trial ≡ true → HasRoom limits h 1 14 → CanClose limits h (world_after (kinds.Extend deadline) (record { tree = tree; trial = trial })).trial
 extend_leaves limits h tree None deadline is room = absurd (true≢false (sym is))
 extend_leaves limits h tree (Some trial) deadline is room = room
 
-answer_keeps : (schema : List SchemaNode) (limits : Limits) (h : List Entry) (now author : ℕ) (ask : Ask) (entry : Entry) → judge (rules_of schema limits) h now author ask ≡ Ok entry → CanClose limits h (world_of h).trial → CanClose limits (h ++ entry ∷ []) (after (content (new_stamp h now) ask) (world_of h)).trial
+answer_keeps : (schema : List SchemaNode) (limits : Limits) (h : List Entry) (now author : ℕ) (ask : Ask) (entry : Entry) → judge (rules_of schema limits) h now author ask ≡ Ok entry → CanClose limits h (world_of h).trial → CanClose limits (h ++ entry ∷ []) (world_after (kind_of_ask (new_stamp h now) ask) (world_of h)).trial
 answer_keeps schema limits h now author (asks.Apply ops) entry is can = left_alone limits h entry (accepted_had_room schema limits h now author (asks.Apply ops) entry is)
 answer_keeps schema limits h now author (asks.Trial id ops duration) entry is can = trials_leave_room schema limits h now author (asks.Trial id ops duration) entry tt is
 answer_keeps schema limits h now author (asks.Extend id duration) entry is can =
@@ -115,14 +115,14 @@ answer_keeps schema limits h now author (asks.Cancel id) entry is can =
 pub given_keeps_room : (schema : List SchemaNode) (limits : Limits) (h : List Entry) (entry : Entry) → CanClose limits h (world_of h).trial → Gives (rules_of schema limits) h entry → CanClose limits (h ++ entry ∷ []) (world_of (h ++ entry ∷ [])).trial
 given_keeps_room schema limits h entry can given = subst (λ (world : World). CanClose limits (h ++ entry ∷ []) world.trial) (sym (world_after_one h entry)) (by_case given)
   where
-    by_case : Gives (rules_of schema limits) h entry → CanClose limits (h ++ entry ∷ []) (after entry.kind (world_of h)).trial
+    by_case : Gives (rules_of schema limits) h entry → CanClose limits (h ++ entry ∷ []) (world_after entry.kind (world_of h)).trial
     by_case (inl expiry) =
         let kind : entry.kind ≡ kinds.Expire = ap (λ (e : Entry). e.kind) expiry.is in
         let within = closed_by limits h (world_of h).trial entry (open_if_past (world_of h).trial (time_at h entry.stamp) expiry.due) can (subst IsClosing (sym kind) tt) in
-        subst (λ (k : Kind). CanClose limits (h ++ entry ∷ []) (after k (world_of h)).trial) (sym kind) within
+        subst (λ (k : Kind). CanClose limits (h ++ entry ∷ []) (world_after k (world_of h)).trial) (sym kind) within
     by_case (inr answer) =
-        let kind : content (new_stamp h entry.stamp) answer.ask ≡ entry.kind = ap (λ (e : Entry). e.kind) (accepted (rules_of schema limits) h entry.stamp entry.author answer.ask entry answer.judged).1 in
-        subst (λ (k : Kind). CanClose limits (h ++ entry ∷ []) (after k (world_of h)).trial) kind (answer_keeps schema limits h entry.stamp entry.author answer.ask entry answer.judged can)
+        let kind : kind_of_ask (new_stamp h entry.stamp) answer.ask ≡ entry.kind = ap (λ (e : Entry). e.kind) (accepted (rules_of schema limits) h entry.stamp entry.author answer.ask entry answer.judged).1 in
+        subst (λ (k : Kind). CanClose limits (h ++ entry ∷ []) (world_after k (world_of h)).trial) kind (answer_keeps schema limits h entry.stamp entry.author answer.ask entry answer.judged can)
 
 pub legal_keeps_room : (schema : List SchemaNode) (limits : Limits) (base h : List Entry) → CanClose limits base (world_of base).trial → IsLegal (rules_of schema limits) base h → CanClose limits h (world_of h).trial
 legal_keeps_room schema limits base h can legal = kept_by_legal (rules_of schema limits) (λ es. CanClose limits es (world_of es).trial) (given_keeps_room schema limits) base h can legal

@@ -3,7 +3,7 @@ use Rattle.std.specs.Prelude.{ℕ, ◌+◌, ◌≤◌, List, [], ◌∷◌}
 use Rattle.std.specs.List.{All}
 use Rattle.base_kinds.specs.declared.entry.Entry.{Entry}
 use Rattle.base_kinds.specs.declared.entry.Ask.{Ask}
-use Rattle.base_kinds.specs.Step.{Rules, clock, step, with_answer}
+use Rattle.base_kinds.specs.Step.{Rules, after_expiry, step, with_answer}
 
 -- an author's ask, and what the clock reads when it comes
 pub record Event : Type 0 where
@@ -13,7 +13,7 @@ pub record Event : Type 0 where
 
 -- the history after the clock's own event and the ask
 abbrev pub after_event : Rules → List Entry → Event → List Entry
-after_event rules h event = with_answer (clock h event.reading) (step rules h event.reading event.author event.ask)
+after_event rules h event = with_answer (after_expiry h event.reading) (step rules h event.reading event.author event.ask)
 
 abbrev pub after_events : Rules → List Entry → List Event → List Entry
 after_events rules h [] = h

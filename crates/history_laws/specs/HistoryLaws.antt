@@ -1,12 +1,12 @@
 -- What holds of histories and of the states that they stand for.
 use Rattle.std.specs.Prelude.{◌≡◌, ◌+◌, ◌<◌, List, [], ◌∷◌, ◌++◌, length, Some}
 use Rattle.base_kinds.specs.declared.entry.Entry.{Entry}
-use Rattle.base_kinds.specs.History.{IsHistory, OpenTrial, after, world_from, world_of, stamp_of}
+use Rattle.base_kinds.specs.History.{IsHistory, OpenTrial, world_after, world_from, world_of, stamp_of}
 use Rattle.history_laws.specs.Rising.{IsRising}
 
 -- one more entry changes the state by what its kind says
 abbrev pub StateAfterOne : Type 0
-StateAfterOne = (h : List Entry) (entry : Entry) → world_of (h ++ entry ∷ []) ≡ after entry.kind (world_of h)
+StateAfterOne = (h : List Entry) (entry : Entry) → world_of (h ++ entry ∷ []) ≡ world_after entry.kind (world_of h)
 
 -- and so do more entries, one after another
 abbrev pub StateAfterMore : Type 0

@@ -4,12 +4,12 @@ use Rattle.base_kinds.specs.declared.entry.Entry.{Entry}
 use Rattle.base_kinds.specs.declared.entry.Ask.{Ask}
 use Rattle.base_kinds.specs.declared.refusal.Refusal.{Refusal}
 use Rattle.base_kinds.specs.History.{IsHistory, stamp_of}
-use Rattle.base_kinds.specs.Step.{Rules, new_stamp, next_entry, content, clock, judge, step}
+use Rattle.base_kinds.specs.Step.{Rules, new_stamp, next_entry, kind_of_ask, after_expiry, judge, step}
 use Rattle.history_laws.specs.Events.{Event, after_event, after_events, IsBounded, AreBounded}
 
 -- the clock's event keeps a history
 abbrev pub ClockKeepsHistory : Type 0
-ClockKeepsHistory = (h : List Entry) (now : ℕ) → IsHistory h → IsHistory (clock h now)
+ClockKeepsHistory = (h : List Entry) (now : ℕ) → IsHistory h → IsHistory (after_expiry h now)
 
 -- and so does an ask behind it
 abbrev pub EventKeepsHistory : Type 0
@@ -25,15 +25,15 @@ EventsKeepBound = (rules : Rules) (h : List Entry) (events : List Event) → IsH
 
 -- an accepted ask adds its entry behind the clock's event
 abbrev pub AcceptedAddsOne : Type 0
-AcceptedAddsOne = (rules : Rules) (h : List Entry) (event : Event) (entry : Entry) → step rules h event.reading event.author event.ask ≡ Ok entry → after_event rules h event ≡ clock h event.reading ++ entry ∷ []
+AcceptedAddsOne = (rules : Rules) (h : List Entry) (event : Event) (entry : Entry) → step rules h event.reading event.author event.ask ≡ Ok entry → after_event rules h event ≡ after_expiry h event.reading ++ entry ∷ []
 
 -- a refused ask leaves the history as it was, but for the clock's event
 abbrev pub RefusedAddsNone : Type 0
-RefusedAddsNone = (rules : Rules) (h : List Entry) (event : Event) (refusal : Refusal) → step rules h event.reading event.author event.ask ≡ Err refusal → after_event rules h event ≡ clock h event.reading
+RefusedAddsNone = (rules : Rules) (h : List Entry) (event : Event) (refusal : Refusal) → step rules h event.reading event.author event.ask ≡ Err refusal → after_event rules h event ≡ after_expiry h event.reading
 
 -- an accepted ask is the entry that comes next, with the ask's author and content and the new stamp
 abbrev pub AcceptedIsNext : Type 0
-AcceptedIsNext = (rules : Rules) (h : List Entry) (now author : ℕ) (ask : Ask) (entry : Entry) → judge rules h now author ask ≡ Ok entry → entry ≡ next_entry h (new_stamp h now) author (content (new_stamp h now) ask)
+AcceptedIsNext = (rules : Rules) (h : List Entry) (now author : ℕ) (ask : Ask) (entry : Entry) → judge rules h now author ask ≡ Ok entry → entry ≡ next_entry h (new_stamp h now) author (kind_of_ask (new_stamp h now) ask)
 
 -- its stamp is above the last one
 abbrev pub AcceptedIsAbove : Type 0

@@ -8,8 +8,8 @@ use Rattle.base_kinds.specs.declared.entry.Ask.{Ask}
 use Rattle.base_kinds.specs.declared.entry.Ask.TheVariants as asks
 use Rattle.base_kinds.specs.declared.refusal.Refusal.{Refusal}
 use Rattle.base_kinds.specs.declared.refusal.Refusal.TheVariants.{NoTrial, WrongId, TreeInvalid, TreeFull, LogFull}
-use Rattle.base_kinds.specs.History.{OpenTrial, after, world_of}
-use Rattle.base_kinds.specs.Step.{Rules, new_stamp, next_entry, content, judge}
+use Rattle.base_kinds.specs.History.{OpenTrial, world_after, world_of}
+use Rattle.base_kinds.specs.Step.{Rules, new_stamp, next_entry, kind_of_ask, judge}
 
 abbrev pub IsExtend : Kind → Type 0
 IsExtend (kinds.Extend deadline) = Unit {0}
@@ -32,7 +32,7 @@ UndoesTrials = (h extends : List Entry) (begun ended : Entry) (id : List ℕ) (o
 
 -- a trial that is confirmed leaves what a plain Set of its operations leaves
 abbrev pub ConfirmsTrials : Type 0
-ConfirmsTrials = (h extends : List Entry) (begun ended : Entry) (id : List ℕ) (ops : List Op) (deadline : ℕ) → begun.kind ≡ kinds.Trial id ops deadline → AreExtends extends → ended.kind ≡ kinds.Confirm → world_of (h ++ begun ∷ (extends ++ ended ∷ [])) ≡ after (kinds.Apply ops) (world_of h)
+ConfirmsTrials = (h extends : List Entry) (begun ended : Entry) (id : List ℕ) (ops : List Op) (deadline : ℕ) → begun.kind ≡ kinds.Trial id ops deadline → AreExtends extends → ended.kind ≡ kinds.Confirm → world_of (h ++ begun ∷ (extends ++ ended ∷ [])) ≡ world_after (kinds.Apply ops) (world_of h)
 
 -- the ask closes a trial with this id
 abbrev pub ClosesTrial : List ℕ → Ask → Type 0
@@ -42,7 +42,7 @@ ClosesTrial id _ = ⊥
 
 -- whoever names the open trial's id can confirm and cancel it
 abbrev pub ClosingsAreTaken : Type 0
-ClosingsAreTaken = (rules : Rules) (h : List Entry) (now author : ℕ) (trial : OpenTrial) (ask : Ask) → (world_of h).trial ≡ Some trial → ClosesTrial trial.id ask → judge rules h now author ask ≡ Ok (next_entry h (new_stamp h now) author (content (new_stamp h now) ask))
+ClosingsAreTaken = (rules : Rules) (h : List Entry) (now author : ℕ) (trial : OpenTrial) (ask : Ask) → (world_of h).trial ≡ Some trial → ClosesTrial trial.id ask → judge rules h now author ask ≡ Ok (next_entry h (new_stamp h now) author (kind_of_ask (new_stamp h now) ask))
 
 -- and is refused for want of a trial or for another id alone
 abbrev pub ClosingsAreRefused : Type 0

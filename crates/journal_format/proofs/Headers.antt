@@ -5,8 +5,8 @@ use denote.Bor.{Bor}
 use Rattle.std.specs.Int.{w32, to_be_bytes}
 use Rattle.base_kinds.specs.declared.entry.Limits.{Limits}
 use Rattle.base_kinds.specs.Limits.{AreInRange}
-use Rattle.record_format.specs.Reading.{number_at}
-use Rattle.record_format.proofs.Forms.{IsBytes, Reads, sequence, wide32, numbers, some_is}
+use Rattle.journal_record.specs.Reading.{number_at}
+use Rattle.journal_record.proofs.Forms.{IsBytes, Reads, sequence, wide32, numbers, some_is}
 use Rattle.journal_format.specs.Journal.{header, HasNoHeader}
 use Rattle.journal_format.specs.Progress.{limits_octets, limits_at, HasNoLimits}
 

@@ -7,24 +7,24 @@ use Rattle.base_kinds.specs.declared.entry.Entry.{Entry}
 use Rattle.base_kinds.specs.declared.entry.Limits.{Limits}
 use Rattle.base_kinds.specs.declared.entry.Kind.{Kind}
 use Rattle.base_kinds.specs.declared.entry.Kind.TheVariants as kinds
-use Rattle.base_kinds.specs.History.{World, OpenTrial, world_of, world_from, after, last_stamp, extended}
+use Rattle.base_kinds.specs.History.{World, OpenTrial, world_of, world_from, world_after, last_stamp, extended}
 use Rattle.base_kinds.specs.Step.{is_open}
 use Rattle.base_kinds.specs.Records.{record_octets}
 use Rattle.base_kinds.specs.Rules.{size_of}
-use Rattle.record_format.proofs.Lengths.{record_length}
+use Rattle.journal_record.proofs.Lengths.{record_length}
 use Rattle.journal_format.specs.Legal.{IsNext, FollowInTurn, IsLegalFor, has_trial, happens}
 use Rattle.journal_format.specs.Journal.{header, gated, front}
 use Rattle.journal_format.specs.Progress.{opens}
 
-world_more : (world : World) (h : List Entry) (entry : Entry) → world_from world (h ++ entry ∷ []) ≡ after entry.kind (world_from world h)
+world_more : (world : World) (h : List Entry) (entry : Entry) → world_from world (h ++ entry ∷ []) ≡ world_after entry.kind (world_from world h)
 world_more world [] entry = refl
-world_more world (first ∷ h) entry = world_more (after first.kind world) h entry
+world_more world (first ∷ h) entry = world_more (world_after first.kind world) h entry
 
 pub stamp_more : (stamp : ℕ) (h : List Entry) (entry : Entry) → last_stamp stamp (h ++ entry ∷ []) ≡ entry.stamp
 stamp_more stamp [] entry = refl
 stamp_more stamp (first ∷ h) entry = stamp_more first.stamp h entry
 
-open_after : (kind : Kind) (world : World) → happens kind (is_open world.trial) ≡ true → is_open (after kind world).trial ≡ opens kind
+open_after : (kind : Kind) (world : World) → happens kind (is_open world.trial) ≡ true → is_open (world_after kind world).trial ≡ opens kind
 open_after (kinds.Apply ops) world e = refl
 open_after (kinds.Trial id ops deadline) world e = refl
 open_after kinds.Confirm world e = refl

@@ -4,12 +4,12 @@ use Rattle.std.proofs.lemmas.List.{append-nil}
 use Rattle.base_kinds.specs.declared.entry.Entry.{Entry}
 use Rattle.base_kinds.specs.declared.entry.Limits.{Limits}
 use Rattle.base_kinds.specs.Limits.{AreInRange}
-use Rattle.record_format.specs.Kept.{IsKept}
+use Rattle.journal_record.specs.Kept.{IsKept}
 use Rattle.journal_format.specs.declared.progress.Progress.{Progress}
 use Rattle.journal_format.specs.Legal.{FollowInTurn}
 use Rattle.journal_format.specs.Journal.{header, gated, front, AreKept, IsNoGate, IsDamaged}
-use Rattle.record_format.specs.declared.fault.RecordFault.{RecordFault}
-use Rattle.record_format.specs.declared.fault.RecordFault.TheVariants as records
+use Rattle.journal_record.specs.declared.fault.RecordFault.{RecordFault}
+use Rattle.journal_record.specs.declared.fault.RecordFault.TheVariants as records
 use Rattle.journal_format.specs.declared.journal.JournalFault.{JournalFault}
 use Rattle.journal_format.specs.Answered.{IsReadFrom, IsCauseOf, CauseAt}
 use Rattle.journal_format.specs.Progress.{Stands, IsWithin, IsFollowed, IsFollowedByNone}

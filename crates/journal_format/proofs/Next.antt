@@ -11,9 +11,9 @@ use Rattle.base_kinds.specs.History.{stamp_of}
 use Rattle.base_kinds.specs.Legal.{is_fit_op, AreFitOps}
 use Rattle.base_kinds.specs.Records.{record_octets}
 use Rattle.base_kinds.specs.Rules.{size_of, limited}
-use Rattle.record_format.specs.Spelling.{ops_of, record_of}
-use Rattle.record_format.specs.Kept.{IsKept, HasRecord, IsReadAs}
-use Rattle.record_format.proofs.Lengths.{record_length}
+use Rattle.journal_record.specs.Spelling.{ops_of, record_of}
+use Rattle.journal_record.specs.Kept.{IsKept, HasRecord, IsReadAs}
+use Rattle.journal_record.proofs.Lengths.{record_length}
 use Rattle.std.proofs.lemmas.List.{length-append}
 use Rattle.journal_format.specs.declared.progress.Progress.{Progress}
 use Rattle.journal_format.specs.Legal.{IsNext, is_author_of, happens, is_fit_kind, is_fit_id, is_fit_deadline, has_trial, has_room}

@@ -7,11 +7,11 @@ use Rattle.std.proofs.lemmas.List.{append-nil}
 use Rattle.base_kinds.specs.declared.entry.Entry.{Entry}
 use Rattle.base_kinds.specs.declared.entry.Limits.{Limits}
 use Rattle.base_kinds.specs.Limits.{AreInRange}
-use Rattle.record_format.specs.Spelling.{record_of}
-use Rattle.record_format.specs.Kept.{IsKept}
-use Rattle.record_format.specs.Reading.{number_at}
-use Rattle.record_format.proofs.Forms.{some_is, wide32, numbers}
-use Rattle.record_format.proofs.Entries.{alike}
+use Rattle.journal_record.specs.Spelling.{record_of}
+use Rattle.journal_record.specs.Kept.{IsKept}
+use Rattle.journal_record.specs.Reading.{number_at}
+use Rattle.journal_record.proofs.Forms.{some_is, wide32, numbers}
+use Rattle.journal_record.proofs.Entries.{alike}
 use Rattle.journal_format.specs.declared.journal.Journal.{Journal}
 use Rattle.journal_format.specs.declared.journal.JournalFault.{JournalFault}
 use Rattle.journal_format.specs.declared.journal.JournalFault.TheVariants as faults

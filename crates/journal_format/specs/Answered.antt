@@ -5,8 +5,8 @@ use Rattle.base_kinds.specs.declared.entry.Limits.{Limits}
 use Rattle.journal_format.specs.declared.journal.Journal.{Journal}
 use Rattle.journal_format.specs.declared.journal.JournalFault.{JournalFault}
 use Rattle.journal_format.specs.declared.journal.JournalFault.TheVariants as faults
-use Rattle.record_format.specs.declared.fault.RecordFault.{RecordFault}
-use Rattle.record_format.specs.declared.fault.RecordFault.TheVariants as records
+use Rattle.journal_record.specs.declared.fault.RecordFault.{RecordFault}
+use Rattle.journal_record.specs.declared.fault.RecordFault.TheVariants as records
 use Rattle.journal_format.specs.Journal.{front, IsJournal, IsDamaged}
 
 -- the octets are the journal that was read, and its closed gate stands at the place that was told

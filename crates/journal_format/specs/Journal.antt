@@ -5,8 +5,8 @@ use Rattle.std.specs.Int.{w32, to_be_bytes}
 use Rattle.base_kinds.specs.declared.entry.Entry.{Entry}
 use Rattle.base_kinds.specs.declared.entry.Limits.{Limits}
 use Rattle.base_kinds.specs.Limits.{AreInRange}
-use Rattle.record_format.specs.Spelling.{record_of}
-use Rattle.record_format.specs.Kept.{IsKept}
+use Rattle.journal_record.specs.Spelling.{record_of}
+use Rattle.journal_record.specs.Kept.{IsKept}
 use Rattle.journal_format.specs.Legal.{IsNext, IsLegalFor}
 
 -- 16 octets: a mark, the limit of entries, and that of octets

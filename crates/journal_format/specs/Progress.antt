@@ -9,9 +9,9 @@ use Rattle.base_kinds.specs.Limits.{AreInRange}
 use Rattle.base_kinds.specs.History.{stamp_of}
 use Rattle.base_kinds.specs.Rules.{size_of}
 use Rattle.journal_format.specs.declared.progress.Progress.{Progress}
-use Rattle.record_format.specs.Spelling.{record_of}
-use Rattle.record_format.specs.Kept.{IsKept}
-use Rattle.record_format.specs.Reading.{◌>>=◌, number_at}
+use Rattle.journal_record.specs.Spelling.{record_of}
+use Rattle.journal_record.specs.Kept.{IsKept}
+use Rattle.journal_record.specs.Reading.{◌>>=◌, number_at}
 use Rattle.std.specs.Int.{w32, to_be_bytes}
 use Rattle.journal_format.specs.Legal.{is_author_of, happens, is_fit_id, is_fit_deadline, has_trial, IsNext}
 use Rattle.journal_format.specs.Journal.{HasNoNext}

@@ -5,8 +5,8 @@ use Rattle.base_kinds.specs.declared.entry.Limits.{Limits}
 use Rattle.base_kinds.specs.declared.entry.Kind.TheVariants as kinds
 use Rattle.base_kinds.specs.Examples.{hostname_entry}
 use Rattle.base_kinds.specs.Rules.{size_of}
-use Rattle.record_format.specs.Spelling.{text_spelling, keys_spelling, elem_spelling, path_spelling, row_spelling, rows_spelling, op_spelling, ops_spelling, kind_spelling, record_of}
-use Rattle.record_format.specs.Worked.{hostname_record}
+use Rattle.journal_record.specs.Spelling.{text_spelling, keys_spelling, elem_spelling, path_spelling, row_spelling, rows_spelling, op_spelling, ops_spelling, kind_spelling, record_of}
+use Rattle.journal_record.specs.Worked.{hostname_record}
 use Rattle.journal_format.specs.Legal.{is_fit_kind, happens, has_trial, has_room}
 use Rattle.journal_format.specs.Journal.{header, front}
 

@@ -3,7 +3,7 @@ ghost use Rattle.std.specs.Prelude.{◌≡◌, ◌++◌, ℕ, List, MatchOption,
 ghost use Rattle.std.specs.Int.{w32};
 ghost use Rattle.base_kinds.specs.Limits.{AreInRange};
 ghost use Rattle.journal_format.specs.Journal.{header, HasNoHeader};
-ghost use Rattle.record_format.specs.Reading.{number_at};
+ghost use Rattle.journal_record.specs.Reading.{number_at};
 ghost use Rattle.journal_format.specs.Progress.{limits_at, limits_octets, HasNoLimits};
 
 use base_kinds::{Bytes, Limits, NoMemory};

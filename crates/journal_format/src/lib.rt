@@ -13,7 +13,7 @@ pub use header::write_header;
 pub use journal::{Journal, JournalFault};
 pub use laws::{empty_journal, journal_length, one_damage, one_history, one_more, worked_journal};
 pub use reading::read_journal;
-pub use record_format::{put_entry, write_entry};
+pub use journal_record::{put_entry, write_entry};
 
 /// The octet in front of an entry's record.
 pub const OPEN_GATE: u8 = 0xA5;

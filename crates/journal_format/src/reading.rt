@@ -12,7 +12,7 @@ use crate::header::header_in;
 use crate::journal::{Journal, JournalFault};
 use crate::progress::{Progress, follow};
 use base_kinds::{Entry, Limits, Seq};
-use record_format::{RecordFault, read_entry};
+use journal_record::{RecordFault, read_entry};
 use std::alloc::Global;
 
 /// The entry that stands behind an open gate, if it may follow those before it; what is known with it, and what is left.

@@ -13,7 +13,7 @@ use crate::texts::text_of;
 use base_kinds::{Copied, Elem, Keys, NoMemory, Path, Row, Rows, Seq, Shape, Text, Value, Values};
 use serde_json::Value as Json;
 use std::alloc::Global;
-use value_order::all_differ;
+use scalar_order::all_differ;
 
 /// The path with one more element, in as much memory as it needs.
 pub(crate) fn below(alloc: Global, above: &Path, name: &str, keys: Keys) -> Result<Path, NoMemory>

@@ -11,15 +11,15 @@ use Rattle.base_kinds.specs.declared.path.Elem.{Elem}
 use Rattle.base_kinds.specs.declared.operation.Row.{Row}
 use Rattle.base_kinds.specs.Paths.{path_cmp, text_cmp, key_cmp}
 use Rattle.base_kinds.specs.Schema.{SchemaNode, names_of, same_names, node_of, node_at}
-use Rattle.base_kinds.specs.Valid.{if_some, steps_from, steps, step_known, row_known, row_shaped, has_just_keys}
+use Rattle.base_kinds.specs.Valid.{if_some, path_steps_from, path_steps, step_has_node, row_has_nodes, row_has_type, has_just_keys}
 use Rattle.history_laws.proofs.PathOrder.{elem_total}
 use Rattle.json_text.specs.Laws.{IsWhole, row_ordered, step_ordered, in_name_order}
 use Rattle.schema_core.proofs.NodeLemmas.{same_decides}
 use Rattle.json_text.proofs.Parts.{apart, equal_texts}
 
 -- what passes the test for each front of a path passes it for the front that ends here
-pub front_passes : (test : List Elem × Elem → Bool) (front here : List Elem) (elem : Elem) (rest : List Elem) → list_all test (steps_from front (here ++ elem ∷ rest)) ≡ true → test (front ++ (here ++ elem ∷ []), elem) ≡ true
-front_passes test front [] elem rest all = (and_parts _ (list_all test (steps_from (front ++ elem ∷ []) rest)) all).0
+pub front_passes : (test : List Elem × Elem → Bool) (front here : List Elem) (elem : Elem) (rest : List Elem) → list_all test (path_steps_from front (here ++ elem ∷ rest)) ≡ true → test (front ++ (here ++ elem ∷ []), elem) ≡ true
+front_passes test front [] elem rest all = (and_parts _ (list_all test (path_steps_from (front ++ elem ∷ []) rest)) all).0
 front_passes test front (first ∷ here) elem rest all =
     let later = front_passes test (front ++ first ∷ []) here elem rest (and_parts (test (front ++ first ∷ [], first)) _ all).1 in
     subst (λ (path : List Elem). test (path, elem) ≡ true) (append_assoc front (first ∷ []) (here ++ elem ∷ [])) later
@@ -56,8 +56,8 @@ module _ (schema : List SchemaNode) where
     pub rest : List Elem
     pub is : row.path ≡ here ++ elem ∷ rest
     pub short : length (elem ∷ rest) ≤ levels
-    pub known : row_known schema row ≡ true
-    pub shaped : row_shaped schema row ≡ true
+    pub known : row_has_nodes schema row ≡ true
+    pub shaped : row_has_type schema row ≡ true
     pub ordered : row_ordered schema row ≡ true
     pub kept : IsWhole row.value
 
@@ -70,17 +70,17 @@ module _ (schema : List SchemaNode) where
     pub first_is : slice_get row.path (length here) ≡ Some good.elem
     first_is = ap (λ (path : List Elem). slice_get path (length here)) good.is ∙ get_seam here good.elem good.rest
 
-    all_known : list_all (step_known schema) (steps (here ++ good.elem ∷ good.rest)) ≡ true
-    all_known = subst (λ (path : List Elem). list_all (step_known schema) (steps path) ≡ true) good.is (and_parts _ (list_all (step_known schema) (steps row.path)) good.known).1
+    nodes_exist : list_all (step_has_node schema) (path_steps (here ++ good.elem ∷ good.rest)) ≡ true
+    nodes_exist = subst (λ (path : List Elem). list_all (step_has_node schema) (path_steps path) ≡ true) good.is (and_parts _ (list_all (step_has_node schema) (path_steps row.path)) good.known).1
 
     pub node_below : NodeBelow
     node_below =
-        let there = some_of (node_at schema (here ++ good.elem ∷ [])) (λ node. has_just_keys good.elem node.keys) (front_passes (step_known schema) [] here good.elem good.rest all_known) in
+        let there = some_of (node_at schema (here ++ good.elem ∷ [])) (λ node. has_just_keys good.elem node.keys) (front_passes (step_has_node schema) [] here good.elem good.rest nodes_exist) in
         record { node = there.0; found = ap (node_of schema) (sym (names_below here good.elem)) ∙ there.1; just = there.2 }
 
     pub keys_ordered : (node : SchemaNode) → node_of schema (names_of here ++ good.elem.name ∷ []) ≡ Some node → map (λ (key : List ℕ × List ℕ). key.0) good.elem.keys ≡ in_name_order [] node.keys
     keys_ordered node found =
-        let all = subst (λ (path : List Elem). list_all (step_ordered schema) (steps path) ≡ true) good.is good.ordered in
+        let all = subst (λ (path : List Elem). list_all (step_ordered schema) (path_steps path) ≡ true) good.is good.ordered in
         let test = front_passes (step_ordered schema) [] here good.elem good.rest all in
         let at : node_at schema (here ++ good.elem ∷ []) ≡ Some node = ap (node_of schema) (names_below here good.elem) ∙ found in
         (same_decides _ _).0 (sym (ap (λ (o : Option SchemaNode). if_some o (λ n. same_names (map (λ (key : List ℕ × List ℕ). key.0) good.elem.keys) (in_name_order [] n.keys))) at) ∙ test)

@@ -17,7 +17,7 @@ use Rattle.base_kinds.specs.declared.schema.Sort.{Sort}
 use Rattle.base_kinds.specs.declared.schema.Sort.TheVariants as sorts
 use Rattle.base_kinds.specs.Paths.{text_cmp, elem_cmp, path_cmp}
 use Rattle.base_kinds.specs.Schema.{SchemaNode, names_of, node_of, node_at}
-use Rattle.base_kinds.specs.Valid.{if_some, own_name, has_just_keys, is_leafy, row_known, row_shaped}
+use Rattle.base_kinds.specs.Valid.{if_some, own_name, has_just_keys, is_leafy, row_has_nodes, row_has_type}
 use Rattle.history_laws.specs.Rising.{row_cmp, IsRising}
 use Rattle.history_laws.proofs.PathOrder.{path_total, elem_total, exact_elems}
 use Rattle.schema_core.specs.Nodes.{is_inner}
@@ -154,8 +154,8 @@ module _ (schema : List SchemaNode) (formed : IsWellFormed schema) where
       absurd (let no : Equal ≡ Less = sym equal ∙ less in cc)
 
   -- one level below, where the node is no leaf and no leaf-list
-  some_below : (levels : ℕ) (here : List Elem) (e elem : Elem) (rest : List Elem) (row : Row) (node : SchemaNode) → row.path ≡ here ++ elem ∷ rest → elem ≡ e → length (elem ∷ rest) ≤ suc levels → row_known schema row ≡ true → node_of schema (names_of here ++ e.name ∷ []) ≡ Some node → is_leafy node.sort ≡ false
-      → row_shaped schema row ≡ true → row_ordered schema row ≡ true → IsWhole row.value → Good schema levels (here ++ e ∷ []) row
+  some_below : (levels : ℕ) (here : List Elem) (e elem : Elem) (rest : List Elem) (row : Row) (node : SchemaNode) → row.path ≡ here ++ elem ∷ rest → elem ≡ e → length (elem ∷ rest) ≤ suc levels → row_has_nodes schema row ≡ true → node_of schema (names_of here ++ e.name ∷ []) ≡ Some node → is_leafy node.sort ≡ false
+      → row_has_type schema row ≡ true → row_ordered schema row ≡ true → IsWhole row.value → Good schema levels (here ++ e ∷ []) row
   some_below levels here e elem [] row node is same short known found inner shaped ordered whole =
       let path : row.path ≡ here ++ e ∷ [] = is ∙ ap (λ (x : Elem). here ++ x ∷ []) same in
       let at : node_at schema row.path ≡ Some node = ap (node_at schema) path ∙ ap (node_of schema) (names_below here e) ∙ found in

@@ -16,7 +16,7 @@ use Rattle.base_kinds.specs.declared.value.Value.TheOpen as opened
 use Rattle.base_kinds.specs.declared.value.Value.TheViews.{roll-Value, out-Value, roll-out-Value}
 use Rattle.base_kinds.specs.declared.value.Value.TheVariants as values
 use Rattle.base_kinds.specs.Schema.{SchemaNode, names_of, node_of, node_at}
-use Rattle.base_kinds.specs.Valid.{if_some, steps, step_known, row_shaped, is_taken, has_just_keys}
+use Rattle.base_kinds.specs.Valid.{if_some, path_steps, step_has_node, row_has_type, has_type, has_just_keys}
 use Rattle.base_kinds.specs.Values.{is_list, values_in, has_shape, all_differ}
 use Rattle.base_kinds.proofs.Lists.{values_in-List}
 use Rattle.schema_core.specs.Nodes.{is_inner}
@@ -76,12 +76,12 @@ module _ (schema : List SchemaNode) (formed : IsWellFormed schema) (levels : ℕ
       let none : node.keys ≡ [] = (formed_node schema formed _ node found).keyless plain in
       none_of elem.keys (ap (λ (ks : List (List ℕ)). length elem.keys == length ks) (sym none) ∙ (and_parts (length elem.keys == length node.keys) _ just).0)
 
-  rest_none : (elem : Elem) (rest : List Elem) (row : Row) (node : SchemaNode) → row.path ≡ here ++ elem ∷ rest → list_all (step_known schema) (steps row.path) ≡ true → node_of schema (names_of here ++ elem.name ∷ []) ≡ Some node → is_inner node.sort ≡ false → rest ≡ []
+  rest_none : (elem : Elem) (rest : List Elem) (row : Row) (node : SchemaNode) → row.path ≡ here ++ elem ∷ rest → list_all (step_has_node schema) (path_steps row.path) ≡ true → node_of schema (names_of here ++ elem.name ∷ []) ≡ Some node → is_inner node.sort ≡ false → rest ≡ []
   rest_none elem [] row node is known found outer = refl
   rest_none elem (x ∷ rest) row node is known found outer =
       let path : here ++ elem ∷ x ∷ rest ≡ (here ++ elem ∷ []) ++ x ∷ rest = sym (append_assoc here (elem ∷ []) (x ∷ rest)) in
-      let all = subst (λ (p : List Elem). list_all (step_known schema) (steps p) ≡ true) (is ∙ path) known in
-      let there = some_of (node_at schema ((here ++ elem ∷ []) ++ x ∷ [])) (λ n. has_just_keys x n.keys) (front_passes (step_known schema) [] (here ++ elem ∷ []) x rest all) in
+      let all = subst (λ (p : List Elem). list_all (step_has_node schema) (path_steps p) ≡ true) (is ∙ path) known in
+      let there = some_of (node_at schema ((here ++ elem ∷ []) ++ x ∷ [])) (λ n. has_just_keys x n.keys) (front_passes (step_has_node schema) [] (here ++ elem ∷ []) x rest all) in
       let names : names_of ((here ++ elem ∷ []) ++ x ∷ []) ≡ (names_of here ++ elem.name ∷ []) ++ x.name ∷ [] = names_below (here ++ elem ∷ []) x ∙ ap (λ (ns : List (List ℕ)). ns ++ x.name ∷ []) (names_below here elem) in
       absurd (true≢false (sym (inner_above schema formed _ x.name node there.0 found (ap (node_of schema) (sym names) ∙ there.1)) ∙ outer))
 
@@ -89,7 +89,7 @@ module _ (schema : List SchemaNode) (formed : IsWellFormed schema) (levels : ℕ
   pub leaf_path : (row : Row) (good : Good schema levels here row) (node : SchemaNode) → node_of schema (names_of here ++ good.elem.name ∷ []) ≡ Some node → has_just_keys good.elem node.keys ≡ true → is_inner node.sort ≡ false → is_list_node node ≡ false
       → row.path ≡ below here good.elem.name []
   leaf_path row good node found just outer plain =
-      let known = (and_parts _ (list_all (step_known schema) (steps row.path)) good.known).1 in
+      let known = (and_parts _ (list_all (step_has_node schema) (path_steps row.path)) good.known).1 in
       good.is ∙ ap (λ (rest : List Elem). here ++ good.elem ∷ rest) (rest_none good.elem good.rest row node good.is known found outer)
       ∙ ap (λ (ks : List (List ℕ × List ℕ)). here ++ record { name = good.elem.name; keys = ks } ∷ []) (plain_keys good.elem node found plain just)
 
@@ -97,14 +97,14 @@ module _ (schema : List SchemaNode) (formed : IsWellFormed schema) (levels : ℕ
   pub record Taken (node : SchemaNode) (value : Value) : Type 0 where
     pub shape : Shape
     pub is : node.shape ≡ Some shape
-    pub taken : is_taken node.sort shape value ≡ true
+    pub taken : has_type node.sort shape value ≡ true
 
-  pub taken_there : (row : Row) (name : List ℕ) (node : SchemaNode) → row.path ≡ below here name [] → node_of schema (names_of here ++ name ∷ []) ≡ Some node → row_shaped schema row ≡ true → Taken node row.value
+  pub taken_there : (row : Row) (name : List ℕ) (node : SchemaNode) → row.path ≡ below here name [] → node_of schema (names_of here ++ name ∷ []) ≡ Some node → row_has_type schema row ≡ true → Taken node row.value
   taken_there row name node path found shaped =
       let elem : Elem = record { name = name; keys = [] } in
       let at : node_at schema row.path ≡ Some node = ap (node_at schema) path ∙ ap (node_of schema) (names_below here elem) ∙ found in
-      let here_shaped = subst (λ (o : Option SchemaNode). if_some o (λ n. if_some n.shape (λ shape. is_taken n.sort shape row.value)) ≡ true) at shaped in
-      let shape = some_of node.shape (λ s. is_taken node.sort s row.value) here_shaped in
+      let here_shaped = subst (λ (o : Option SchemaNode). if_some o (λ n. if_some n.shape (λ shape. has_type n.sort shape row.value)) ≡ true) at shaped in
+      let shape = some_of node.shape (λ s. has_type node.sort s row.value) here_shaped in
       record { shape = shape.0; is = shape.1; taken = shape.2 }
 
   row_again : (row : Row) (name : List ℕ) → row.path ≡ below here name [] → (value : Value) → value ≡ row.value → record { path = below here name []; value = value } ≡ row
@@ -114,7 +114,7 @@ module _ (schema : List SchemaNode) (formed : IsWellFormed schema) (levels : ℕ
       → at_node sorts.Leaf schema node here name before (value_data node.shape (row ∷ [])) ≡ Ok (before ++ row ∷ [])
   leaf_row_back row name node path whole sort taken before =
       let shape = taken.shape in
-      let fit : has_shape shape row.value ≡ true = ap (λ s. is_taken s shape row.value) (sym sort) ∙ taken.taken in
+      let fit : has_shape shape row.value ≡ true = ap (λ s. has_type s shape row.value) (sym sort) ∙ taken.taken in
       let alone = shaped_alone shape row.value fit in
       let plain : leaf_data shape row.value ≡ scalar_data shape row.value = ap (λ t. cond t (array (items_of (map (scalar_data shape) (values_in row.value)))) (scalar_data shape row.value)) alone in
       ap (λ (o : Option Shape). leaf_told (below here name []) before (leaf_at o (value_data o (row ∷ [])))) taken.is
@@ -125,7 +125,7 @@ module _ (schema : List SchemaNode) (formed : IsWellFormed schema) (levels : ℕ
   pub leaf_value_back : (row : Row) (others : List Row) (node : SchemaNode) → IsWhole row.value → node.sort ≡ sorts.Leaf → Taken node row.value → leaf_at node.shape (value_data node.shape (row ∷ others)) ≡ Some row.value
   leaf_value_back row others node whole sort taken =
       let shape = taken.shape in
-      let fit : has_shape shape row.value ≡ true = ap (λ s. is_taken s shape row.value) (sym sort) ∙ taken.taken in
+      let fit : has_shape shape row.value ≡ true = ap (λ s. has_type s shape row.value) (sym sort) ∙ taken.taken in
       let alone = shaped_alone shape row.value fit in
       let plain : leaf_data shape row.value ≡ scalar_data shape row.value = ap (λ t. cond t (array (items_of (map (scalar_data shape) (values_in row.value)))) (scalar_data shape row.value)) alone in
       ap (λ (o : Option Shape). leaf_at o (value_data o (row ∷ others))) taken.is ∙ ap (λ (d : Data). leaf_at (Some shape) d) plain ∙ leaf_back shape row.value (record { shaped = fit; plain = whole.alone alone })
@@ -141,7 +141,7 @@ module _ (schema : List SchemaNode) (formed : IsWellFormed schema) (levels : ℕ
       let place = below here name [] in
       let vs = values_in row.value in
       let items = items_of (map (scalar_data shape) vs) in
-      let fit : is_taken sorts.LeafList shape row.value ≡ true = ap (λ s. is_taken s shape row.value) (sym sort) ∙ taken.taken in
+      let fit : has_type sorts.LeafList shape row.value ≡ true = ap (λ s. has_type s shape row.value) (sym sort) ∙ taken.taken in
       let parts = and_parts (is_list row.value && list_all (has_shape shape) vs) (all_differ vs) fit in
       let listed = and_parts (is_list row.value) (list_all (has_shape shape) vs) parts.0 in
       let many : leaf_data shape row.value ≡ array items = ap (λ t. cond t (array items) (scalar_data shape row.value)) listed.0 in

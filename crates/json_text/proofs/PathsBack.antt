@@ -9,7 +9,7 @@ use Rattle.base_kinds.specs.declared.operation.Row.{Row}
 use Rattle.base_kinds.specs.declared.schema.Sort.{Sort}
 use Rattle.base_kinds.specs.declared.schema.Sort.TheVariants as sorts
 use Rattle.base_kinds.specs.Schema.{SchemaNode, names_of, node_of, node_at}
-use Rattle.base_kinds.specs.Valid.{is_leafy, row_shaped}
+use Rattle.base_kinds.specs.Valid.{is_leafy, row_has_type}
 use Rattle.json_rows.specs.Entries.{and_then}
 use Rattle.json_rows.specs.Walk.{below, at_node, members_at}
 use Rattle.json_rows.specs.Reading.{in_order, is_entry, entry_told, at_found, at_end, walked, rows_meant}
@@ -82,7 +82,7 @@ module _ (schema : List SchemaNode) (elem : Elem) (elems : List Elem) (node : Sc
   node_found : node_of schema (names_of there.front ++ there.last.name ∷ []) ≡ Some node
   node_found = ap (node_of schema) (sym (names_below there.front there.last) ∙ ap names_of (sym there.is)) ∙ at
 
-  scalar_path : (row : Row) → IsWellFormed schema → row.path ≡ path → row_shaped schema row ≡ true → IsWhole row.value → (sort : Sort) → node.sort ≡ sort → is_leafy sort ≡ true → rows_meant schema path (Some (json_data schema path (row ∷ []))) ≡ Ok (row ∷ [])
+  scalar_path : (row : Row) → IsWellFormed schema → row.path ≡ path → row_has_type schema row ≡ true → IsWhole row.value → (sort : Sort) → node.sort ≡ sort → is_leafy sort ≡ true → rows_meant schema path (Some (json_data schema path (row ∷ []))) ≡ Ok (row ∷ [])
   scalar_path row formed own shaped whole sorts.Leaf is scalar =
       let below_is : row.path ≡ below there.front there.last.name [] = own ∙ sym last_plain in
       let taken = taken_there schema formed most_levels there.front row there.last.name node below_is node_found shaped in

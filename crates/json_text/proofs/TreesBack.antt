@@ -6,7 +6,7 @@ use Rattle.serde_json.specs.Data.{Members}
 use Rattle.base_kinds.specs.declared.path.Elem.{Elem}
 use Rattle.base_kinds.specs.declared.operation.Row.{Row}
 use Rattle.base_kinds.specs.Schema.{SchemaNode}
-use Rattle.base_kinds.specs.Valid.{row_known, row_shaped, steps_from, same_path, child, has_key_leaf}
+use Rattle.base_kinds.specs.Valid.{row_has_nodes, row_has_type, path_steps_from, same_path, child, has_key_leaf}
 use Rattle.base_kinds.specs.Keys.{key_text}
 use Rattle.std.proofs.lemmas.Slice.Eq.{bytes_eq-Decides}
 use Rattle.history_laws.proofs.Values.{same_path as equal_paths}
@@ -24,12 +24,12 @@ use Rattle.json_text.proofs.Below.{Good}
 use Rattle.json_text.proofs.Levels.{object_back}
 use Rattle.json_text.proofs.InOrder.{in_order_again}
 
-pub all_good : (schema : List SchemaNode) (here : List Elem) (rows : List Row) → AllByRecursion (λ row. IsBelow here row.path) rows → list_all (row_known schema) rows ≡ true → list_all (row_shaped schema) rows ≡ true → list_all (row_ordered schema) rows ≡ true → AllByRecursion (λ row. IsWhole row.value) rows
+pub all_good : (schema : List SchemaNode) (here : List Elem) (rows : List Row) → AllByRecursion (λ row. IsBelow here row.path) rows → list_all (row_has_nodes schema) rows ≡ true → list_all (row_has_type schema) rows ≡ true → list_all (row_ordered schema) rows ≡ true → AllByRecursion (λ row. IsWhole row.value) rows
     → AllByRecursion (Good schema most_levels here) rows
 all_good schema here [] below known shaped outside whole = tt
 all_good schema here (row ∷ rows) below known shaped outside whole =
-    let k = and_parts (row_known schema row) (list_all (row_known schema) rows) known in
-    let s = and_parts (row_shaped schema row) (list_all (row_shaped schema) rows) shaped in
+    let k = and_parts (row_has_nodes schema row) (list_all (row_has_nodes schema) rows) known in
+    let s = and_parts (row_has_type schema row) (list_all (row_has_type schema) rows) shaped in
     let o = and_parts (row_ordered schema row) (list_all (row_ordered schema) rows) outside in (
       record { elem = below.0.elem; rest = below.0.rest; is = below.0.is; short = below.0.few; known = k.0; shaped = s.0; ordered = o.0; kept = whole.0 },
       all_good schema here rows below.1 k.1 s.1 o.1 whole.1,
@@ -50,10 +50,10 @@ has_keys rows place (key ∷ keys) all =
     let both = and_parts (same_path there.0.path (child place key.0)) (bytes_eq (key_text there.0.value) key.1) there.2 in
     ((there.0, there.1, equal_paths there.0.path (child place key.0) both.0, (bytes_eq-Decides (key_text there.0.value) key.1).0 both.1), has_keys rows place keys parts.1)
 
-keyed_from : (rows : List Row) (front es : List Elem) → list_all (λ (step : List Elem × Elem). list_all (has_key_leaf rows step.0) step.1.keys) (steps_from front es) ≡ true → KeyedFrom rows front es
+keyed_from : (rows : List Row) (front es : List Elem) → list_all (λ (step : List Elem × Elem). list_all (has_key_leaf rows step.0) step.1.keys) (path_steps_from front es) ≡ true → KeyedFrom rows front es
 keyed_from rows front [] all = tt
 keyed_from rows front (e ∷ es) all =
-    let parts = and_parts (list_all (has_key_leaf rows (front ++ e ∷ [])) e.keys) (list_all (λ (step : List Elem × Elem). list_all (has_key_leaf rows step.0) step.1.keys) (steps_from (front ++ e ∷ []) es)) all in
+    let parts = and_parts (list_all (has_key_leaf rows (front ++ e ∷ [])) e.keys) (list_all (λ (step : List Elem × Elem). list_all (has_key_leaf rows step.0) step.1.keys) (path_steps_from (front ++ e ∷ []) es)) all in
     (has_keys rows (front ++ e ∷ []) e.keys parts.0, keyed_from rows (front ++ e ∷ []) es parts.1)
 
 pub all_keyed_behind : (rows : List Row) (here : List Elem) (some : List Row) → list_all (keyed_behind rows here) some ≡ true → AllByRecursion (λ row. KeyedFrom rows here (drop (length here) row.path)) some

@@ -14,7 +14,7 @@ use Rattle.base_kinds.specs.Paths.{path_cmp}
 use Rattle.base_kinds.specs.Parts.{is_covered, part}
 use Rattle.base_kinds.specs.Legal.{is_fit_elem, is_fit_path, is_fit_value}
 use Rattle.base_kinds.specs.Schema.{SchemaNode, names_of, node_of, node_at}
-use Rattle.base_kinds.specs.Valid.{if_some, same_path, has_key_leaf, row_shaped, is_leafy, has_just_keys, steps, step_known}
+use Rattle.base_kinds.specs.Valid.{if_some, same_path, has_key_leaf, row_has_type, is_leafy, has_just_keys, path_steps, step_has_node}
 use Rattle.history_laws.specs.Rising.{row_cmp, IsRising}
 use Rattle.history_laws.proofs.PathOrder.{path_total}
 use Rattle.history_laws.proofs.Values.{same_path as is_path_same}
@@ -54,9 +54,9 @@ none_equal xs [] same some = absurd (some refl)
 none_equal [] (y ∷ ys) same some = absurd (let no : 0 ≡ length (y ∷ ys) = eqb-true 0 (length (y ∷ ys)) same in omega arith)
 none_equal (x ∷ xs) (y ∷ ys) same some = grind arith
 
-module _ (schema : List SchemaNode) (formed : IsWellFormed schema) (above : List Elem) (last : Elem) (node : SchemaNode) (found : node_at schema (above ++ last ∷ []) ≡ Some node) (known : list_all (step_known schema) (steps (above ++ last ∷ [])) ≡ true) where
+module _ (schema : List SchemaNode) (formed : IsWellFormed schema) (above : List Elem) (last : Elem) (node : SchemaNode) (found : node_at schema (above ++ last ∷ []) ≡ Some node) (known : list_all (step_has_node schema) (path_steps (above ++ last ∷ [])) ≡ true) where
   just_keys : has_just_keys last node.keys ≡ true
-  just_keys = sym (ap (λ (o : Option SchemaNode). if_some o (λ n. has_just_keys last n.keys)) found) ∙ front_passes (step_known schema) [] above last [] known
+  just_keys = sym (ap (λ (o : Option SchemaNode). if_some o (λ n. has_just_keys last n.keys)) found) ∙ front_passes (step_has_node schema) [] above last [] known
 
   as_many : (length last.keys == length node.keys) ≡ true
   as_many = (and_parts (length last.keys == length node.keys) _ just_keys).0
@@ -67,10 +67,10 @@ module _ (schema : List SchemaNode) (formed : IsWellFormed schema) (above : List
   keyed_last : is_list_node node ≡ true → ends_plain (above ++ last ∷ []) ≡ false
   keyed_last list = ends_plain-last above last ∙ none_equal last.keys node.keys as_many ((formed_node schema formed (names_of (above ++ last ∷ [])) node found).keyed list)
 
-plain_end : (schema : List SchemaNode) → IsWellFormed schema → (elem : Elem) (elems : List Elem) (node : SchemaNode) → node_at schema (elem ∷ elems) ≡ Some node → list_all (step_known schema) (steps (elem ∷ elems)) ≡ true → is_list_node node ≡ false → ends_plain (elem ∷ elems) ≡ true
+plain_end : (schema : List SchemaNode) → IsWellFormed schema → (elem : Elem) (elems : List Elem) (node : SchemaNode) → node_at schema (elem ∷ elems) ≡ Some node → list_all (step_has_node schema) (path_steps (elem ∷ elems)) ≡ true → is_list_node node ≡ false → ends_plain (elem ∷ elems) ≡ true
 plain_end schema formed elem elems node found known outer =
     let there = last_of elem elems in
-    let known_there = subst (λ (p : List Elem). list_all (step_known schema) (steps p) ≡ true) there.is known in
+    let known_there = subst (λ (p : List Elem). list_all (step_has_node schema) (path_steps p) ≡ true) there.is known in
     ap ends_plain there.is ∙ plain_last schema formed there.front there.last node (ap (node_at schema) (sym there.is) ∙ found) known_there outer
 
 -- ---- a container or an entry
@@ -83,7 +83,7 @@ module _ (schema : List SchemaNode) (tree : List Row) (formed : IsWellFormed sch
       let here = above ++ entry ∷ [] in
       let rest = rest_of schema tree here instance row covered good in
       let path : row.path ≡ above ++ entry ∷ rest.0 = rest.1 ∙ append_assoc above (entry ∷ []) rest.0 in
-      let all = subst (λ (p : List Elem). list_all (λ step. list_all (has_key_leaf tree step.0) step.1.keys) (steps p) ≡ true) path good.keyed in
+      let all = subst (λ (p : List Elem). list_all (λ step. list_all (has_key_leaf tree step.0) step.1.keys) (path_steps p) ≡ true) path good.keyed in
       leaves_kept tree here instance.plain here [] entry.keys (sym (append-nil here)) (front_passes (λ step. list_all (has_key_leaf tree step.0) step.1.keys) [] above entry rest.0 all)
 
   entry_at : (above : List Elem) (entry : Elem) (node : SchemaNode) (rows : List Row) → node_at schema (above ++ entry ∷ []) ≡ Some node → node.sort ≡ sorts.List → ends_plain (above ++ entry ∷ []) ≡ false → IsPart schema (above ++ entry ∷ []) rows
@@ -107,7 +107,7 @@ module _ (schema : List SchemaNode) (tree : List Row) (formed : IsWellFormed sch
         inner = instance.inner;
         plain = subst (λ (p : List Elem). list_all is_plain_elem p ≡ true) at instance.plain;
         fit = subst (λ (p : List Elem). list_all is_fit_elem p ≡ true) at instance.fit;
-        known = subst (λ (p : List Elem). list_all (step_known schema) (steps p) ≡ true) at instance.known;
+        known = subst (λ (p : List Elem). list_all (step_has_node schema) (path_steps p) ≡ true) at instance.known;
       } in
       subst (λ (p : List Elem). ReadsBack schema p (part (p ∷ []) tree)) (sym at) (entry_back above entry there list)
 
@@ -132,12 +132,12 @@ module _ (schema : List SchemaNode) (tree : List Row) (formed : IsWellFormed sch
     found : node_at schema here ≡ Some node
     leafy : is_leafy node.sort ≡ true
     fit : list_all is_fit_elem here ≡ true
-    known : list_all (step_known schema) (steps here) ≡ true
+    known : list_all (step_has_node schema) (path_steps here) ≡ true
 
   leaf_path : (row : Row) → IsGood schema tree row → IsLeafPath row.path
   leaf_path row good =
       let path = (and_parts (is_fit_path row.path) (is_fit_value row.value) good.fit).0 in
-      let known = and_parts (if_some (node_at schema row.path) (λ node. is_leafy node.sort)) (list_all (step_known schema) (steps row.path)) good.known in
+      let known = and_parts (if_some (node_at schema row.path) (λ node. is_leafy node.sort)) (list_all (step_has_node schema) (path_steps row.path)) good.known in
       let there = some_of (node_at schema row.path) (λ node. is_leafy node.sort) known.0 in
       record { node = there.0; found = there.1; leafy = there.2; fit = (and_parts _ (list_all is_fit_elem row.path) path).1; known = known.1 }
 
@@ -149,11 +149,11 @@ module _ (schema : List SchemaNode) (tree : List Row) (formed : IsWellFormed sch
 
   module _ (here : List Elem) (plain : list_all is_plain_elem here ≡ true) (leaf : IsLeafPath here) where
     -- no row stands below a leaf
-    none_below : (rest path : List Elem) → path ≡ here ++ rest → list_all (step_known schema) (steps path) ≡ true → path ≡ here
+    none_below : (rest path : List Elem) → path ≡ here ++ rest → list_all (step_has_node schema) (path_steps path) ≡ true → path ≡ here
     none_below [] path at known = at ∙ append-nil here
     none_below (elem ∷ rest) path at known =
-        let all = subst (λ (p : List Elem). list_all (step_known schema) (steps p) ≡ true) at known in
-        let below = some_of (node_at schema (here ++ elem ∷ [])) (λ node. has_just_keys elem node.keys) (front_passes (step_known schema) [] here elem rest all) in
+        let all = subst (λ (p : List Elem). list_all (step_has_node schema) (path_steps p) ≡ true) at known in
+        let below = some_of (node_at schema (here ++ elem ∷ [])) (λ node. has_just_keys elem node.keys) (front_passes (step_has_node schema) [] here elem rest all) in
         let inner = inner_above schema formed (names_of here) elem.name leaf.node below.0 leaf.found (ap (node_of schema) (sym (names_below here elem)) ∙ below.1) in
         absurd (no_inner_leaf leaf.node.sort inner leaf.leafy)
 
@@ -170,16 +170,16 @@ module _ (schema : List SchemaNode) (tree : List Row) (formed : IsWellFormed sch
   outer_sort sorts.Container leafy = refl
   outer_sort sorts.List leafy = absurd (true≢false (sym leafy))
 
-  row_back : (here : List Elem) (row : Row) → IsLeafPath here → row.path ≡ here → row_shaped schema row ≡ true → IsWhole row.value → ReadsBack schema here (row ∷ [])
+  row_back : (here : List Elem) (row : Row) → IsLeafPath here → row.path ≡ here → row_has_type schema row ≡ true → IsWhole row.value → ReadsBack schema here (row ∷ [])
   row_back [] row leaf at shaped whole = no_root_node leaf.node leaf.found
   row_back (elem ∷ elems) row leaf at shaped whole =
       let plain = plain_end schema formed elem elems leaf.node leaf.found leaf.known (outer_sort leaf.node.sort leaf.leafy) in
       scalar_back_at schema elem elems leaf.node row formed leaf.found leaf.leafy plain at shaped whole
 
-  one_row : (here : List Elem) (rows : List Row) → IsLeafPath here → list_any (λ row. same_path row.path here) rows ≡ true → IsRising rows → AllByRecursion (λ row. row.path ≡ here) rows → list_all (row_shaped schema) rows ≡ true → AllByRecursion (λ row. IsWhole row.value) rows → ReadsBack schema here rows
+  one_row : (here : List Elem) (rows : List Row) → IsLeafPath here → list_any (λ row. same_path row.path here) rows ≡ true → IsRising rows → AllByRecursion (λ row. row.path ≡ here) rows → list_all (row_has_type schema) rows ≡ true → AllByRecursion (λ row. IsWhole row.value) rows → ReadsBack schema here rows
   unfolding IsStrictlySortedBy
   one_row here [] leaf some rising at shaped whole = absurd (true≢false (sym some))
-  one_row here (row ∷ []) leaf some rising at shaped whole = row_back here row leaf at.0 (and_parts (row_shaped schema row) true shaped).0 whole.0
+  one_row here (row ∷ []) leaf some rising at shaped whole = row_back here row leaf at.0 (and_parts (row_has_type schema row) true shaped).0 whole.0
   one_row here (row ∷ other ∷ others) leaf some rising at shaped whole =
       absurd (let no : Equal ≡ Less = sym (tied_itself path_total row.path) ∙ ap (path_cmp row.path) (at.0 ∙ sym at.1.0) ∙ rising.0.0 in cc)
 
@@ -194,7 +194,7 @@ module _ (schema : List SchemaNode) (tree : List Row) (formed : IsWellFormed sch
       (any_kept (λ row. same_path row.path here) keep tree kept at.there)
       (IsStrictlySortedBy-filter row_cmp keep tree is.rising)
       (all_kept (IsGood schema tree) (λ row. row.path ≡ here) keep tree (just_here here at.plain leaf) (all_rows_good schema tree formed is))
-      (kept_pass (row_shaped schema) keep tree root.shaped)
+      (kept_pass (row_has_type schema) keep tree root.shaped)
       (all_kept (λ row. IsWhole row.value) (λ row. IsWhole row.value) keep tree (λ row covered whole. whole) is.whole)
 
 pub valid_back : ValidTreesReadBack

@@ -13,9 +13,9 @@ use Rattle.std.proofs.lemmas.Slice.Eq.{bytes_eq-Decides}
 use Rattle.base_kinds.specs.declared.path.Elem.{Elem}
 use Rattle.base_kinds.specs.declared.operation.Row.{Row}
 use Rattle.base_kinds.specs.Paths.{text_cmp, key_cmp}
-use Rattle.base_kinds.specs.Match.{rests, fronts, key_matches, elem_matches, first_matches, matches, covers}
+use Rattle.base_kinds.specs.Match.{suffixes, prefixes, key_matches, elem_matches, first_matches, matches, covers}
 use Rattle.base_kinds.specs.Schema.{SchemaNode, names_of, same_names, node_of, node_at}
-use Rattle.base_kinds.specs.Valid.{if_some, same_path, child, has_key_leaf, row_keyed, row_shaped, is_leafy, has_just_keys, steps_from, steps, step_known, row_known, all_known, all_shaped, all_keyed, all_stand, all_refer, all_within}
+use Rattle.base_kinds.specs.Valid.{if_some, same_path, child, has_key_leaf, row_has_keys, row_has_type, is_leafy, has_just_keys, path_steps_from, path_steps, step_has_node, row_has_nodes, nodes_exist, types_hold, keys_hold, mandatory_present, leafrefs_resolve, max_elements_hold}
 use Rattle.base_kinds.specs.Keys.{key_text}
 use Rattle.base_kinds.specs.Parts.{is_covered, part}
 use Rattle.base_kinds.specs.declared.schema.Sort.{Sort}
@@ -236,46 +236,46 @@ module _ (schema : List SchemaNode) (formed : IsWellFormed schema) where
   some_ordered names elem None at fit known = known
   some_ordered names elem (Some node) at fit known = keys_ordered elem node.keys fit known (formed_node schema formed names node at).keys_differ
 
-  steps_ordered : (front path : List Elem) → list_all is_fit_elem path ≡ true → list_all (step_known schema) (steps_from front path) ≡ true → list_all (step_ordered schema) (steps_from front path) ≡ true
+  steps_ordered : (front path : List Elem) → list_all is_fit_elem path ≡ true → list_all (step_has_node schema) (path_steps_from front path) ≡ true → list_all (step_ordered schema) (path_steps_from front path) ≡ true
   steps_ordered front [] fit known = refl
   steps_ordered front (elem ∷ elems) fit known =
       let there = front ++ elem ∷ [] in
       let fits = and_parts (is_fit_elem elem) (list_all is_fit_elem elems) fit in
-      let knowns = and_parts (step_known schema (there, elem)) (list_all (step_known schema) (steps_from there elems)) known in
-      and_from (step_ordered schema (there, elem)) (list_all (step_ordered schema) (steps_from there elems)) (some_ordered (names_of there) elem (node_at schema there) refl fits.0 knowns.0) (steps_ordered there elems fits.1 knowns.1)
+      let knowns = and_parts (step_has_node schema (there, elem)) (list_all (step_has_node schema) (path_steps_from there elems)) known in
+      and_from (step_ordered schema (there, elem)) (list_all (step_ordered schema) (path_steps_from there elems)) (some_ordered (names_of there) elem (node_at schema there) refl fits.0 knowns.0) (steps_ordered there elems fits.1 knowns.1)
 
   below_root : (path : List Elem) → length path ≤ 32 → if_some (node_at schema path) (λ node. is_leafy node.sort) ≡ true → IsBelow [] path
   below_root [] few known = absurd (true≢false (sym known ∙ ap (λ (o : Option SchemaNode). if_some o (λ node. is_leafy node.sort)) (no_root schema formed)))
   below_root (elem ∷ elems) few known = record { elem = elem; rest = elems; is = refl; few = few }
 
-  rows_below : (rows : List Row) → list_all is_fit_row rows ≡ true → all_known schema rows ≡ true → AllByRecursion (λ row. IsBelow [] row.path) rows
+  rows_below : (rows : List Row) → list_all is_fit_row rows ≡ true → nodes_exist schema rows ≡ true → AllByRecursion (λ row. IsBelow [] row.path) rows
   rows_below [] fit known = tt
   rows_below (row ∷ rows) fit known =
       let fits = and_parts (is_fit_row row) (list_all is_fit_row rows) fit in
       let here = and_parts (is_fit_path row.path) (is_fit_value row.value) fits.0 in
       let few = leb-true (length row.path) 32 (and_parts (nat_le (length row.path) 32) (list_all is_fit_elem row.path) here.0).0 in
-      let knowns = and_parts (row_known schema row) (list_all (row_known schema) rows) known in
-      let leafy = (and_parts (if_some (node_at schema row.path) (λ node. is_leafy node.sort)) (list_all (step_known schema) (steps row.path)) knowns.0).0 in
+      let knowns = and_parts (row_has_nodes schema row) (list_all (row_has_nodes schema) rows) known in
+      let leafy = (and_parts (if_some (node_at schema row.path) (λ node. is_leafy node.sort)) (list_all (step_has_node schema) (path_steps row.path)) knowns.0).0 in
       (below_root row.path few leafy, rows_below rows fits.1 knowns.1)
 
-  rows_ordered : (rows : List Row) → list_all is_fit_row rows ≡ true → all_known schema rows ≡ true → list_all (row_ordered schema) rows ≡ true
+  rows_ordered : (rows : List Row) → list_all is_fit_row rows ≡ true → nodes_exist schema rows ≡ true → list_all (row_ordered schema) rows ≡ true
   rows_ordered [] fit known = refl
   rows_ordered (row ∷ rows) fit known =
       let fits = and_parts (is_fit_row row) (list_all is_fit_row rows) fit in
       let here = and_parts (is_fit_path row.path) (is_fit_value row.value) fits.0 in
       let elems = (and_parts (nat_le (length row.path) 32) (list_all is_fit_elem row.path) here.0).1 in
-      let knowns = and_parts (row_known schema row) (list_all (row_known schema) rows) known in
-      let all = (and_parts (if_some (node_at schema row.path) (λ node. is_leafy node.sort)) (list_all (step_known schema) (steps row.path)) knowns.0).1 in
+      let knowns = and_parts (row_has_nodes schema row) (list_all (row_has_nodes schema) rows) known in
+      let all = (and_parts (if_some (node_at schema row.path) (λ node. is_leafy node.sort)) (list_all (step_has_node schema) (path_steps row.path)) knowns.0).1 in
       and_from (row_ordered schema row) (list_all (row_ordered schema) rows) (steps_ordered [] row.path elems all) (rows_ordered rows fits.1 knowns.1)
 
 pub tree_is_part : (schema : List SchemaNode) (tree : List Row) → IsWellFormed schema → IsWholeTree schema tree → IsPart schema [] tree
 tree_is_part schema tree formed is =
-    let known = all_known schema tree in
-    let shaped = all_shaped schema tree in
-    let keyed = all_keyed tree in
-    let within = and_parts (known && shaped && keyed && all_stand schema tree && all_refer schema tree) (all_within schema tree) is.is_valid in
-    let referring = and_parts (known && shaped && keyed && all_stand schema tree) (all_refer schema tree) within.0 in
-    let standing = and_parts (known && shaped && keyed) (all_stand schema tree) referring.0 in
+    let known = nodes_exist schema tree in
+    let shaped = types_hold schema tree in
+    let keyed = keys_hold tree in
+    let within = and_parts (known && shaped && keyed && mandatory_present schema tree && leafrefs_resolve schema tree) (max_elements_hold schema tree) is.is_valid in
+    let referring = and_parts (known && shaped && keyed && mandatory_present schema tree) (leafrefs_resolve schema tree) within.0 in
+    let standing = and_parts (known && shaped && keyed) (mandatory_present schema tree) referring.0 in
     let keys = and_parts (known && shaped) keyed standing.0 in
     let both = and_parts known shaped keys.0 in
     record {
@@ -357,7 +357,7 @@ matches_itself elem =
 
 -- a pattern that begins with an element without wildcards goes on behind an element
 first_of : (first : Elem) (others path : List Elem) → bytes_eq first.name (codes "...") ≡ false → matches (first ∷ others) path ≡ first_matches first (matches others) path
-first_of first others path one = ap (λ b. cond b (list_any (matches others) (rests path)) (first_matches first (matches others) path)) one
+first_of first others path one = ap (λ b. cond b (list_any (matches others) (suffixes path)) (first_matches first (matches others) path)) one
 
 fronts_behind : (first elem : Elem) (others : List Elem) (paths : List (List Elem)) → bytes_eq first.name (codes "...") ≡ false → list_any (matches (first ∷ others)) (map (λ front. elem ∷ front) paths) ≡ true → (elem_matches first elem ≡ true) × (list_any (matches others) paths ≡ true)
 fronts_behind first elem others [] one is = absurd (true≢false (sym is))
@@ -392,7 +392,7 @@ covers_below [] [] plain = refl
 covers_below [] (elem ∷ rest) plain = refl
 covers_below (elem ∷ here) rest plain =
     let plains = and_parts (is_plain_elem elem) (list_all is_plain_elem here) plain in
-    or_right (matches (elem ∷ here) []) (list_any (matches (elem ∷ here)) (map (λ front. elem ∷ front) (fronts (here ++ rest)))) (fronts_on elem elem here (fronts (here ++ rest)) (plain_from elem plains.0).one (matches_itself elem) (covers_below here rest plains.1))
+    or_right (matches (elem ∷ here) []) (list_any (matches (elem ∷ here)) (map (λ front. elem ∷ front) (prefixes (here ++ rest)))) (fronts_on elem elem here (prefixes (here ++ rest)) (plain_from elem plains.0).one (matches_itself elem) (covers_below here rest plains.1))
 
 module _ (schema : List SchemaNode) where
   same_long : (a b : Elem) (found : Option SchemaNode) → if_some found (λ node. has_just_keys a node.keys) ≡ true → if_some found (λ node. has_just_keys b node.keys) ≡ true → length b.keys ≡ length a.keys
@@ -402,7 +402,7 @@ module _ (schema : List SchemaNode) where
       let other = eqb-true (length b.keys) (length node.keys) (and_parts (length b.keys == length node.keys) (list_all (λ key. list_any (λ pair. bytes_eq key pair.0) b.keys) node.keys) y).0 in
       other ∙ sym first
 
-  same_elem : (front : List Elem) (a b : Elem) → IsPlainElem a → is_fit_elem a ≡ true → is_fit_elem b ≡ true → elem_matches a b ≡ true → step_known schema (front ++ a ∷ [], a) ≡ true → step_known schema (front ++ b ∷ [], b) ≡ true → b ≡ a
+  same_elem : (front : List Elem) (a b : Elem) → IsPlainElem a → is_fit_elem a ≡ true → is_fit_elem b ≡ true → elem_matches a b ≡ true → step_has_node schema (front ++ a ∷ [], a) ≡ true → step_has_node schema (front ++ b ∷ [], b) ≡ true → b ≡ a
   same_elem front a b plain fit_a fit_b here known_a known_b =
       let both = and_parts (bytes_eq a.name (codes "*") || bytes_eq a.name b.name) (list_all (key_matches b) a.keys) here in
       let name : b.name ≡ a.name = sym ((bytes_eq-Decides a.name b.name).0 (second (bytes_eq a.name (codes "*")) (bytes_eq a.name b.name) both.0 plain.name)) in
@@ -415,7 +415,7 @@ module _ (schema : List SchemaNode) where
       λ i. record { name = name i; keys = keys i }
 
   -- the path is that of the instance, with more behind it
-  pub behind : (front here path : List Elem) → list_all is_plain_elem here ≡ true → list_all is_fit_elem here ≡ true → list_all is_fit_elem path ≡ true → list_all (step_known schema) (steps_from front here) ≡ true → list_all (step_known schema) (steps_from front path) ≡ true → covers here path ≡ true → (rest : List Elem) × (path ≡ here ++ rest)
+  pub behind : (front here path : List Elem) → list_all is_plain_elem here ≡ true → list_all is_fit_elem here ≡ true → list_all is_fit_elem path ≡ true → list_all (step_has_node schema) (path_steps_from front here) ≡ true → list_all (step_has_node schema) (path_steps_from front path) ≡ true → covers here path ≡ true → (rest : List Elem) × (path ≡ here ++ rest)
   behind front [] path plain fit fits known knowns covered = (path, refl)
   behind front (a ∷ here) [] plain fit fits known knowns covered =
       let one = (plain_from a (and_parts (is_plain_elem a) (list_all is_plain_elem here) plain).0).one in
@@ -426,13 +426,13 @@ module _ (schema : List SchemaNode) where
       let is_plain = plain_from a plains.0 in
       let fit_a = and_parts (is_fit_elem a) (list_all is_fit_elem here) fit in
       let fit_b = and_parts (is_fit_elem b) (list_all is_fit_elem path) fits in
-      let known_a = and_parts (step_known schema (front ++ a ∷ [], a)) (list_all (step_known schema) (steps_from (front ++ a ∷ []) here)) known in
-      let known_b = and_parts (step_known schema (front ++ b ∷ [], b)) (list_all (step_known schema) (steps_from (front ++ b ∷ []) path)) knowns in
+      let known_a = and_parts (step_has_node schema (front ++ a ∷ [], a)) (list_all (step_has_node schema) (path_steps_from (front ++ a ∷ []) here)) known in
+      let known_b = and_parts (step_has_node schema (front ++ b ∷ [], b)) (list_all (step_has_node schema) (path_steps_from (front ++ b ∷ []) path)) knowns in
       let none = first_of a here [] is_plain.one in
-      let later = second (matches (a ∷ here) []) (list_any (matches (a ∷ here)) (map (λ f. b ∷ f) (fronts path))) covered none in
-      let both = fronts_behind a b here (fronts path) is_plain.one later in
+      let later = second (matches (a ∷ here) []) (list_any (matches (a ∷ here)) (map (λ f. b ∷ f) (prefixes path))) covered none in
+      let both = fronts_behind a b here (prefixes path) is_plain.one later in
       let same : b ≡ a = same_elem front a b is_plain fit_a.0 fit_b.0 both.0 known_a.0 known_b.0 in
-      let known_on : list_all (step_known schema) (steps_from (front ++ a ∷ []) path) ≡ true = subst (λ (e : Elem). list_all (step_known schema) (steps_from (front ++ e ∷ []) path) ≡ true) same known_b.1 in
+      let known_on : list_all (step_has_node schema) (path_steps_from (front ++ a ∷ []) path) ≡ true = subst (λ (e : Elem). list_all (step_has_node schema) (path_steps_from (front ++ e ∷ []) path) ≡ true) same known_b.1 in
       let rest = behind (front ++ a ∷ []) here path plains.1 fit_a.1 fit_b.1 known_a.1 known_on both.1 in
       (rest.0, ap (λ (e : Elem). e ∷ path) same ∙ ap (λ (es : List Elem). a ∷ es) rest.1)
 
@@ -467,11 +467,11 @@ any_kept test keep [] goes is = is
 any_kept test keep (row ∷ rows) goes is =
     any_kept_at test (keep row) row (filter keep rows) (goes row) (elim (either_true (test row) (list_any test rows) is) [ inl w ↦ inl w | inr w ↦ inr (any_kept test keep rows goes w) ])
 
-later_steps : (test : List Elem × Elem → Bool) (front here rest : List Elem) → list_all test (steps_from front (here ++ rest)) ≡ true → list_all test (steps_from (front ++ here) rest) ≡ true
-later_steps test front [] rest all = subst (λ (path : List Elem). list_all test (steps_from path rest) ≡ true) (sym (append-nil front)) all
+later_steps : (test : List Elem × Elem → Bool) (front here rest : List Elem) → list_all test (path_steps_from front (here ++ rest)) ≡ true → list_all test (path_steps_from (front ++ here) rest) ≡ true
+later_steps test front [] rest all = subst (λ (path : List Elem). list_all test (path_steps_from path rest) ≡ true) (sym (append-nil front)) all
 later_steps test front (elem ∷ here) rest all =
-    let later = later_steps test (front ++ elem ∷ []) here rest (and_parts (test (front ++ elem ∷ [], elem)) (list_all test (steps_from (front ++ elem ∷ []) (here ++ rest))) all).1 in
-    subst (λ (path : List Elem). list_all test (steps_from path rest) ≡ true) (append_assoc front (elem ∷ []) here) later
+    let later = later_steps test (front ++ elem ∷ []) here rest (and_parts (test (front ++ elem ∷ [], elem)) (list_all test (path_steps_from (front ++ elem ∷ []) (here ++ rest))) all).1 in
+    subst (λ (path : List Elem). list_all test (path_steps_from path rest) ≡ true) (append_assoc front (elem ∷ []) here) later
 
 module _ (tree : List Row) (here : List Elem) (plain : list_all is_plain_elem here ≡ true) where
   pub covered_below : (more : List Elem) → is_covered (here ∷ []) (here ++ more) ≡ true
@@ -493,34 +493,34 @@ module _ (tree : List Row) (here : List Elem) (plain : list_all is_plain_elem he
       let both = and_parts (has_key_leaf tree front key) (list_all (has_key_leaf tree front) keys) all in
       and_from (has_key_leaf (part (here ∷ []) tree) front key) (list_all (has_key_leaf (part (here ∷ []) tree) front) keys) (leaf_kept front more key at both.0) (leaves_kept front more keys at both.1)
 
-  steps_kept : (front more rest : List Elem) → front ≡ here ++ more → list_all (λ step. list_all (has_key_leaf tree step.0) step.1.keys) (steps_from front rest) ≡ true → list_all (λ step. list_all (has_key_leaf (part (here ∷ []) tree) step.0) step.1.keys) (steps_from front rest) ≡ true
+  steps_kept : (front more rest : List Elem) → front ≡ here ++ more → list_all (λ step. list_all (has_key_leaf tree step.0) step.1.keys) (path_steps_from front rest) ≡ true → list_all (λ step. list_all (has_key_leaf (part (here ∷ []) tree) step.0) step.1.keys) (path_steps_from front rest) ≡ true
   steps_kept front more [] at all = refl
   steps_kept front more (elem ∷ rest) at all =
       let there = front ++ elem ∷ [] in
       let is : there ≡ here ++ (more ++ elem ∷ []) = ap (λ (f : List Elem). f ++ elem ∷ []) at ∙ append_assoc here more (elem ∷ []) in
-      let both = and_parts (list_all (has_key_leaf tree there) elem.keys) (list_all (λ step. list_all (has_key_leaf tree step.0) step.1.keys) (steps_from there rest)) all in
-      and_from (list_all (has_key_leaf (part (here ∷ []) tree) there) elem.keys) (list_all (λ step. list_all (has_key_leaf (part (here ∷ []) tree) step.0) step.1.keys) (steps_from there rest)) (leaves_kept there (more ++ elem ∷ []) elem.keys is both.0) (steps_kept there (more ++ elem ∷ []) rest is both.1)
+      let both = and_parts (list_all (has_key_leaf tree there) elem.keys) (list_all (λ step. list_all (has_key_leaf tree step.0) step.1.keys) (path_steps_from there rest)) all in
+      and_from (list_all (has_key_leaf (part (here ∷ []) tree) there) elem.keys) (list_all (λ step. list_all (has_key_leaf (part (here ∷ []) tree) step.0) step.1.keys) (path_steps_from there rest)) (leaves_kept there (more ++ elem ∷ []) elem.keys is both.0) (steps_kept there (more ++ elem ∷ []) rest is both.1)
 
-  row_kept : (row : Row) (rest : List Elem) → row.path ≡ here ++ rest → row_keyed tree row ≡ true → keyed_behind (part (here ∷ []) tree) here row ≡ true
+  row_kept : (row : Row) (rest : List Elem) → row.path ≡ here ++ rest → row_has_keys tree row ≡ true → keyed_behind (part (here ∷ []) tree) here row ≡ true
   row_kept row rest is all =
-      let split = subst (λ (p : List Elem). list_all (λ step. list_all (has_key_leaf tree step.0) step.1.keys) (steps_from [] p) ≡ true) is all in
+      let split = subst (λ (p : List Elem). list_all (λ step. list_all (has_key_leaf tree step.0) step.1.keys) (path_steps_from [] p) ≡ true) is all in
       let behind_here = later_steps (λ step. list_all (has_key_leaf tree step.0) step.1.keys) [] here rest split in
       let kept = steps_kept here [] rest (sym (append-nil here)) behind_here in
       let dropped : drop (length here) row.path ≡ rest = ap (λ (p : List Elem). drop (length here) p) is ∙ drop-append_seam here rest in
-      subst (λ (p : List Elem). list_all (λ step. list_all (has_key_leaf (part (here ∷ []) tree) step.0) step.1.keys) (steps_from here p) ≡ true) (sym dropped) kept
+      subst (λ (p : List Elem). list_all (λ step. list_all (has_key_leaf (part (here ∷ []) tree) step.0) step.1.keys) (path_steps_from here p) ≡ true) (sym dropped) kept
 
 -- what each row of the tree has
 pub record IsGood (schema : List SchemaNode) (tree : List Row) (row : Row) : Type 0 where
   pub fit : is_fit_row row ≡ true
-  pub known : row_known schema row ≡ true
-  pub keyed : row_keyed tree row ≡ true
+  pub known : row_has_nodes schema row ≡ true
+  pub keyed : row_has_keys tree row ≡ true
 
-each_good : (schema : List SchemaNode) (tree rows : List Row) → list_all is_fit_row rows ≡ true → list_all (row_known schema) rows ≡ true → list_all (row_keyed tree) rows ≡ true → AllByRecursion (IsGood schema tree) rows
+each_good : (schema : List SchemaNode) (tree rows : List Row) → list_all is_fit_row rows ≡ true → list_all (row_has_nodes schema) rows ≡ true → list_all (row_has_keys tree) rows ≡ true → AllByRecursion (IsGood schema tree) rows
 each_good schema tree [] fit known keyed = tt
 each_good schema tree (row ∷ rows) fit known keyed =
     let fits = and_parts (is_fit_row row) (list_all is_fit_row rows) fit in
-    let knowns = and_parts (row_known schema row) (list_all (row_known schema) rows) known in
-    let keys = and_parts (row_keyed tree row) (list_all (row_keyed tree) rows) keyed in
+    let knowns = and_parts (row_has_nodes schema row) (list_all (row_has_nodes schema) rows) known in
+    let keys = and_parts (row_has_keys tree row) (list_all (row_has_keys tree) rows) keyed in
     (record { fit = fits.0; known = knowns.0; keyed = keys.0 }, each_good schema tree rows fits.1 knowns.1 keys.1)
 
 pub all_rows_good : (schema : List SchemaNode) (tree : List Row) → IsWellFormed schema → IsWholeTree schema tree → AllByRecursion (IsGood schema tree) tree
@@ -537,13 +537,13 @@ module _ (schema : List SchemaNode) (tree : List Row) (here : List Elem) (instan
   rest_of row covered good =
       let path = (and_parts (is_fit_path row.path) (is_fit_value row.value) good.fit).0 in
       let elems = (and_parts (nat_le (length row.path) 32) (list_all is_fit_elem row.path) path).1 in
-      let known = (and_parts (if_some (node_at schema row.path) (λ node. is_leafy node.sort)) (list_all (step_known schema) (steps row.path)) good.known).1 in
+      let known = (and_parts (if_some (node_at schema row.path) (λ node. is_leafy node.sort)) (list_all (step_has_node schema) (path_steps row.path)) good.known).1 in
       let is : covers here row.path ≡ true = elim (either_true (covers here row.path) false covered) [ inl w ↦ w | inr w ↦ absurd (true≢false (sym w)) ] in
       behind schema [] here row.path instance.plain instance.fit elems instance.known known is
 
   below_at : (row : Row) (rest : List Elem) → row.path ≡ here ++ rest → IsGood schema tree row → IsBelow here row.path
   below_at row [] is good =
-      let leafy = (and_parts (if_some (node_at schema row.path) (λ node. is_leafy node.sort)) (list_all (step_known schema) (steps row.path)) good.known).0 in
+      let leafy = (and_parts (if_some (node_at schema row.path) (λ node. is_leafy node.sort)) (list_all (step_has_node schema) (path_steps row.path)) good.known).0 in
       let found : node_at schema row.path ≡ Some instance.node = ap (node_at schema) (is ∙ append-nil here) ∙ instance.found in
       absurd (no_inner_leaf instance.node.sort instance.inner (sym (ap (λ (o : Option SchemaNode). if_some o (λ node. is_leafy node.sort)) found) ∙ leafy))
   below_at row (elem ∷ rest) is good =
@@ -567,8 +567,8 @@ instance_is_part schema tree here formed is instance =
     record {
       below = all_kept (IsGood schema tree) (λ row. IsBelow here row.path) keep tree (below_here schema tree here instance) goods;
       rising = IsStrictlySortedBy-filter row_cmp keep tree is.rising;
-      known = kept_pass (row_known schema) keep tree root.known;
-      shaped = kept_pass (row_shaped schema) keep tree root.shaped;
+      known = kept_pass (row_has_nodes schema) keep tree root.known;
+      shaped = kept_pass (row_has_type schema) keep tree root.shaped;
       whole = all_kept (λ row. IsWhole row.value) (λ row. IsWhole row.value) keep tree (λ row covered whole. whole) is.whole;
       ordered = kept_pass (row_ordered schema) keep tree root.ordered;
       keyed = all_pass (keyed_behind (part (here ∷ []) tree) here) (part (here ∷ []) tree) (all_kept (IsGood schema tree) (λ row. keyed_behind (part (here ∷ []) tree) here row ≡ true) keep tree (keyed_here schema tree here instance) goods);

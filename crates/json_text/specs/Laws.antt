@@ -11,7 +11,7 @@ use Rattle.base_kinds.specs.declared.path.Elem.{Elem}
 use Rattle.base_kinds.specs.declared.operation.Row.{Row}
 use Rattle.base_kinds.specs.declared.schema.Sort.TheVariants as sorts
 use Rattle.base_kinds.specs.Schema.{SchemaNode, same_names, node_at}
-use Rattle.base_kinds.specs.Valid.{if_some, is_leafy, steps, steps_from, has_key_leaf, all_known, all_shaped, row_shaped}
+use Rattle.base_kinds.specs.Valid.{if_some, is_leafy, path_steps, path_steps_from, has_key_leaf, nodes_exist, types_hold, row_has_type}
 use Rattle.history_laws.specs.Rising.{IsRising}
 use Rattle.schema_core.specs.WellFormed.{IsWellFormed}
 use Rattle.base_kinds.specs.Legal.{is_fit_scalar}
@@ -53,11 +53,11 @@ abbrev pub step_ordered : List SchemaNode → List Elem × Elem → Bool
 step_ordered schema step = if_some (node_at schema step.0) (λ node. same_names (map (λ key. key.0) step.1.keys) (in_name_order [] node.keys))
 
 abbrev pub row_ordered : List SchemaNode → Row → Bool
-row_ordered schema row = list_all (step_ordered schema) (steps row.path)
+row_ordered schema row = list_all (step_ordered schema) (path_steps row.path)
 
 -- each element of the row's path behind the instance has its key leaves among the rows, and their key texts are the keys
 abbrev pub keyed_behind : List Row → List Elem → Row → Bool
-keyed_behind rows here row = list_all (λ step. list_all (has_key_leaf rows step.0) step.1.keys) (steps_from here (drop (length here) row.path))
+keyed_behind rows here row = list_all (λ step. list_all (has_key_leaf rows step.0) step.1.keys) (path_steps_from here (drop (length here) row.path))
 
 -- the path of a row below an instance
 pub record IsBelow (here path : List Elem) : Type 0 where
@@ -70,8 +70,8 @@ pub record IsBelow (here path : List Elem) : Type 0 where
 pub record IsPart (schema : List SchemaNode) (here : List Elem) (rows : List Row) : Type 0 where
   pub below : AllByRecursion (λ row. IsBelow here row.path) rows
   pub rising : IsRising rows
-  pub known : all_known schema rows ≡ true
-  pub shaped : all_shaped schema rows ≡ true
+  pub known : nodes_exist schema rows ≡ true
+  pub shaped : types_hold schema rows ≡ true
   pub whole : AllByRecursion (λ row. IsWhole row.value) rows
   pub ordered : list_all (row_ordered schema) rows ≡ true
   pub keyed : list_all (keyed_behind rows here) rows ≡ true
@@ -103,7 +103,7 @@ NoEntriesReadBack = (schema : List SchemaNode) (above : List Elem) (entry : Elem
 -- the JSON at the path of a leaf or a leaf-list means its row
 abbrev pub ScalarsReadBack : Type 0
 ScalarsReadBack = (schema : List SchemaNode) (elem : Elem) (elems : List Elem) (node : SchemaNode) (row : Row) → IsWellFormed schema → node_at schema (elem ∷ elems) ≡ Some node → is_leafy node.sort ≡ true → ends_plain (elem ∷ elems) ≡ true
-    → row.path ≡ elem ∷ elems → row_shaped schema row ≡ true → IsWhole row.value → ReadsBack schema (elem ∷ elems) (row ∷ [])
+    → row.path ≡ elem ∷ elems → row_has_type schema row ≡ true → IsWhole row.value → ReadsBack schema (elem ∷ elems) (row ∷ [])
 
 -- a leaf's JSON means its value
 abbrev pub LeavesReadBack : Type 0

@@ -5,7 +5,7 @@ use Rattle.std.specs.Str.{bytes_eq}
 use Rattle.base_kinds.specs.declared.path.Elem.{Elem}
 use Rattle.base_kinds.specs.declared.operation.Row.{Row}
 use Rattle.base_kinds.specs.Schema.{SchemaNode, node_at}
-use Rattle.base_kinds.specs.Valid.{steps, step_known, has_row, valid}
+use Rattle.base_kinds.specs.Valid.{path_steps, step_has_node, has_row, valid}
 use Rattle.base_kinds.specs.Legal.{is_fit_elem, is_fit_row}
 use Rattle.base_kinds.specs.Parts.{part}
 use Rattle.history_laws.specs.Rising.{IsRising}
@@ -31,7 +31,7 @@ pub record IsInstance (schema : List SchemaNode) (here : List Elem) : Type 0 whe
   pub inner : is_inner node.sort ≡ true
   pub plain : list_all is_plain_elem here ≡ true
   pub fit : list_all is_fit_elem here ≡ true
-  pub known : list_all (step_known schema) (steps here) ≡ true
+  pub known : list_all (step_has_node schema) (path_steps here) ≡ true
 
 -- the path of a leaf or a leaf-list that has a row in the tree: it has no wildcards
 pub record IsRowPath (tree : List Row) (here : List Elem) : Type 0 where

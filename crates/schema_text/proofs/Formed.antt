@@ -84,9 +84,9 @@ no_fault : (line : ℕ) (fault : Option Cause) (others : Option SchemaFault) →
 no_fault line None others is = (refl, is)
 no_fault line (Some cause) others is = absurd (cc)
 
-all_keyed : (keyed targeted : Bool) → cond (not keyed) (Some NoKey) (cond (not targeted) (Some BadRef) None) ≡ None → keyed ≡ true
-all_keyed true targeted is = refl
-all_keyed false targeted is = absurd (cc)
+keys_hold : (keyed targeted : Bool) → cond (not keyed) (Some NoKey) (cond (not targeted) (Some BadRef) None) ≡ None → keyed ≡ true
+keys_hold true targeted is = refl
+keys_hold false targeted is = absurd (cc)
 
 -- each node has its key leaves
 abbrev HasKeys : List SchemaNode → SchemaNode → Type 0
@@ -97,7 +97,7 @@ keys_there all [] lines long none = tt
 keys_there all (node ∷ nodes) [] long none = absurd (omega arith)
 keys_there all (node ∷ nodes) (line ∷ lines) long none =
     let both = no_fault line (node_fault all node) (first_fault all nodes lines) none in
-    (all_keyed (list_all (has_key_leaf all node) node.keys) (has_target all node.shape node.reference) both.0, keys_there all nodes lines (omega arith) both.1)
+    (keys_hold (list_all (has_key_leaf all node) node.keys) (has_target all node.shape node.reference) both.0, keys_there all nodes lines (omega arith) both.1)
 
 leaf_there : (found : Option SchemaNode) (module_name : List ℕ) → if_some found (λ node. is_leaf node.sort && bytes_eq node.module_name module_name) ≡ true → if_some found (λ node. is_leaf node.sort) ≡ true
 leaf_there None module_name is = is

@@ -2,7 +2,7 @@ use crate::examples::{HOSTNAME, HOSTNAME_PRINTED, SCHEMA};
 use base_kinds::Limits;
 use schema_core::Schema;
 use schema_text::read_schema;
-use script_session::{Transcript, run_script};
+use script_run::{Transcript, run_script};
 use std::alloc::Global;
 use std::process::Abort;
 use std::test::Fail;

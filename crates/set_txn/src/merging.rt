@@ -14,7 +14,7 @@ use base_kinds::{Copied, NoMemory, Path, Row, Rows, Seq, Value};
 use path_core::cmp_paths;
 use std::alloc::Global;
 use std::cmp::Ordering;
-use value_order::same_scalar;
+use scalar_order::same_scalar;
 
 /// Whether the rows have no other value at a key leaf than the path's key spells.
 pub(crate) fn keys_agree(keys: &[Row], rows: &[Row]) -> bool

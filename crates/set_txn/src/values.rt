@@ -15,7 +15,7 @@ use base_kinds::{
 use json_rows::{RowsFault, rows_of};
 use schema_core::Schema;
 use std::alloc::Global;
-use value_order::all_differ;
+use scalar_order::all_differ;
 
 /// The rows of the value, rising by path.
 pub(crate) fn value_told(

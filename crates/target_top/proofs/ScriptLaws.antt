@@ -4,7 +4,7 @@ use Rattle.base_kinds.specs.declared.entry.Limits.{Limits}
 use Rattle.base_kinds.specs.Schema.{SchemaNode}
 use Rattle.schema_text.specs.declared.cause.SchemaFault.{SchemaFault}
 use Rattle.schema_text.specs.Schemas.{schema_of}
-use Rattle.script_session.proofs.ScriptLaws.{prints_one_text as script_prints_one_text}
+use Rattle.script_run.proofs.ScriptLaws.{prints_one_text as script_prints_one_text}
 use Rattle.target_top.specs.ScriptRuns.{RunsUnder, Runs}
 
 under_reading : (read : Result (List SchemaNode) SchemaFault) (limits : Limits) (script text text' : List ℕ) (status status' : ℕ) → RunsUnder read limits script text status → RunsUnder read limits script text' status' → (text ≡ text') × (status ≡ status')

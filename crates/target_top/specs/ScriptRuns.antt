@@ -8,7 +8,7 @@ use Rattle.schema_text.specs.declared.cause.SchemaFault.{SchemaFault}
 use Rattle.schema_text.specs.Schemas.{schema_of}
 use Rattle.target_top.specs.Checks.{verdict_line}
 use Rattle.target_top.specs.Runs.{Takes, AppendsFront}
-use Rattle.script_session.specs.Scripts.{RunsScript}
+use Rattle.script_run.specs.Scripts.{RunsScript}
 
 -- under a schema a script runs; of a text that is none its first fault is told, as the check of a schema tells it
 abbrev pub RunsUnder : Result (List SchemaNode) SchemaFault → Limits → List ℕ → List ℕ → ℕ → Type 0

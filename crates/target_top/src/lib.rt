@@ -4,7 +4,7 @@
 mod check;
 mod files;
 mod laws;
-mod script_run;
+mod script_command;
 mod status;
 mod top;
 mod words;

@@ -9,7 +9,7 @@ ghost use Rattle.target_top.specs.ScriptRuns.{OfText, CouldNotRead, AppendsRun, 
 
 use crate::check::check;
 use crate::files::Files;
-use crate::script_run::script;
+use crate::script_command::script;
 use crate::status::{BAD_WORDS, say};
 use crate::words::{checked_name, script_words};
 use edge_traits::{Sink, Source};

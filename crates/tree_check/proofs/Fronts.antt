@@ -14,7 +14,7 @@ use Rattle.base_kinds.specs.declared.path.Elem.{Elem}
 use Rattle.base_kinds.specs.declared.operation.Row.{Row}
 use Rattle.base_kinds.specs.Paths.{path_cmp, elem_cmp}
 use Rattle.base_kinds.specs.Schema.{names_of, same_names}
-use Rattle.base_kinds.specs.Valid.{parents, parents_from, above}
+use Rattle.base_kinds.specs.Valid.{ancestors, ancestors_from, parent_of}
 use Rattle.history_laws.specs.Rising.{IsRising}
 use Rattle.tree_check.specs.Entries.{is_below, entry_of, entries_along}
 
@@ -32,7 +32,7 @@ has_names names instance = same_names (names_of instance) names
 one_longer : (front : List Elem) (elem : Elem) → length (front ++ elem ∷ []) ≡ length front + 1
 one_longer front elem = length-append front (elem ∷ [])
 
-none_longer : (names : List (List ℕ)) (front elems : List Elem) → length names < length front → filter (has_names names) (parents_from front elems) ≡ []
+none_longer : (names : List (List ℕ)) (front elems : List Elem) → length names < length front → filter (has_names names) (ancestors_from front elems) ≡ []
 none_longer names front [] longer = refl
 none_longer names front (elem ∷ elems) longer =
     let here : same_names (names_of front) names ≡ false = other_length front names (λ same. omega (arith, same)) in
@@ -63,7 +63,7 @@ below_front names front elem elems same =
     listed true = refl
     listed false = refl
 
-of_front : (names : List (List ℕ)) (front elems : List Elem) → length front ≤ length names → filter (has_names names) (parents_from front elems) ≡ option_to_list (entry_of names (front ++ elems))
+of_front : (names : List (List ℕ)) (front elems : List Elem) → length front ≤ length names → filter (has_names names) (ancestors_from front elems) ≡ option_to_list (entry_of names (front ++ elems))
 of_front names front [] short = sym (ap option_to_list (not_below names (front ++ []) (subst (λ path. length path ≤ length names) (sym (append-nil front)) short)))
 of_front names front (elem ∷ elems) short =
     let one = one_longer front elem in
@@ -78,11 +78,11 @@ of_front names front (elem ∷ elems) short =
     (cases_lt (length front) (length names))
 
 -- the instances with these names that rows stand below are the entries that come up along them
-pub come_up : (names : List (List ℕ)) (rows : List Row) → filter (has_names names) (flat_map (λ row. parents row.path) rows) ≡ entries_along names rows
+pub come_up : (names : List (List ℕ)) (rows : List Row) → filter (has_names names) (flat_map (λ row. ancestors row.path) rows) ≡ entries_along names rows
 come_up names [] = refl
 come_up names (row ∷ rows) =
-    filter-append (has_names names) (parents row.path) (flat_map (λ row. parents row.path) rows)
-    ∙ ap (λ entries. entries ++ filter (has_names names) (flat_map (λ row. parents row.path) rows)) (of_front names [] row.path (omega arith))
+    filter-append (has_names names) (ancestors row.path) (flat_map (λ row. ancestors row.path) rows)
+    ∙ ap (λ entries. entries ++ filter (has_names names) (flat_map (λ row. ancestors row.path) rows)) (of_front names [] row.path (omega arith))
     ∙ ap (λ entries. option_to_list (entry_of names row.path) ++ entries) (come_up names rows)
 
 -- ---- the order of the entries
@@ -100,7 +100,7 @@ front_order [] (y ∷ ys) (suc n) le = refl
 front_order (x ∷ xs) [] (suc n) le = absurd (true≢false le)
 front_order (x ∷ xs) (y ∷ ys) (suc n) le = then_not_above (elem_cmp x y) (path_cmp xs ys) (path_cmp (take n xs) (take n ys)) (front_order xs ys n) le
 
-above_take : (path : List Elem) (n : ℕ) → n < length path → above (take (suc n) path) ≡ take n path
+above_take : (path : List Elem) (n : ℕ) → n < length path → parent_of (take (suc n) path) ≡ take n path
 above_take [] n less = absurd (omega arith)
 above_take (a ∷ path) zero less = refl
 above_take (a ∷ []) (suc n) less = absurd (omega arith)
@@ -109,13 +109,13 @@ above_take (a ∷ b ∷ path) (suc n) less = ap (λ rest. a ∷ rest) (above_tak
 -- the path comes no later than each of these, and what is above it no later than what is above them
 abbrev pub Leads : List Elem → List (List Elem) → Type 0
 Leads path [] = Unit {0}
-Leads path (other ∷ others) = (is_gt (path_cmp path other) ≡ false) × ((is_gt (path_cmp (above path) (above other)) ≡ false) × Leads path others)
+Leads path (other ∷ others) = (is_gt (path_cmp path other) ≡ false) × ((is_gt (path_cmp (parent_of path) (parent_of other)) ≡ false) × Leads path others)
 
 abbrev pub AreInOrder : List (List Elem) → Type 0
 AreInOrder [] = Unit {0}
 AreInOrder (path ∷ paths) = Leads path paths × AreInOrder paths
 
-parents_order : (a b : List Elem) (n : ℕ) → n ≤ length a → n ≤ length b → is_gt (path_cmp a b) ≡ false → is_gt (path_cmp (above (take n a)) (above (take n b))) ≡ false
+parents_order : (a b : List Elem) (n : ℕ) → n ≤ length a → n ≤ length b → is_gt (path_cmp a b) ≡ false → is_gt (path_cmp (parent_of (take n a)) (parent_of (take n b))) ≡ false
 parents_order a b zero in_a in_b le = refl
 parents_order a b (suc n) in_a in_b le = rw (above_take a n (omega arith), above_take b n (omega arith)) (front_order a b n le)
 
@@ -144,13 +144,13 @@ in_order names (row ∷ rows) rising = by_test (is_below names row.path) refl (i
 
 -- ---- what is above a path
 
-pub above_last : (path front : List Elem) (elem : Elem) → path ≡ front ++ elem ∷ [] → above path ≡ front
+pub above_last : (path front : List Elem) (elem : Elem) → path ≡ front ++ elem ∷ [] → parent_of path ≡ front
 above_last path front elem is = rw is (last front elem)
   where
-    last : (front : List Elem) (elem : Elem) → above (front ++ elem ∷ []) ≡ front
+    last : (front : List Elem) (elem : Elem) → parent_of (front ++ elem ∷ []) ≡ front
     last [] elem = refl
     last (a ∷ []) elem = refl
     last (a ∷ b ∷ front) elem = ap (λ rest. a ∷ rest) (last (b ∷ front) elem)
 
-pub above_none : (path : List Elem) → path ≡ [] → above path ≡ []
+pub above_none : (path : List Elem) → path ≡ [] → parent_of path ≡ []
 above_none path is = rw is refl

@@ -12,7 +12,7 @@ use Rattle.std.proofs.lemmas.Cmp.{tied_itself}
 use Rattle.base_kinds.specs.declared.path.Elem.{Elem}
 use Rattle.base_kinds.specs.declared.operation.Row.{Row}
 use Rattle.base_kinds.specs.Paths.{path_cmp}
-use Rattle.base_kinds.specs.Valid.{same_path, above, each_once, entries_of, few_beside}
+use Rattle.base_kinds.specs.Valid.{same_path, parent_of, each_once, entries_of, few_beside}
 use Rattle.history_laws.specs.Rising.{IsRising}
 use Rattle.history_laws.proofs.PathOrder.{path_total, exact_paths}
 use Rattle.tree_check.specs.Entries.{entry_of, count_after, few_behind, entries_along}
@@ -87,44 +87,44 @@ once path (other ∷ paths) order = by_test (same_path path other) refl (once ot
 -- ---- how many of the paths stand in an instance
 
 abbrev pub beside : List Elem → List (List Elem) → ℕ
-beside parent paths = length (filter (λ other. same_path (above other) parent) paths)
+beside parent paths = length (filter (λ other. same_path (parent_of other) parent) paths)
 
-beside_own : (path : List Elem) (paths : List (List Elem)) → beside (above path) (path ∷ paths) ≡ suc (beside (above path) paths)
-beside_own path paths = let own = same_itself (above path) in rw own refl
+beside_own : (path : List Elem) (paths : List (List Elem)) → beside (parent_of path) (path ∷ paths) ≡ suc (beside (parent_of path) paths)
+beside_own path paths = let own = same_itself (parent_of path) in rw own refl
 
 all_same : (f g : List Elem → Bool) (paths : List (List Elem)) → ((path : List Elem) → f path ≡ g path) → list_all f paths ≡ list_all g paths
 all_same f g [] same = refl
 all_same f g (path ∷ paths) same = let here = same path in let rest = all_same f g paths same in rw (here, rest) refl
 
 -- where there is room for one more beside the first, each of the others has as many beside it as before, or room for one more
-one_more : (most : ℕ) (first path : List Elem) (paths : List (List Elem)) → nat_le (suc (beside (above first) paths)) most ≡ true → nat_le (beside (above path) (first ∷ paths)) most ≡ nat_le (beside (above path) paths) most
-one_more most first path paths room = by_test (same_path (above first) (above path)) refl
+one_more : (most : ℕ) (first path : List Elem) (paths : List (List Elem)) → nat_le (suc (beside (parent_of first) paths)) most ≡ true → nat_le (beside (parent_of path) (first ∷ paths)) most ≡ nat_le (beside (parent_of path) paths) most
+one_more most first path paths room = by_test (same_path (parent_of first) (parent_of path)) refl
   where
-    by_test : (test : Bool) → same_path (above first) (above path) ≡ test → nat_le (length (cond test (first ∷ filter (λ other. same_path (above other) (above path)) paths) (filter (λ other. same_path (above other) (above path)) paths))) most ≡ nat_le (beside (above path) paths) most
+    by_test : (test : Bool) → same_path (parent_of first) (parent_of path) ≡ test → nat_le (length (cond test (first ∷ filter (λ other. same_path (parent_of other) (parent_of path)) paths) (filter (λ other. same_path (parent_of other) (parent_of path)) paths))) most ≡ nat_le (beside (parent_of path) paths) most
     by_test true is =
-        let parent = same_is (above first) (above path) is in
-        let more : nat_le (suc (beside (above path) paths)) most ≡ true = subst (λ p. nat_le (suc (beside p paths)) most ≡ true) parent room in
-        more ∙ sym (le-leb (beside (above path) paths) most (omega (arith, leb-true (suc (beside (above path) paths)) most more)))
+        let parent = same_is (parent_of first) (parent_of path) is in
+        let more : nat_le (suc (beside (parent_of path) paths)) most ≡ true = subst (λ p. nat_le (suc (beside p paths)) most ≡ true) parent room in
+        more ∙ sym (le-leb (beside (parent_of path) paths) most (omega (arith, leb-true (suc (beside (parent_of path) paths)) most more)))
     by_test false is = refl
 
-few_more : (most : ℕ) (path : List Elem) (paths : List (List Elem)) → few_beside most (path ∷ paths) ≡ (nat_le (suc (beside (above path) paths)) most && few_beside most paths)
+few_more : (most : ℕ) (path : List Elem) (paths : List (List Elem)) → few_beside most (path ∷ paths) ≡ (nat_le (suc (beside (parent_of path) paths)) most && few_beside most paths)
 few_more most path paths =
-    ap (λ n. nat_le n most && list_all (λ other. nat_le (beside (above other) (path ∷ paths)) most) paths) (beside_own path paths)
-    ∙ by_test (nat_le (suc (beside (above path) paths)) most) refl
+    ap (λ n. nat_le n most && list_all (λ other. nat_le (beside (parent_of other) (path ∷ paths)) most) paths) (beside_own path paths)
+    ∙ by_test (nat_le (suc (beside (parent_of path) paths)) most) refl
   where
-    by_test : (test : Bool) → nat_le (suc (beside (above path) paths)) most ≡ test → (test && list_all (λ other. nat_le (beside (above other) (path ∷ paths)) most) paths) ≡ (test && few_beside most paths)
-    by_test true is = all_same (λ other. nat_le (beside (above other) (path ∷ paths)) most) (λ other. nat_le (beside (above other) paths) most) paths (λ other. one_more most path other paths is)
+    by_test : (test : Bool) → nat_le (suc (beside (parent_of path) paths)) most ≡ test → (test && list_all (λ other. nat_le (beside (parent_of other) (path ∷ paths)) most) paths) ≡ (test && few_beside most paths)
+    by_test true is = all_same (λ other. nat_le (beside (parent_of other) (path ∷ paths)) most) (λ other. nat_le (beside (parent_of other) paths) most) paths (λ other. one_more most path other paths is)
     by_test false is = refl
 
 -- what comes no earlier than a path of another parent has that other parent nowhere
-none_beside : (last path before : List Elem) (paths : List (List Elem)) → same_path (above last) (above path) ≡ false → is_gt (path_cmp (above last) (above path)) ≡ false → Leads path paths → beside (above last) (after before paths) ≡ 0
+none_beside : (last path before : List Elem) (paths : List (List Elem)) → same_path (parent_of last) (parent_of path) ≡ false → is_gt (path_cmp (parent_of last) (parent_of path)) ≡ false → Leads path paths → beside (parent_of last) (after before paths) ≡ 0
 none_beside last path before [] other le order = refl
 none_beside last path before (next ∷ paths) other le order = by_test (same_path before next) (none_beside last path next paths other le order.1.1)
   where
-    by_test : (test : Bool) → beside (above last) (after next paths) ≡ 0 → beside (above last) (cond test (after next paths) (next ∷ after next paths)) ≡ 0
+    by_test : (test : Bool) → beside (parent_of last) (after next paths) ≡ 0 → beside (parent_of last) (cond test (after next paths) (next ∷ after next paths)) ≡ 0
     by_test true rest = rest
     by_test false rest =
-        let here = apart_back (above last) (above next) (apart (above last) (above path) (above next) other le order.1.0) in
+        let here = apart_back (parent_of last) (parent_of next) (apart (parent_of last) (parent_of path) (parent_of next) other le order.1.0) in
         rw here rest
 
 -- ---- counting along the paths
@@ -142,41 +142,41 @@ other_parent count most beside rest = grind (arith, nat_tests)
 at_end : (count most : ℕ) → (nat_le count most && true) ≡ (nat_le (count + 0) most && true)
 at_end count most = grind (arith, nat_tests)
 
-counts : (last path : List Elem) (count : ℕ) → 1 ≤ count → count_after last count path ≡ cond (same_path last path) count (cond (same_path (above last) (above path)) (count + 1) 1)
+counts : (last path : List Elem) (count : ℕ) → 1 ≤ count → count_after last count path ≡ cond (same_path last path) count (cond (same_path (parent_of last) (parent_of path)) (count + 1) 1)
 counts last path count some = let none : (count == 0) ≡ false = ne_eqb count 0 (λ is. omega arith) in rw none refl
 
-counted : (most : ℕ) (last : List Elem) (count : ℕ) (paths : List (List Elem)) → 1 ≤ count → AreInOrder (last ∷ paths) → (nat_le count most && few_behind most last count paths) ≡ (nat_le (count + beside (above last) (after last paths)) most && few_beside most (after last paths))
+counted : (most : ℕ) (last : List Elem) (count : ℕ) (paths : List (List Elem)) → 1 ≤ count → AreInOrder (last ∷ paths) → (nat_le count most && few_behind most last count paths) ≡ (nat_le (count + beside (parent_of last) (after last paths)) most && few_beside most (after last paths))
 counted most last count [] some order = at_end count most
 counted most last count (path ∷ paths) some order =
     ap (λ n. nat_le count most && (nat_le n most && few_behind most path n paths)) (counts last path count some)
     ∙ by_test (same_path last path) refl (λ n more. counted most path n paths more order.1)
   where
-    by_parent : (test : Bool) → same_path (above last) (above path) ≡ test → ((n : ℕ) → 1 ≤ n → (nat_le n most && few_behind most path n paths) ≡ (nat_le (n + beside (above path) (after path paths)) most && few_beside most (after path paths))) → (nat_le count most && (nat_le (cond test (count + 1) 1) most && few_behind most path (cond test (count + 1) 1) paths)) ≡ (nat_le (count + beside (above last) (path ∷ after path paths)) most && few_beside most (path ∷ after path paths))
+    by_parent : (test : Bool) → same_path (parent_of last) (parent_of path) ≡ test → ((n : ℕ) → 1 ≤ n → (nat_le n most && few_behind most path n paths) ≡ (nat_le (n + beside (parent_of path) (after path paths)) most && few_beside most (after path paths))) → (nat_le count most && (nat_le (cond test (count + 1) 1) most && few_behind most path (cond test (count + 1) 1) paths)) ≡ (nat_le (count + beside (parent_of last) (path ∷ after path paths)) most && few_beside most (path ∷ after path paths))
     by_parent true is rest =
-        let own : beside (above last) (path ∷ after path paths) ≡ suc (beside (above path) (after path paths)) = ap (λ p. beside p (path ∷ after path paths)) (same_is (above last) (above path) is) ∙ beside_own path (after path paths) in
+        let own : beside (parent_of last) (path ∷ after path paths) ≡ suc (beside (parent_of path) (after path paths)) = ap (λ p. beside p (path ∷ after path paths)) (same_is (parent_of last) (parent_of path) is) ∙ beside_own path (after path paths) in
         ap (λ b. nat_le count most && b) (rest (count + 1) (omega arith))
-        ∙ same_parent count most (beside (above path) (after path paths)) (few_beside most (after path paths))
-        ∙ ap (λ b. nat_le (count + suc (beside (above path) (after path paths))) most && b) (sym (few_more most path (after path paths)))
+        ∙ same_parent count most (beside (parent_of path) (after path paths)) (few_beside most (after path paths))
+        ∙ ap (λ b. nat_le (count + suc (beside (parent_of path) (after path paths))) most && b) (sym (few_more most path (after path paths)))
         ∙ ap (λ n. nat_le (count + n) most && few_beside most (path ∷ after path paths)) (sym own)
     by_parent false is rest =
-        let none : beside (above last) (path ∷ after path paths) ≡ 0 = (let here = apart_back (above last) (above path) is in rw here (none_beside last path path paths is order.0.1.0 order.1.0)) in
+        let none : beside (parent_of last) (path ∷ after path paths) ≡ 0 = (let here = apart_back (parent_of last) (parent_of path) is in rw here (none_beside last path path paths is order.0.1.0 order.1.0)) in
         ap (λ b. nat_le count most && b) (rest 1 (omega arith))
-        ∙ other_parent count most (beside (above path) (after path paths)) (few_beside most (after path paths))
+        ∙ other_parent count most (beside (parent_of path) (after path paths)) (few_beside most (after path paths))
         ∙ ap (λ b. nat_le (count + 0) most && b) (sym (few_more most path (after path paths)))
         ∙ ap (λ n. nat_le (count + n) most && few_beside most (path ∷ after path paths)) (sym none)
 
-    by_test : (test : Bool) → same_path last path ≡ test → ((n : ℕ) → 1 ≤ n → (nat_le n most && few_behind most path n paths) ≡ (nat_le (n + beside (above path) (after path paths)) most && few_beside most (after path paths))) → (nat_le count most && (nat_le (cond test count (cond (same_path (above last) (above path)) (count + 1) 1)) most && few_behind most path (cond test count (cond (same_path (above last) (above path)) (count + 1) 1)) paths)) ≡ (nat_le (count + beside (above last) (cond test (after path paths) (path ∷ after path paths))) most && few_beside most (cond test (after path paths) (path ∷ after path paths)))
+    by_test : (test : Bool) → same_path last path ≡ test → ((n : ℕ) → 1 ≤ n → (nat_le n most && few_behind most path n paths) ≡ (nat_le (n + beside (parent_of path) (after path paths)) most && few_beside most (after path paths))) → (nat_le count most && (nat_le (cond test count (cond (same_path (parent_of last) (parent_of path)) (count + 1) 1)) most && few_behind most path (cond test count (cond (same_path (parent_of last) (parent_of path)) (count + 1) 1)) paths)) ≡ (nat_le (count + beside (parent_of last) (cond test (after path paths) (path ∷ after path paths))) most && few_beside most (cond test (after path paths) (path ∷ after path paths)))
     by_test true is rest =
         twice (nat_le count most) (few_behind most path count paths) ∙ rest count some
-        ∙ ap (λ p. nat_le (count + beside (above p) (after path paths)) most && few_beside most (after path paths)) (sym (same_is last path is))
-    by_test false is rest = by_parent (same_path (above last) (above path)) refl rest
+        ∙ ap (λ p. nat_le (count + beside (parent_of p) (after path paths)) most && few_beside most (after path paths)) (sym (same_is last path is))
+    by_test false is rest = by_parent (same_path (parent_of last) (parent_of path)) refl rest
 
 from_first : (most : ℕ) (paths : List (List Elem)) → AreInOrder paths → few_beside most (each_once paths) ≡ few_behind most [] 0 paths
 from_first most [] order = refl
 from_first most (path ∷ paths) order =
     ap (few_beside most) (once path paths order)
     ∙ few_more most path (after path paths)
-    ∙ ap (λ n. nat_le n most && few_beside most (after path paths)) (one_and (beside (above path) (after path paths)))
+    ∙ ap (λ n. nat_le n most && few_beside most (after path paths)) (one_and (beside (parent_of path) (after path paths)))
     ∙ sym (counted most path 1 paths (omega arith) order)
   where
     one_and : (n : ℕ) → suc n ≡ 1 + n

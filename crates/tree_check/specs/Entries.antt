@@ -5,7 +5,7 @@ use Rattle.std.specs.List.{flat_map}
 use Rattle.base_kinds.specs.declared.path.Elem.{Elem}
 use Rattle.base_kinds.specs.declared.operation.Row.{Row}
 use Rattle.base_kinds.specs.Schema.{names_of, same_names}
-use Rattle.base_kinds.specs.Valid.{same_path, above}
+use Rattle.base_kinds.specs.Valid.{same_path, parent_of}
 
 -- the path stands below an entry of the list with these names
 abbrev pub is_below : List (List ℕ) → List Elem → Bool
@@ -17,7 +17,7 @@ entry_of names path = if is_below names path then Some (take (length names) path
 
 -- how many entries the parent of the last one has so far, where this entry comes up; before the first entry there are none
 abbrev pub count_after : List Elem → ℕ → List Elem → ℕ
-count_after last count entry = if count == 0 then 1 else if same_path last entry then count else if same_path (above last) (above entry) then count + 1 else 1
+count_after last count entry = if count == 0 then 1 else if same_path last entry then count else if same_path (parent_of last) (parent_of entry) then count + 1 else 1
 
 -- no parent gets more than so many entries, where the last entry is this one, its parent has so many so far, and these come up
 abbrev pub few_behind : ℕ → List Elem → ℕ → List (List Elem) → Bool

@@ -3,14 +3,14 @@ ghost use Rattle.base_kinds.specs.Valid.{valid, fits};
 ghost use Rattle.history_laws.specs.Rising.{IsRising};
 
 use crate::fault::CheckFault;
-use crate::known::all_known;
-use crate::shaped::all_shaped;
+use crate::known::nodes_exist;
+use crate::shaped::types_hold;
 use crate::weighing::fits;
-use crate::within::all_within;
+use crate::within::max_elements_hold;
 use base_kinds::{NoMemory, Row, Rows};
 use schema_core::Schema;
 use std::alloc::Global;
-use tree_rules::{all_keyed, all_refer, all_stand};
+use tree_constraints::{keys_hold, leafrefs_resolve, mandatory_present};
 
 /// Whether the rows are a valid tree under the schema (RFC 7950 7.6.5, 7.7.6, 7.8.2, 9.9), and then, whether they are
 /// few and light enough. An invalid tree is `TreeInvalid`, whatever its size, and a valid one that is too large
@@ -36,11 +36,11 @@ fn is_valid(alloc: Global, schema: &Schema, rows: &[Row]) -> Result<bool, NoMemo
     ensures { IfOk result (λ is. is ≡ valid schema.now rows.now) }
 {
     Ok(
-        all_known(schema, rows)
-            && all_shaped(alloc, schema, rows)?
-            && all_keyed(alloc, rows)?
-            && all_stand(alloc, schema, rows)?
-            && all_refer(alloc, schema, rows)?
-            && all_within(schema, rows),
+        nodes_exist(schema, rows)
+            && types_hold(alloc, schema, rows)?
+            && keys_hold(alloc, rows)?
+            && mandatory_present(alloc, schema, rows)?
+            && leafrefs_resolve(alloc, schema, rows)?
+            && max_elements_hold(schema, rows),
     )
 }

@@ -4,20 +4,20 @@ ghost use Rattle.std.specs.List.{list_any, list_all};
 ghost use Rattle.std.specs.Option.{ForSome};
 ghost use Rattle.std.specs.Str.{bytes_eq};
 ghost use Rattle.base_kinds.specs.Schema.{node_of};
-ghost use Rattle.base_kinds.specs.Valid.{if_some, steps, is_leafy, has_just_keys, step_known, row_known, all_known};
+ghost use Rattle.base_kinds.specs.Valid.{if_some, path_steps, is_leafy, has_just_keys, step_has_node, row_has_nodes, nodes_exist};
 ghost use Rattle.schema_core.specs.Nodes.{names_at, names_above};
 
 use base_kinds::{Elem, Row, Sort, Text};
 use schema_core::{NodeId, Schema};
 
-pub(crate) fn all_known(schema: &Schema, rows: &[Row]) -> bool
-    ensures { result ≡ all_known schema.now rows.now }
+pub(crate) fn nodes_exist(schema: &Schema, rows: &[Row]) -> bool
+    ensures { result ≡ nodes_exist schema.now rows.now }
 {
-    rows.iter().all(|row| row_known(schema, row))
+    rows.iter().all(|row| row_has_nodes(schema, row))
 }
 
-fn row_known(schema: &Schema, row: &Row) -> bool
-    ensures { result ≡ row_known schema.now row.now }
+fn row_has_nodes(schema: &Schema, row: &Row) -> bool
+    ensures { result ≡ row_has_nodes schema.now row.now }
 {
     match schema.find(&row.path) {
         None => false,
@@ -36,7 +36,7 @@ fn is_leafy(sort: Sort) -> bool
 
 /// Whether each element has just its node's keys. The nodes are found from the root down, each below the one before.
 fn steps_known(schema: &Schema, path: &[Elem]) -> bool
-    ensures { result ≡ list_all (step_known schema.now) (steps path.now) }
+    ensures { result ≡ list_all (step_has_node schema.now) (path_steps path.now) }
 {
     let mut above = None;
     for elem in path {

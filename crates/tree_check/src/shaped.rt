@@ -2,40 +2,40 @@
 ghost use Rattle.std.specs.Prelude.{◌≡◌, IfOk};
 ghost use Rattle.std.specs.List.{list_all};
 ghost use Rattle.base_kinds.specs.Values.{has_shape};
-ghost use Rattle.base_kinds.specs.Valid.{is_taken, row_shaped, all_shaped};
+ghost use Rattle.base_kinds.specs.Valid.{has_type, row_has_type, types_hold};
 
 use crate::values::{is_list, values_in};
 use base_kinds::{NoMemory, Row, Shape, Sort, Value};
 use schema_core::Schema;
 use std::alloc::Global;
 use value_core::check_value;
-use value_order::all_differ;
+use scalar_order::all_differ;
 
-pub(crate) fn all_shaped(alloc: Global, schema: &Schema, rows: &[Row]) -> Result<bool, NoMemory>
-    ensures { IfOk result (λ is. is ≡ all_shaped schema.now rows.now) }
+pub(crate) fn types_hold(alloc: Global, schema: &Schema, rows: &[Row]) -> Result<bool, NoMemory>
+    ensures { IfOk result (λ is. is ≡ types_hold schema.now rows.now) }
 {
     for row in rows {
-        if !row_shaped(alloc, schema, row)? {
+        if !row_has_type(alloc, schema, row)? {
             return Ok(false);
         }
     }
     Ok(true)
 }
 
-fn row_shaped(alloc: Global, schema: &Schema, row: &Row) -> Result<bool, NoMemory>
-    ensures { IfOk result (λ is. is ≡ row_shaped schema.now row.now) }
+fn row_has_type(alloc: Global, schema: &Schema, row: &Row) -> Result<bool, NoMemory>
+    ensures { IfOk result (λ is. is ≡ row_has_type schema.now row.now) }
 {
     match schema.find(&row.path) {
         None => Ok(false),
         Some(id) => match schema.shape_of(id) {
             None => Ok(false),
-            Some(shape) => is_taken(alloc, schema.sort_of(id), shape, &row.value),
+            Some(shape) => has_type(alloc, schema.sort_of(id), shape, &row.value),
         },
     }
 }
 
-fn is_taken(alloc: Global, sort: Sort, shape: &Shape, value: &Value) -> Result<bool, NoMemory>
-    ensures { IfOk result (λ is. is ≡ is_taken sort shape.now value.now) }
+fn has_type(alloc: Global, sort: Sort, shape: &Shape, value: &Value) -> Result<bool, NoMemory>
+    ensures { IfOk result (λ is. is ≡ has_type sort shape.now value.now) }
 {
     match sort {
         Sort::Leaf => Ok(check_value(shape, value)),

@@ -4,7 +4,7 @@ ghost use Rattle.std.specs.Prelude.{◌≡◌, ◌<◌, ◌≤◌, ◌+◌, ◌^
 ghost use Rattle.std.specs.List.{list_all};
 ghost use Rattle.std.specs.Option.{option_copied};
 ghost use Rattle.base_kinds.specs.Schema.{names_of, same_names};
-ghost use Rattle.base_kinds.specs.Valid.{same_path, above, entries_of, few_beside, few_values, is_within, node_within, all_within};
+ghost use Rattle.base_kinds.specs.Valid.{same_path, parent_of, entries_of, few_beside, few_values, is_in_maximum, node_in_maximum, max_elements_hold};
 ghost use Rattle.history_laws.specs.Rising.{IsRising};
 ghost use Rattle.tree_check.specs.Entries.{entry_of, count_after};
 
@@ -14,12 +14,12 @@ use schema_core::{Node, NodeId, Schema};
 use std::cmp::Ordering;
 
 #[tactic(auto, using(crate::proofs::Nodes::fails_there, crate::proofs::Nodes::holds_so_far))]
-pub(crate) fn all_within(schema: &Schema, rows: &[Row]) -> bool
+pub(crate) fn max_elements_hold(schema: &Schema, rows: &[Row]) -> bool
     requires { IsRising rows.now }
-    ensures { result ≡ all_within schema.now rows.now }
+    ensures { result ≡ max_elements_hold schema.now rows.now }
 {
     for number in 0..schema.nodes() {
-        if !node_within(rows, schema.node(NodeId(number))) {
+        if !node_in_maximum(rows, schema.node(NodeId(number))) {
             return false;
         }
     }
@@ -27,19 +27,19 @@ pub(crate) fn all_within(schema: &Schema, rows: &[Row]) -> bool
 }
 
 /// Takes no time where the node has no maximum.
-fn node_within(rows: &[Row], node: &Node) -> bool
+fn node_in_maximum(rows: &[Row], node: &Node) -> bool
     requires { IsRising rows.now }
-    ensures { result ≡ node_within rows.now node.now }
+    ensures { result ≡ node_in_maximum rows.now node.now }
 {
     match node.maximum() {
         None => true,
-        Some(most) => is_within(rows, node.sort(), node.names().items(), most),
+        Some(most) => is_in_maximum(rows, node.sort(), node.names().items(), most),
     }
 }
 
-fn is_within(rows: &[Row], sort: Sort, names: &[Text], most: u32) -> bool
+fn is_in_maximum(rows: &[Row], sort: Sort, names: &[Text], most: u32) -> bool
     requires { IsRising rows.now }
-    ensures { result ≡ is_within sort names.now rows.now most }
+    ensures { result ≡ is_in_maximum sort names.now rows.now most }
 {
     match sort {
         Sort::List => few_entries(rows, names, most),
@@ -112,7 +112,7 @@ fn count_after(last: &[Elem], count: u64, entry: &[Elem]) -> u64
     if same_path(last, entry) {
         return count;
     }
-    if same_path(above(last), above(entry)) {
+    if same_path(parent_of(last), parent_of(entry)) {
         count + 1
     } else {
         1
@@ -130,8 +130,8 @@ fn same_path(a: &[Elem], b: &[Elem]) -> bool
 
 /// The path without its last element.
 #[tactic(auto, using(crate::proofs::Fronts::above_last, crate::proofs::Fronts::above_none))]
-fn above(path: &[Elem]) -> &[Elem]
-    ensures { result.now ≡ above path.now }
+fn parent_of(path: &[Elem]) -> &[Elem]
+    ensures { result.now ≡ parent_of path.now }
 {
     match path.split_last() {
         None => path,

@@ -1,6 +1,6 @@
 use crate::generator::Generator;
 use base_kinds::{Ops, Path, Paths, Rows, Same, Text, TreeLike};
-use plain_model::{effect, part_of};
+use reference_model::{effect, part_of};
 use plain_tree::PlainTree;
 use std::alloc::Global;
 use std::process::Abort;

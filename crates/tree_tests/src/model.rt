@@ -1,7 +1,7 @@
 use base_kinds::{
     Act, Ask, Elem, Entries, Limits, Op, Path, Row, Rows, Seq, Shape, Sort, Text, Value,
 };
-use plain_model::{
+use reference_model::{
     Node, covers, effect, has_shape, is_valid, key_text, matches, part_of, size_of, step_of,
     world_of,
 };

@@ -6,7 +6,7 @@ use std::alloc::Global;
 use std::cmp::Ordering;
 use std::process::Abort;
 use tree_check::are_rising;
-use tree_rules::{all_keyed, all_refer, all_stand, find_leaf};
+use tree_constraints::{keys_hold, leafrefs_resolve, mandatory_present, find_leaf};
 
 /// A node on each line: its names, what it is, and the names of its keys or of the leaf that it refers to.
 const NODES: [(&str, &str, &str); 17] = [
@@ -180,7 +180,7 @@ fn keys_have_their_leaves(rt: HostRuntime) {
     for (line, wanted) in KEYED.iter().copied() {
         let rows = rows_of(&rt, alloc, line);
         assert!(rt; are_rising(rows.items()), "{line}");
-        let found = all_keyed(alloc, rows.items()).expect(&rt, "memory");
+        let found = keys_hold(alloc, rows.items()).expect(&rt, "memory");
         assert_eq!(rt; found, wanted, "{line}");
     }
 }
@@ -192,7 +192,7 @@ fn mandatory_leaves_stand(rt: HostRuntime) {
     for (line, wanted) in STANDING.iter().copied() {
         let rows = rows_of(&rt, alloc, line);
         assert!(rt; are_rising(rows.items()), "{line}");
-        let found = all_stand(alloc, &schema, rows.items()).expect(&rt, "memory");
+        let found = mandatory_present(alloc, &schema, rows.items()).expect(&rt, "memory");
         assert_eq!(rt; found, wanted, "{line}");
     }
 }
@@ -216,7 +216,7 @@ fn a_mandatory_leaf_of_the_root_stands_in_every_tree_with_rows(rt: HostRuntime) 
     {
         let rows = rows_of(&rt, alloc, line);
         assert!(rt; are_rising(rows.items()), "{line}");
-        let found = all_stand(alloc, &schema, rows.items()).expect(&rt, "memory");
+        let found = mandatory_present(alloc, &schema, rows.items()).expect(&rt, "memory");
         assert_eq!(rt; found, wanted, "{line}");
     }
 }
@@ -227,7 +227,7 @@ fn references_have_a_row_of_their_value(rt: HostRuntime) {
     let schema = schema_of(&rt, alloc, &NODES);
     for (line, wanted) in REFERRING.iter().copied() {
         let rows = rows_of(&rt, alloc, line);
-        let found = all_refer(alloc, &schema, rows.items()).expect(&rt, "memory");
+        let found = leafrefs_resolve(alloc, &schema, rows.items()).expect(&rt, "memory");
         assert_eq!(rt; found, wanted, "{line}");
     }
 }

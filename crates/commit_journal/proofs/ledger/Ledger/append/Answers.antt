@@ -1,6 +1,6 @@
 use Rattle.std.proofs.Common.{◌≡◌, ◌+◌, ◌<◌, ◌^◌, [], ◌∷◌, ◌++◌, true, false, Some, inl, inr, length, vec_capacity, refl, ap, ◌∙◌, arith}
 use Rattle.base_kinds.specs.Records.{record_octets}
-use Rattle.record_format.specs.Spelling.{record_of}
+use Rattle.journal_record.specs.Spelling.{record_of}
 use Rattle.commit_journal.specs.Ledgers.{LedgerView}
 use Rattle.commit_journal.proofs.Exits.{leaves_now, undoubted, record_small, no_call, next_fits, ends_at_record, ends_at_gate, ends_done}
 use Rattle.commit_journal.proofs.Sizes.{legal_size}

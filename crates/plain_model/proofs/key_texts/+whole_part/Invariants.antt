@@ -1,4 +1,0 @@
-use Rattle.plain_model.proofs.key_texts.+whole_part.Given as goal
-
-abbrev pub decreases-whole_part : goal.decreases-whole_part
-decreases-whole_part l = l.places

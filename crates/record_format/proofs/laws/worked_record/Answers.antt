@@ -1,9 +1,0 @@
-use Rattle.std.proofs.Common.{refl}
-use Rattle.record_format.specs.Worked.{hostname_is}
-use Rattle.record_format.proofs.laws.worked_record.Goals as goal
-
-pub returns-clause-octets : goal.returns-clause-octets
-returns-clause-octets c = hostname_is
-
-pub returns-clause-len : goal.returns-clause-len
-returns-clause-len c = refl

@@ -1,0 +1,4 @@
+use Rattle.reference_model.proofs.key_texts.+whole_part.Given as goal
+
+abbrev pub decreases-whole_part : goal.decreases-whole_part
+decreases-whole_part l = l.places

@@ -1,0 +1,269 @@
+// One step of a history, without a schema: the event of the clock, and then what becomes of an ask.
+ghost use Rattle.std.specs.Prelude.{◌≡◌, ◌≢◌, ◌+◌, ◌≤◌, ◌<◌, ◌^◌, ◌∷◌, [], Ok, Err, length, not, IfOk, IfErr, OnOk};
+ghost use Rattle.base_kinds.specs.Records.{counted, record_octets};
+ghost use Rattle.base_kinds.specs.History.{last_stamp, stamp_of, world_of};
+ghost use Rattle.base_kinds.specs.Rules.{size_of, limited};
+ghost use Rattle.base_kinds.specs.Legal.{IsFit};
+ghost use Rattle.base_kinds.specs.Step.{new_stamp, time_at, next_entry, is_due, is_past, is_open, is_other, after_expiry, first_refusal, refusal_cases_of_ops, refusal_cases_of_trial, judge_at, step};
+ghost use Rattle.reference_model.specs.PlainWorlds.{trial_in, world_in};
+ghost use Rattle.reference_model.specs.PlainRules.{plain_rules, duration_of};
+
+use crate::worlds::{PlainWorld, world_of};
+use base_kinds::{Ask, Entries, Entry, Kind, Limits, NoMemory, Refusal, Text};
+use std::alloc::Global;
+
+/// The latest reading of the clock that counts, in nanoseconds since 1970: the beginning of the year 2100.
+const LATEST_READING: u64 = 4_102_444_800_000_000_000;
+
+/// No history of a journal has a stamp as late as this.
+const LATEST_STAMP: u64 = 4_611_686_018_427_387_904;
+
+/// The longest duration of a trial: a day.
+const LONGEST: u64 = 86_400_000_000_000;
+
+/// What becomes of the ask at this reading of the clock, within the limits: an entry, or why it is refused. The event
+/// of the clock is added to the entries, and the new entry isn't.
+#[tactic(auto, using(crate::proofs::Stamps::fit_lasts))]
+pub fn step_of(
+    alloc: Global,
+    limits: &Limits,
+    entries: &mut Entries,
+    now: u64,
+    author: u32,
+    ask: Ask,
+) -> Result<Entry, Refusal>
+    ensures judged { stamp_of entries.old < 2 ^ 62 → IsFit ask → IfOk result (λ entry. step (plain_rules limits.now) entries.old now author ask ≡ Ok entry) }
+    ensures refused { stamp_of entries.old < 2 ^ 62 → IsFit ask → IfErr result (λ refusal. refusal ≢ Refusal.NoMemory → step (plain_rules limits.now) entries.old now author ask ≡ Err refusal) }
+    ensures clocked { OnOk result (entries.new ≡ after_expiry entries.old now) }
+{
+    if stamp_of(entries.items()) >= LATEST_STAMP {
+        return Err(Refusal::LogFull);
+    }
+    if lasts(&ask) > LONGEST {
+        return Err(Refusal::BadDuration);
+    }
+    after_expiry(alloc, entries, now)?;
+    let world = world_of(alloc, entries.items())?;
+    let stamp = new_stamp(entries.items(), now);
+    judge_in(limits, entries.items(), &world, stamp, author, ask)
+}
+
+/// Adds the event of the clock where a trial is due.
+#[tactic(auto, using(crate::proofs::Stamps::stamp_bound))]
+fn after_expiry(alloc: Global, entries: &mut Entries, now: u64) -> Result<(), NoMemory>
+    requires { stamp_of entries.old < 2 ^ 62 }
+    ensures value { OnOk result (entries.new ≡ after_expiry entries.old now) }
+    ensures bound { OnOk result (stamp_of entries.new ≤ 2 ^ 62) }
+{
+    let world = world_of(alloc, entries.items())?;
+    if is_past(&world, time_at(entries.items(), now)) {
+        let stamp = new_stamp(entries.items(), now);
+        let entry = next_entry(entries.items(), stamp, 0, Kind::Expire);
+        entries.push(entry)?;
+    }
+    Ok(())
+}
+
+fn lasts(ask: &Ask) -> u64
+    ensures { result ≡ duration_of ask.now }
+{
+    match ask {
+        Ask::Trial(_, _, duration) => *duration,
+        Ask::Extend(_, duration) => *duration,
+        Ask::Apply(_) | Ask::Confirm(_) | Ask::Cancel(_) => 0,
+    }
+}
+
+/// The octets of a journal of these entries, or 18446744073709551615 where there are more.
+pub fn size_of(entries: &[Entry]) -> u64
+    ensures { result ≡ counted (size_of entries.now) }
+{
+    let mut size = 17u64;
+    for entry in entries {
+        size = size.saturating_add(1).saturating_add(entry.record_octets());
+    }
+    size
+}
+
+/// Whether the log has room for so many further entries, the first of which is this one, with so many octets beside it.
+#[tactic(auto, using(crate::proofs::Stamps::counted_le))]
+fn has_room(limits: &Limits, entries: &[Entry], further: u64, entry: &Entry, beside: u64) -> bool
+    ensures { result ≡ limited limits.now entries.now further (record_octets entry.now + beside) }
+{
+    let octets = size_of(entries)
+        .saturating_add(entry.record_octets())
+        .saturating_add(beside);
+    let count = (entries.len() as u64).saturating_add(further);
+    count <= u64::from(limits.entries) && octets <= u64::from(limits.octets)
+}
+
+fn judge_in(
+    limits: &Limits,
+    entries: &[Entry],
+    world: &PlainWorld,
+    stamp: u64,
+    author: u32,
+    ask: Ask,
+) -> Result<Entry, Refusal>
+    requires world { world_in world.now ≡ world_of entries.now }
+    requires bound { stamp ≤ 2 ^ 63 }
+    requires duration { duration_of ask ≤ 86400000000000 }
+    ensures { result ≡ judge_at (plain_rules limits.now) entries.now stamp author ask }
+{
+    match ask {
+        Ask::Apply(ops) => {
+            let entry = next_entry(entries, stamp, author, Kind::Apply(ops));
+            checked_ops(limits, entries, world, entry, 1, 1)
+        }
+        Ask::Trial(id, ops, duration) => {
+            let kind = Kind::Trial(id, ops, stamp + duration);
+            checked_ops(
+                limits,
+                entries,
+                world,
+                next_entry(entries, stamp, author, kind),
+                2,
+                15,
+            )
+        }
+        Ask::Confirm(id) => checked_trial(
+            world,
+            &id,
+            next_entry(entries, stamp, author, Kind::Confirm),
+        ),
+        Ask::Cancel(id) => checked_trial(
+            world,
+            &id,
+            next_entry(entries, stamp, author, Kind::Cancel),
+        ),
+        Ask::Extend(id, duration) => {
+            let kind = Kind::Extend(stamp + duration);
+            checked_extend(
+                limits,
+                entries,
+                world,
+                &id,
+                next_entry(entries, stamp, author, kind),
+            )
+        }
+    }
+}
+
+fn checked_ops(
+    limits: &Limits,
+    entries: &[Entry],
+    world: &PlainWorld,
+    entry: Entry,
+    further: u64,
+    beside: u64,
+) -> Result<Entry, Refusal>
+    ensures { result ≡ first_refusal (refusal_cases_of_ops (plain_rules limits.now) entries.now (world_in world.now) [] further (record_octets entry + beside)) entry }
+{
+    if is_open(world) {
+        return Err(Refusal::TrialOpen);
+    }
+    if !has_room(limits, entries, further, &entry, beside) {
+        return Err(Refusal::LogFull);
+    }
+    Ok(entry)
+}
+
+fn checked_trial(world: &PlainWorld, id: &Text, entry: Entry) -> Result<Entry, Refusal>
+    ensures { result ≡ first_refusal (refusal_cases_of_trial (world_in world.now) id.now []) entry }
+{
+    if !is_open(world) {
+        return Err(Refusal::NoTrial);
+    }
+    if is_other(world, id) {
+        return Err(Refusal::WrongId);
+    }
+    Ok(entry)
+}
+
+fn checked_extend(
+    limits: &Limits,
+    entries: &[Entry],
+    world: &PlainWorld,
+    id: &Text,
+    entry: Entry,
+) -> Result<Entry, Refusal>
+    ensures { result ≡ first_refusal (refusal_cases_of_trial (world_in world.now) id.now ((not (limited limits.now entries.now 2 (record_octets entry + 15)), Refusal.LogFull) ∷ [])) entry }
+{
+    if !is_open(world) {
+        return Err(Refusal::NoTrial);
+    }
+    if is_other(world, id) {
+        return Err(Refusal::WrongId);
+    }
+    if !has_room(limits, entries, 2, &entry, 15) {
+        return Err(Refusal::LogFull);
+    }
+    Ok(entry)
+}
+
+fn is_open(world: &PlainWorld) -> bool
+    ensures { result ≡ is_open (trial_in world.now.trial) }
+{
+    match &world.trial {
+        None => false,
+        Some(_) => true,
+    }
+}
+
+fn is_other(world: &PlainWorld, id: &Text) -> bool
+    ensures { result ≡ is_other (trial_in world.now.trial) id.now }
+{
+    match &world.trial {
+        None => false,
+        Some(trial) => trial.id.octets() != id.octets(),
+    }
+}
+
+fn is_past(world: &PlainWorld, time: u64) -> bool
+    ensures { result ≡ is_past (trial_in world.now.trial) time }
+{
+    match &world.trial {
+        None => false,
+        Some(trial) => trial.deadline <= time,
+    }
+}
+
+/// The entry that comes next behind these.
+fn next_entry(entries: &[Entry], stamp: u64, author: u32, kind: Kind) -> Entry
+    ensures { result ≡ next_entry entries.now stamp author kind }
+{
+    Entry {
+        number: entries.len() as u64 + 1,
+        author,
+        stamp,
+        kind,
+    }
+}
+
+fn time_at(entries: &[Entry], now: u64) -> u64
+    ensures { result ≡ time_at entries.now now }
+{
+    now.min(LATEST_READING).max(stamp_of(entries))
+}
+
+fn new_stamp(entries: &[Entry], now: u64) -> u64
+    requires { stamp_of entries.now ≤ 2 ^ 62 }
+    ensures { result ≡ new_stamp entries.now now }
+{
+    now.min(LATEST_READING).max(stamp_of(entries) + 1)
+}
+
+fn stamp_of(entries: &[Entry]) -> u64
+    ensures { result ≡ stamp_of entries.now }
+{
+    last_stamp(0, entries)
+}
+
+fn last_stamp(stamp: u64, entries: &[Entry]) -> u64
+    ensures { result ≡ last_stamp stamp entries.now }
+{
+    match entries.split_first() {
+        None => stamp,
+        Some((entry, others)) => last_stamp(entry.stamp, others),
+    }
+}

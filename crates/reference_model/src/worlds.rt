@@ -1,0 +1,99 @@
+// The state that a history stands for.
+ghost use Rattle.std.specs.Prelude.{◌≡◌, IfOk};
+ghost use Rattle.base_kinds.specs.History.{world_after, world_of, world_from, tree_before, extended};
+ghost use Rattle.reference_model.specs.PlainWorlds.{trial_in, world_in};
+
+use crate::trees::effect;
+use base_kinds::{Copied, Entry, Kind, NoMemory, Rows, Seq, Text};
+use std::alloc::Global;
+
+/// A trial that is neither confirmed nor undone.
+#[derive(Debug, PartialEq, Drop)]
+pub struct PlainTrial {
+    pub id: Text,
+    pub before: Rows,
+    pub deadline: u64,
+}
+
+/// The tree, and the open trial where there is one.
+#[derive(Debug, PartialEq, Drop)]
+pub struct PlainWorld {
+    pub tree: Rows,
+    pub trial: Option<PlainTrial>,
+}
+
+/// The state that the history stands for.
+pub fn world_of(alloc: Global, entries: &[Entry]) -> Result<PlainWorld, NoMemory>
+    ensures { IfOk result (λ world. world_in world ≡ world_of entries.now) }
+{
+    let start = PlainWorld {
+        tree: Seq::empty(alloc),
+        trial: None,
+    };
+    world_from(alloc, start, entries)
+}
+
+fn world_from(alloc: Global, world: PlainWorld, entries: &[Entry]) -> Result<PlainWorld, NoMemory>
+    ensures { IfOk result (λ last. world_in last ≡ world_from (world_in world) entries.now) }
+{
+    let Some((entry, others)) = entries.split_first() else {
+        return Ok(world);
+    };
+    world_from(alloc, world_after(alloc, &entry.kind, world)?, others)
+}
+
+/// The state after an entry of this kind.
+pub fn world_after(alloc: Global, kind: &Kind, world: PlainWorld) -> Result<PlainWorld, NoMemory>
+    ensures { IfOk result (λ next. world_in next ≡ world_after kind.now (world_in world)) }
+{
+    let PlainWorld { tree, trial } = world;
+    match kind {
+        Kind::Apply(ops) => Ok(PlainWorld {
+            tree: effect(alloc, ops, &tree)?,
+            trial: None,
+        }),
+        Kind::Trial(id, ops, deadline) => {
+            let next = effect(alloc, ops, &tree)?;
+            let trial = PlainTrial {
+                id: id.copy(alloc)?,
+                before: tree,
+                deadline: *deadline,
+            };
+            Ok(PlainWorld {
+                tree: next,
+                trial: Some(trial),
+            })
+        }
+        Kind::Confirm => Ok(PlainWorld { tree, trial: None }),
+        Kind::Cancel | Kind::Expire | Kind::Restart => Ok(PlainWorld {
+            tree: tree_before(tree, trial),
+            trial: None,
+        }),
+        Kind::Extend(deadline) => Ok(PlainWorld {
+            tree,
+            trial: extended(trial, *deadline),
+        }),
+    }
+}
+
+fn tree_before(tree: Rows, trial: Option<PlainTrial>) -> Rows
+    ensures { result ≡ tree_before tree (trial_in trial) }
+{
+    match trial {
+        None => tree,
+        Some(trial) => trial.before,
+    }
+}
+
+fn extended(trial: Option<PlainTrial>, deadline: u64) -> Option<PlainTrial>
+    ensures { trial_in result ≡ extended deadline (trial_in trial) }
+{
+    match trial {
+        None => None,
+        Some(trial) => Some(PlainTrial {
+            id: trial.id,
+            before: trial.before,
+            deadline,
+        }),
+    }
+}

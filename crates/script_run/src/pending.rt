@@ -1,0 +1,79 @@
+ghost use Rattle.std.specs.Prelude.{◌≡◌, [], IfOk, OnOk};
+ghost use Rattle.script_run.specs.Requests.{nothing_pending, change as json_change, with_operation, set_ask};
+
+use base_kinds::{
+    Act, Action, Bytes, Change, Changes, Given, NoMemory, Path, Paths, SetAsk, Text, TextOfFault,
+};
+use std::alloc::Global;
+
+/// The operations of the pending request, each kind in the order of its lines.
+#[derive(Drop)]
+pub struct Pending {
+    pub deletes: Paths,
+    pub replaces: Changes,
+    pub updates: Changes,
+}
+
+impl Pending {
+    pub fn nothing(alloc: Global) -> Pending
+        ensures { result ≡ nothing_pending }
+    {
+        Pending {
+            deletes: Paths::empty(alloc),
+            replaces: Changes::empty(alloc),
+            updates: Changes::empty(alloc),
+        }
+    }
+
+    /// Adds an operation. A delete has no value.
+    pub fn add(&mut self, act: Act, path: Path, value: Bytes) -> Result<(), NoMemory>
+        ensures { OnOk result (self.new ≡ with_operation act path value self.old) }
+    {
+        match act {
+            Act::Delete => self.deletes.push(path),
+            Act::Replace => self.replaces.push(change(path, value)),
+            Act::Update => self.updates.push(change(path, value)),
+        }
+    }
+
+    /// A plain Set of these operations.
+    pub fn into_set(self, alloc: Global) -> Result<SetAsk, NoMemory>
+        ensures { IfOk result (λ ask. ask ≡ set_ask self) }
+    {
+        let target = empty_text(alloc)?;
+        let Pending {
+            deletes,
+            replaces,
+            updates,
+        } = self;
+        Ok(SetAsk {
+            prefix: Path::empty(alloc),
+            target,
+            deletes,
+            replaces,
+            updates,
+            action: Action::Plain,
+            unsupported: false,
+        })
+    }
+}
+
+/// A replace or an update with the text of a JSON value.
+fn change(path: Path, value: Bytes) -> Change
+    ensures { result ≡ json_change path value }
+{
+    Change {
+        path,
+        given: Given::Json(value),
+    }
+}
+
+fn empty_text(alloc: Global) -> Result<Text, NoMemory>
+    ensures { IfOk result (λ text. text ≡ []) }
+{
+    match Text::of(alloc, b"") {
+        Ok(text) => Ok(text),
+        Err(TextOfFault::NotUtf8) => unreachable!(),
+        Err(TextOfFault::NoMemory) => Err(NoMemory),
+    }
+}

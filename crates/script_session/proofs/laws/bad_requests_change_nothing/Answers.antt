@@ -1,5 +1,0 @@
-use Rattle.script_session.proofs.ScriptLaws.{bad_request_changes_nothing}
-use Rattle.script_session.proofs.laws.bad_requests_change_nothing.Goals as goal
-
-pub returns : goal.returns
-returns c = bad_request_changes_nothing

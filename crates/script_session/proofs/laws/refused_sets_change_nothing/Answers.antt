@@ -1,5 +1,0 @@
-use Rattle.script_session.proofs.ScriptLaws.{refused_changes_nothing}
-use Rattle.script_session.proofs.laws.refused_sets_change_nothing.Goals as goal
-
-pub returns : goal.returns
-returns c = refused_changes_nothing

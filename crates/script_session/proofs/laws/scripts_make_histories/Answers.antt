@@ -1,5 +1,0 @@
-use Rattle.script_session.proofs.ScriptLaws.{makes_histories}
-use Rattle.script_session.proofs.laws.scripts_make_histories.Goals as goal
-
-pub returns : goal.returns
-returns c = makes_histories

@@ -1,0 +1,13 @@
+use Rattle.std.proofs.Common.{◌≡◌, Bool, List, IfOk, ap, ◌∙◌, subst}
+use Rattle.std.specs.List.{list_all}
+use Rattle.base_kinds.specs.declared.path.Elem.{Elem}
+use Rattle.base_kinds.specs.Valid.{path_steps, has_key_leaf}
+use Rattle.tree_constraints.proofs.Fronts.{steps_seen}
+use Rattle.tree_constraints.proofs.keyed.row_has_keys.Goals as goal
+
+pub returns : goal.returns
+returns c =
+    let whole = steps_seen c.args.rows.now c.args.last.now c.items-path.result.now c.shared.result c.requires.passed c.shared.ensures.same in
+    let keyed : List Elem → Bool = λ path. list_all (λ step. list_all (has_key_leaf c.args.rows.now step.0) step.1.keys) (path_steps path) in
+    let P : Bool → Type 0 = λ b. IfOk c.keyed_from.result (λ is. is ≡ b) in
+    subst P (whole ∙ ap keyed c.items-path.ensures) c.keyed_from.ensures
