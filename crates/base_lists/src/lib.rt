@@ -5,6 +5,7 @@ mod no_memory;
 mod order;
 mod remembered;
 mod seq;
+mod tally;
 #[cfg(test)]
 mod tests;
 mod text;
@@ -12,6 +13,7 @@ mod text;
 pub use no_memory::NoMemory;
 pub use remembered::Remembered;
 pub use seq::{Copied, Same, Seq};
+pub use tally::{Tally, remember_all};
 pub use text::{Text, TextOfFault};
 
 /// Octets.
