@@ -1,6 +1,7 @@
 //! Lists and texts as contracts see them: a `Seq` is the list of its items, a `Text` the list of its octets.
 #![tactic(auto)]
 
+mod groups;
 mod no_memory;
 mod order;
 mod remembered;
@@ -10,6 +11,7 @@ mod tally;
 mod tests;
 mod text;
 
+pub use groups::put_groups;
 pub use no_memory::NoMemory;
 pub use remembered::Remembered;
 pub use seq::{Copied, Same, Seq};

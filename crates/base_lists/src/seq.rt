@@ -95,6 +95,15 @@ impl<T: Drop> Seq<T> {
 }
 
 impl<T: Copy> Seq<T> {
+    /// Copies of these items.
+    pub fn of(alloc: Global, items: &[T]) -> Result<Seq<T>, NoMemory>
+        ensures { IfOk result (λ list. list ≡ items.now) }
+    {
+        let mut list = Seq::empty(alloc);
+        list.extend_from_slice(items)?;
+        Ok(list)
+    }
+
     /// Adds copies of these items at the end.
     pub fn extend_from_slice(&mut self, items: &[T]) -> Result<(), NoMemory>
         ensures ok { OnOk result (self.new ≡ self.old ++ items.now) }
