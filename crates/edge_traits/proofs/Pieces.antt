@@ -1,21 +1,30 @@
--- Octets taken or added piece by piece. std has the laws of two pieces, one after the other (`Appends-trans`,
--- `Consumes-trans`), of a call that moves nothing (`Appends-kept`, `Consumes-kept`), and of an input that is read to its
--- end (`Consumes-whole`).
-pub use Rattle.std.proofs.KnownBytes.{Appends-nil, Appends-trans, Appends-kept, Consumes-nil, Consumes-trans, Consumes-kept, Consumes-whole}
-use Rattle.std.proofs.Common.{ℕ, ◌+◌, ◌≤◌, List, ◌++◌, length, take, drop, Option, Some, None, IfSome, Result, Ok, Err, OnErr, ap, take-add, length-append, length-take-le, arith}
-use Rattle.std.specs.Io.KnownBytes.{Appends, Consumes}
+-- Octets read or written piece by piece.
+pub use Rattle.std.proofs.KnownBytes.{Consumes-nil, Consumes-trans, Consumes-kept, Consumes-whole}
+use Rattle.std.proofs.Common.{◌≡◌, ℕ, ◌+◌, List, [], ◌++◌, take, drop, Option, Some, None, ap, sym, ◌∙◌, refl, take-add, append_assoc}
+use Rattle.std.proofs.lemmas.List.{append-nil}
+use Rattle.std.specs.Io.KnownBytes.{Consumes}
+use Rattle.edge_traits.specs.Input.{Input, Read}
+use Rattle.edge_traits.specs.Output.{Output, output_with}
 
--- a front of a piece, and then a front of its rest
-pub Appends-take_add : (old mid new : Option (List ℕ)) (piece : List ℕ) (i n : ℕ) → Appends old mid (take i piece) → Appends mid new (take n (drop i piece)) → Appends old new (take (i + n) piece)
-Appends-take_add old mid new piece i n first second = rw (take-add i n piece) (Appends-trans old mid new (take i piece) (take n (drop i piece)) first second)
+consumes_nothing : (left : Option (List ℕ)) → Consumes left left []
+consumes_nothing None = tt
+consumes_nothing (Some octets) = refl
 
--- there was at least what was taken
-pub Consumes-length : (old new : Option (List ℕ)) (octets : List ℕ) → Consumes old new octets → IfSome old (λ all. length octets ≤ length all)
-Consumes-length None new octets taken = tt
-Consumes-length (Some x) None octets taken = absurd taken
-Consumes-length (Some x) (Some y) octets taken = omega (arith, ap length taken, length-append octets y)
+-- nothing was read of an input that stays as it was
+pub Read-nothing : (input : Input) → Read [] input input
+Read-nothing input = record {
+  given = sym (append-nil input.given);
+  left = consumes_nothing input.left;
+  quiet = refl;
+}
 
--- what was taken before and in the last read is lost, and bounded where both are
-pub loses : {T E : Type 0} (result : Result T E) (old mid new : Option (List ℕ)) (before buffer : List ℕ) (n most : ℕ) → Consumes old mid before → Consumes mid new (take n buffer) → n ≤ length buffer → length before + length buffer ≤ most → OnErr result ((octets : List ℕ) × (length octets ≤ most) × Consumes old new octets)
-loses (Ok x) old mid new before buffer n most first last bound fits = tt
-loses (Err e) old mid new before buffer n most first last bound fits = (before ++ take n buffer, omega (arith, length-append before (take n buffer), length-take-le n buffer bound, bound, fits), Consumes-trans old mid new before (take n buffer) first last)
+pub Read-trans : (old mid new : Input) (first last : List ℕ) → Read first old mid → Read last mid new → Read (first ++ last) old new
+Read-trans old mid new first last a b = record {
+  given = b.given ∙ ap (λ g. g ++ last) a.given ∙ append_assoc old.given first last;
+  left = Consumes-trans old.left mid.left new.left first last a.left b.left;
+  quiet = b.quiet ∙ a.quiet;
+}
+
+-- a front of a piece was taken, and then a front of its rest
+pub output_with-add : (output : Output) (piece : List ℕ) (i n : ℕ) → output_with (take n (drop i piece)) (output_with (take i piece) output) ≡ output_with (take (i + n) piece) output
+output_with-add output piece i n = ap (λ octets. let o : Output = record { taken = octets; faults = output.faults } in o) (append_assoc output.taken (take i piece) (take n (drop i piece)) ∙ ap (λ r. output.taken ++ r) (sym (take-add i n piece)))

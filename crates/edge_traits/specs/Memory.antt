@@ -1,6 +1,8 @@
--- What an object in memory tells, which stands in the place of one of the outside. It fails in the calls of which its
+-- What an object in memory tells, which stands in the place of one of the environment. It fails in the calls of which its
 -- list has the number. The calls are numbered from 1; the number stands still at the end of its type, as counts do.
-use Rattle.std.specs.Prelude.{ℕ, ◌+◌, ◌-◌, ◌^◌, min, List, ◌++◌, drop, Bool, true, Contains, decimal}
+use Rattle.std.specs.Prelude.{ℕ, ◌+◌, ◌-◌, ◌^◌, min, List, drop, Bool, true, Contains, decimal, Some}
+use Rattle.edge_traits.specs.Input.{Input, input_after, input_with_fault}
+use Rattle.edge_traits.specs.Output.{Output, output_with, output_with_fault}
 
 -- the count after one more
 abbrev pub next_count : ℕ → ℕ
@@ -10,45 +12,52 @@ next_count count = min (count + 1) (2 ^ 64 - 1)
 abbrev pub Lists : List (List ℕ) → ℕ → Type 0
 Lists texts number = Contains texts (decimal number)
 
--- a source: the octets that are left, the faults and calls so far, and the numbers of the calls that fail
+-- a source: the octets that are left, what is seen of it beside them, the calls so far, and the numbers of those that fail
 pub record SourceState : Type 0 where
   pub octets : List ℕ
-  pub faults : ℕ
+  pub past : Input
   pub calls : ℕ
   pub fails : List (List ℕ)
 
--- a sink: the octets that it holds, the faults and calls so far, the numbers of the calls that fail,
--- and whether it has wanted memory
+-- a sink: what it has taken, the calls so far, the numbers of those that fail, and whether it has wanted memory
 pub record SinkState : Type 0 where
-  pub octets : List ℕ
-  pub faults : ℕ
+  pub seen : Output
   pub calls : ℕ
   pub fails : List (List ℕ)
   pub starved : Bool
 
--- the next call fails by the list
-abbrev pub IsSourceToFail : SourceState → Type 0
-IsSourceToFail s = Lists s.fails (next_count s.calls)
+-- what is seen of a source, which tells what is left
+abbrev pub input_of : SourceState → Input
+input_of s = record s.past { left = Some s.octets }
 
-abbrev pub IsSinkToFail : SinkState → Type 0
-IsSinkToFail s = Lists s.fails (next_count s.calls)
+-- after so many calls the next one fails by the list
+abbrev pub IsToFail : List (List ℕ) → ℕ → Type 0
+IsToFail fails calls = Lists fails (next_count calls)
 
--- the source after a call that took so many octets
-abbrev pub source_taken : ℕ → SourceState → SourceState
-source_taken n s = record s { octets = drop n s.octets; calls = next_count s.calls }
+-- the source after a call that gave so many octets into the buffer
+abbrev pub source_after : ℕ → List ℕ → SourceState → SourceState
+source_after n buffer s = record s {
+  octets = drop n s.octets;
+  past = input_after n buffer s.past;
+  calls = next_count s.calls;
+}
 
 -- the source after a call that failed
-abbrev pub source_failed : SourceState → SourceState
-source_failed s = record s { faults = next_count s.faults; calls = next_count s.calls }
+abbrev pub source_with_fault : SourceState → SourceState
+source_with_fault s = record s { past = input_with_fault s.past; calls = next_count s.calls }
 
--- the sink after a call that added the piece
-abbrev pub sink_added : List ℕ → SinkState → SinkState
-sink_added piece s = record s { octets = s.octets ++ piece; calls = next_count s.calls }
+-- the sink after a call that took the piece
+abbrev pub sink_with : List ℕ → SinkState → SinkState
+sink_with piece s = record s { seen = output_with piece s.seen; calls = next_count s.calls }
 
 -- the sink after a call that failed by the list
-abbrev pub sink_failed : SinkState → SinkState
-sink_failed s = record s { faults = next_count s.faults; calls = next_count s.calls }
+abbrev pub sink_with_fault : SinkState → SinkState
+sink_with_fault s = record s { seen = output_with_fault s.seen; calls = next_count s.calls }
 
 -- the sink after a call that failed for want of memory
-abbrev pub sink_starved : SinkState → SinkState
-sink_starved s = record s { faults = next_count s.faults; calls = next_count s.calls; starved = true }
+abbrev pub starved_sink : SinkState → SinkState
+starved_sink s = record s {
+  seen = output_with_fault s.seen;
+  calls = next_count s.calls;
+  starved = true;
+}

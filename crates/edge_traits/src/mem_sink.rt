@@ -1,11 +1,10 @@
-ghost use Rattle.std.specs.Prelude.{◌≡◌, length, [], false, Some, IfOk, OnOk, OnErr};
-ghost use Rattle.edge_traits.specs.Faults.{HasCause};
-ghost use Rattle.edge_traits.specs.Octets.{WriteGives};
-ghost use Rattle.edge_traits.specs.Memory.{IsSinkToFail, sink_added, sink_failed, sink_starved};
+ghost use Rattle.std.specs.Prelude.{◌≡◌, length, false, IfOk, OnOk, OnErr};
+ghost use Rattle.edge_traits.specs.Output.{WriteTakes, unwritten_output};
+ghost use Rattle.edge_traits.specs.Memory.{IsToFail, sink_with, sink_with_fault, starved_sink};
 
 use crate::numbers::lists;
-use crate::outside::{Failed, Sink};
-use base_lists::{Bytes, Texts};
+use crate::streams::{Failed, Sink};
+use base_lists::{Bytes, Tally, Texts};
 use std::alloc::Global;
 use std::marker::Model;
 
@@ -15,7 +14,7 @@ pub struct MemSink {
     octets: Bytes,
     fails: Texts,
     calls: u64,
-    faults: u64,
+    faults: Tally,
     starved: bool,
 }
 
@@ -24,27 +23,32 @@ impl Model for MemSink {
 
     ghost Value = { SinkState };
 
-    ghost view = { λ s. record { octets = s.octets; faults = s.faults; calls = s.calls; fails = s.fails; starved = s.starved } };
+    ghost view = { λ s. record {
+      seen = record { taken = s.octets; faults = s.faults };
+      calls = s.calls;
+      fails = s.fails;
+      starved = s.starved;
+    } };
 }
 
 impl MemSink {
     /// A sink that fails in the calls of `write` with the listed numbers, from 1, in decimal and without leading zeros,
     /// and where it wants memory. Takes no memory itself.
     pub fn make(alloc: Global, fails: Texts) -> MemSink
-        ensures { result ≡ record { octets = []; faults = 0; calls = 0; fails = fails; starved = false } }
+        ensures { result ≡ record { seen = unwritten_output; calls = 0; fails = fails; starved = false } }
     {
         MemSink {
             octets: Bytes::empty(alloc),
             fails,
             calls: 0,
-            faults: 0,
+            faults: Tally::zero(),
             starved: false,
         }
     }
 
     /// What was written.
     pub fn octets(&self) -> &[u8]
-        ensures { result.now ≡ self.now.octets }
+        ensures { result.now ≡ self.now.seen.taken }
     {
         self.octets.items()
     }
@@ -58,31 +62,29 @@ impl MemSink {
 }
 
 impl Sink for MemSink {
-    ghost written = { λ s. Some s.octets };
-
-    ghost faults = { λ s. s.faults };
+    ghost seen = { λ s. s.seen };
 
     /// Fails where the list has the number of the call, and else for want of memory alone, which `starved` shows.
     /// Where it doesn't fail it takes the whole piece.
     fn write(&mut self, piece: &[u8]) -> Result<usize, Failed>
-        ensures octets { WriteGives (Some self.old.octets) (Some self.new.octets) result piece.now }
-        ensures cause { HasCause self.old.faults self.new.faults result }
+        ensures takes { WriteTakes result piece.now self.old.seen self.new.seen }
         ensures whole { IfOk result (λ n. n ≡ length piece.now) }
-        ensures ok { OnOk result (self.new ≡ sink_added piece.now self.old) }
-        ensures unlisted { OnOk result (IsSinkToFail self.old → ⊥) }
-        ensures listed { IsSinkToFail self.old → self.new ≡ sink_failed self.old }
-        ensures wanted { OnErr result ((IsSinkToFail self.old → ⊥) → self.new ≡ sink_starved self.old) }
+        ensures ok { OnOk result (self.new ≡ sink_with piece.now self.old) }
+        ensures unlisted { OnOk result (IsToFail self.old.fails self.old.calls → ⊥) }
+        ensures listed { IsToFail self.old.fails self.old.calls → self.new ≡ sink_with_fault self.old }
+        ensures wanted { OnErr result ((IsToFail self.old.fails self.old.calls → ⊥) →
+            self.new ≡ starved_sink self.old) }
     {
         self.calls = self.calls.saturating_add(1);
         if lists(self.fails.items(), self.calls) {
-            self.faults = self.faults.saturating_add(1);
+            self.faults.rise();
             return Err(Failed);
         }
         match self.octets.extend_from_slice(piece) {
             Ok(()) => Ok(piece.len()),
             Err(_) => {
                 self.starved = true;
-                self.faults = self.faults.saturating_add(1);
+                self.faults.rise();
                 Err(Failed)
             }
         }

@@ -1,10 +1,10 @@
 ghost use Rattle.std.specs.Prelude.{◌≡◌, ◌≤◌, ◌↔◌, min, length, take, drop, Some, IfOk, OnErr, IsErr};
-ghost use Rattle.edge_traits.specs.Faults.{HasCause};
-ghost use Rattle.edge_traits.specs.Octets.{ReadGives};
-ghost use Rattle.edge_traits.specs.Memory.{IsSourceToFail, source_taken, source_failed};
+ghost use Rattle.edge_traits.specs.Input.{ReadGives, unread_input};
+ghost use Rattle.edge_traits.specs.Memory.{IsToFail, input_of, source_after, source_with_fault};
 
 use crate::numbers::lists;
-use crate::outside::{Failed, Source};
+use crate::records::InputRecord;
+use crate::streams::{Failed, Source};
 use base_lists::{Bytes, Texts};
 use std::marker::Model;
 
@@ -15,7 +15,7 @@ pub struct MemSource {
     place: usize,
     fails: Texts,
     calls: u64,
-    faults: u64,
+    past: InputRecord,
 }
 
 impl Model for MemSource {
@@ -24,7 +24,12 @@ impl Model for MemSource {
 
     ghost Value = { SourceState };
 
-    ghost view = { λ s. record { octets = drop s.place s.octets; faults = s.faults; calls = s.calls; fails = s.fails } };
+    ghost view = { λ s. record {
+      octets = drop s.place s.octets;
+      past = s.past;
+      calls = s.calls;
+      fails = s.fails;
+    } };
 
     ghost invariant = { λ s. s.place ≤ length s.octets };
 }
@@ -33,39 +38,37 @@ impl MemSource {
     /// A source of these octets, which fails in the calls of `read` with the listed numbers, from 1, in decimal and
     /// without leading zeros. Takes no memory.
     pub fn make(octets: Bytes, fails: Texts) -> MemSource
-        ensures { result ≡ record { octets = octets; faults = 0; calls = 0; fails = fails } }
+        ensures { result ≡ record { octets = octets; past = unread_input; calls = 0; fails = fails } }
     {
         MemSource {
             octets,
             place: 0,
             fails,
             calls: 0,
-            faults: 0,
+            past: InputRecord::unread(),
         }
     }
 }
 
 impl Source for MemSource {
-    ghost left = { λ s. Some s.octets };
-
-    ghost faults = { λ s. s.faults };
+    ghost seen = { λ s. input_of s };
 
     /// Fails exactly where the list has the number of the call, and else fills the buffer as far as there are octets.
     fn read(&mut self, buffer: &mut [u8]) -> Result<usize, Failed>
-        ensures octets { ReadGives (Some self.old.octets) (Some self.new.octets) result buffer.new }
-        ensures cause { HasCause self.old.faults self.new.faults result }
-        ensures fails { IsErr result ↔ IsSourceToFail self.old }
+        ensures gives { ReadGives result buffer.new (input_of self.old) (input_of self.new) }
+        ensures fails { IsErr result ↔ IsToFail self.old.fails self.old.calls }
         ensures full { IfOk result (λ n. n ≡ min (length buffer.new) (length self.old.octets)) }
-        ensures ok { IfOk result (λ n. self.new ≡ source_taken n self.old) }
-        ensures err { OnErr result (self.new ≡ source_failed self.old) }
+        ensures ok { IfOk result (λ n. self.new ≡ source_after n buffer.new self.old) }
+        ensures err { OnErr result (self.new ≡ source_with_fault self.old) }
     {
         self.calls = self.calls.saturating_add(1);
         if lists(self.fails.items(), self.calls) {
-            self.faults = self.faults.saturating_add(1);
+            self.past.failed();
             return Err(Failed);
         }
         let count = copy_front(self.octets.items(), self.place, buffer);
         self.place += count;
+        self.past.gave(count, buffer);
         Ok(count)
     }
 }

@@ -1,8 +1,7 @@
-ghost use Rattle.std.specs.Prelude.{◌≡◌, ℕ, ◌+◌, ◌≤◌, ◌⊎◌, List, length, take, IfOk, OnOk, OnErr, IsErrOf};
-ghost use Rattle.std.specs.Io.KnownBytes.{Consumes, IsAtEnd};
-ghost use Rattle.edge_traits.specs.Faults.{Rose};
+ghost use Rattle.std.specs.Prelude.{◌≡◌, IfOk, IsErrOf};
+ghost use Rattle.edge_traits.specs.Input.{ReadsToLimit, FailedToLimit, StoppedToLimit};
 
-use crate::outside::{Failed, Source};
+use crate::streams::{Failed, Source};
 use base_lists::{Bytes, NoMemory};
 use std::alloc::Global;
 use thiserror::Error;
@@ -40,22 +39,19 @@ impl From<NoMemory> for ReadFault {
 const PIECE: usize = 4096;
 
 /// Reads to the end of the source, or until one octet more than the limit is taken.
-/// After an `Err` the octets that were read so far are lost.
+/// After an `Err` the octets that were read so far are lost: `Failed` behind a read that failed, `NoMemory` where the
+/// octets found no room.
 pub fn read_to_limit<S: Source>(
     alloc: Global,
     source: &mut S,
     limit: u32,
 ) -> Result<Bytes, ReadFault>
-    ensures octets { IfOk result (λ octets. Consumes (S.left source.old) (S.left source.new) octets) }
-    ensures bound { IfOk result (λ octets. length octets ≤ limit + 1) }
-    ensures whole { IfOk result (λ octets. IsAtEnd (S.left source.new) ⊎ (length octets ≡ limit + 1)) }
-    ensures quiet { OnOk result (S.faults source.new ≡ S.faults source.old) }
-
-    ensures failed { IsErrOf result ReadFault.Failed → Rose (S.faults source.old) (S.faults source.new) }
-    ensures failed_within { IsErrOf result ReadFault.Failed → (octets : List ℕ) × (length octets ≤ limit) × Consumes (S.left source.old) (S.left source.new) octets }
-    ensures memory { IsErrOf result ReadFault.NoMemory → S.faults source.new ≡ S.faults source.old }
-    ensures later { S.faults source.old ≤ S.faults source.new }
-    ensures lost { OnErr result ((octets : List ℕ) × (length octets ≤ limit + 1) × Consumes (S.left source.old) (S.left source.new) octets) }
+    ensures ok { IfOk result (λ octets.
+        ReadsToLimit limit octets (S.seen source.old) (S.seen source.new)) }
+    ensures failed { IsErrOf result ReadFault.Failed →
+        FailedToLimit limit (S.seen source.old) (S.seen source.new) }
+    ensures memory { IsErrOf result ReadFault.NoMemory →
+        StoppedToLimit limit (S.seen source.old) (S.seen source.new) }
 {
     let most = limit as usize + 1;
     let mut octets = Bytes::empty(alloc);

@@ -1,11 +1,17 @@
-use Rattle.std.proofs.Common.{arith, ◌∙◌, length-drop}
+use Rattle.std.proofs.Common.{ap, arith, ◌∙◌, take, drop, length-drop}
 use Rattle.std.proofs.lemmas.List.{take_rest}
-use Rattle.edge_traits.proofs.Pieces.{Appends-take_add}
+use Rattle.edge_traits.specs.Output.{Output, output_with}
+use Rattle.edge_traits.proofs.Pieces.{output_with-add}
 use Rattle.edge_traits.proofs.writing.write_whole.Goals as goal
 
 pub loop-done-preserved : goal.loop-done-preserved
-loop-done-preserved g c = record {
-  within = omega (arith, c.in_ok-done.ensures.octets.bound, length-drop c.loop-done.done c.args.piece.now);
-  octets = Appends-take_add _ _ _ c.args.piece.now c.loop-done.done c.in_ok-done.field-0 c.loop-done.invariant.octets (rw take_rest at c.in_ok-done.ensures.octets.octets);
-  quiet = c.in_ok-done.ensures.cause.quiet ∙ c.loop-done.invariant.quiet;
-}
+loop-done-preserved g c =
+    let piece = c.args.piece.now in
+    let done = c.loop-done.done in
+    let n = c.in_ok-done.field-0 in
+    let start = g.K.Sink.seen c.args.sink.now in
+    let more = rw take_rest at c.in_ok-done.ensures.octets in
+    record {
+      within = omega (arith, c.in_ok-done.ensures.bound, length-drop done piece);
+      taken = more ∙ ap (λ (o : Output). output_with (take n (drop done piece)) o) c.loop-done.invariant.taken ∙ output_with-add start piece done n;
+    }

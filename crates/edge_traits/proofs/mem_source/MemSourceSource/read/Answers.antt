@@ -1,8 +1,17 @@
-use Rattle.edge_traits.proofs.Fronts.{Reads-front}
+use Rattle.std.proofs.Common.{Some, drop, ◌+◌, sym, subst}
+use Rattle.edge_traits.specs.Input.{Input, ReadsFront}
+use Rattle.edge_traits.proofs.Fronts.{ReadsFront-of}
 use Rattle.edge_traits.proofs.mem_source.MemSourceSource.read.Goals as goal
 
-pub returns-clause-octets : goal.returns-clause-octets
-returns-clause-octets c =
+pub returns-clause-gives : goal.returns-clause-gives
+returns-clause-gives c =
     let count = rw c.items-2.ensures at c.copy_front-count.ensures.count in
     let front = rw c.items-2.ensures at c.copy_front-count.ensures.octets in
-    rw (← c.self.view_is) (Reads-front c.self.inside.octets c.copy_front-count.new.buffer c.self.inside.place c.copy_front-count.result count front)
+    let n = c.copy_front-count.result in
+    let buffer = c.copy_front-count.new.buffer in
+    let octets = c.self.inside.octets in
+    let place = c.self.inside.place in
+    let left = drop (place + n) octets in
+    let inside = ReadsFront-of c.self.inside.past octets buffer place n count front in
+    let after = subst (λ (past : Input). ReadsFront n buffer (record c.self.inside.past { left = Some (drop place octets) }) (record past { left = Some left })) (sym c.gave.ensures) inside in
+    rw (← c.self.view_is) after
