@@ -1,4 +1,5 @@
 ghost use Rattle.std.specs.Prelude.{◌≡◌, ◌↔◌, IsTrue};
+ghost use Rattle.base_kinds.specs.Values.{is_list, values_in};
 
 use base_lists::{Bytes, Copied, NoMemory, Same, Seq, Text};
 use std::alloc::Global;
@@ -19,6 +20,25 @@ pub enum Value {
 }
 
 pub type Values = Seq<Value>;
+
+impl Value {
+    /// Whether it is the value of a leaf-list.
+    pub fn is_list(&self) -> bool
+        ensures { result ≡ is_list self.now }
+    {
+        matches!(self, Value::List(_))
+    }
+
+    /// The values of a leaf-list, in order; a leaf has none.
+    pub fn values(&self) -> &[Value]
+        ensures { result.now ≡ values_in self.now }
+    {
+        match self {
+            Value::List(values) => values.items(),
+            _ => &[],
+        }
+    }
+}
 
 impl Copied for Value {
     fn copy(&self, alloc: Global) -> Result<Value, NoMemory> {

@@ -1,3 +1,4 @@
 pub mod NodeLemmas
 pub mod IndexLemmas
 pub mod WellFormedLemmas
+pub mod NameLemmas
