@@ -1,5 +1,6 @@
 pub mod Fronts
 pub mod Remembered
 pub mod Results
+pub mod Rising
 pub mod SevenBits
 pub mod formers

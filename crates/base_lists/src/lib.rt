@@ -4,6 +4,7 @@
 mod groups;
 mod no_memory;
 mod order;
+mod ranked;
 mod remembered;
 mod seq;
 mod tally;
@@ -13,6 +14,7 @@ mod text;
 
 pub use groups::put_groups;
 pub use no_memory::NoMemory;
+pub use ranked::{Ranked, rises};
 pub use remembered::Remembered;
 pub use seq::{Copied, Same, Seq};
 pub use tally::{Tally, remember_all};
