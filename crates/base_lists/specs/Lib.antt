@@ -1,4 +1,5 @@
 pub mod Fronts
+pub mod Options
 pub mod Remembered
 pub mod Results
 pub mod Rising

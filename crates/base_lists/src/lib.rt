@@ -1,4 +1,7 @@
-//! Lists and texts as contracts see them: a `Seq` is the list of its items, a `Text` the list of its octets.
+//! Lists and texts as contracts see them: a `Seq` is the list of its items, a `Text` the list of its octets, and a
+//! `Remembered` a list that contracts alone know. Start with `Seq` (seq.rt) and specs/Fronts.antt, which says what a
+//! call that gave up may have added. Results by steps stand in specs/Results.antt, groups of seven bits in
+//! specs/SevenBits.antt, lists that rise in specs/Rising.antt.
 #![tactic(auto)]
 
 mod groups;
@@ -8,8 +11,6 @@ mod ranked;
 mod remembered;
 mod seq;
 mod tally;
-#[cfg(test)]
-mod tests;
 mod text;
 
 pub use groups::put_groups;

@@ -1,4 +1,7 @@
-use crate::{Bytes, Copied, NoMemory, Remembered, Same, Seq, Text, TextOfFault, Texts};
+//! Lists and texts: what prints, UTF-8 at its bounds, orders, copies, groups of seven bits.
+use base_lists::{
+    Bytes, Copied, NoMemory, Remembered, Same, Seq, Text, TextOfFault, Texts, put_groups, rises,
+};
 use std::alloc::Global;
 use std::cmp::Ordering;
 use std::process::Abort;
@@ -172,4 +175,44 @@ fn of_what_is_remembered_a_tag_alone_is_kept(rt: HostRuntime) {
     past.remember(&5u64);
     past.remember(&6u64);
     assert_eq!(rt; std::mem::size_of::<Remembered<u64>>(), 1, "a tag alone");
+}
+
+#[test]
+fn names_that_rise_and_names_that_do_not(rt: HostRuntime) -> Result<(), Fail> {
+    let alloc = rt.alloc();
+    let table: [(&[&str], bool); 6] = [
+        (&[], true),
+        (&["b"], true),
+        (&["a", "ab", "b"], true),
+        (&["a", "a"], false),
+        (&["a", "c", "b"], false),
+        (&["b", "a", "c"], false),
+    ];
+    for (words, is_rising) in table {
+        let mut keys = Seq::empty(alloc);
+        for word in words {
+            keys.push((text_of(&rt, alloc, word), 0u8))?;
+        }
+        assert_eq!(rt; rises(keys.items()), is_rising, "{words:?}");
+    }
+    Ok(())
+}
+
+#[test]
+fn groups_of_seven_bits_are_as_the_field_writes_them(rt: HostRuntime) -> Result<(), Fail> {
+    let alloc = rt.alloc();
+    // protobuf.dev, "Encoding", has 1 and 150; RFC 7541 C.1.2 has 1306 behind a prefix of 31
+    let table: [(u64, &[u8]); 5] = [
+        (0, b"\x00"),
+        (1, b"\x01"),
+        (150, b"\x96\x01"),
+        (1306, b"\x9a\x0a"),
+        (u64::MAX, b"\xff\xff\xff\xff\xff\xff\xff\xff\xff\x01"),
+    ];
+    for (number, octets) in table {
+        let mut out = Bytes::of(alloc, b"x")?;
+        put_groups(number, &mut out)?;
+        assert_eq!(rt; &out.items()[1..], octets, "{number}");
+    }
+    Ok(())
 }

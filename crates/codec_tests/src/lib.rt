@@ -1,0 +1,6 @@
+//! Tests of lists and texts and of the codecs of the wire: what others wrote is read, and what is written is as others
+//! write it.
+#![tactic(auto)]
+
+#[cfg(test)]
+mod lists;
