@@ -14,6 +14,7 @@ use Rattle.base_kinds.specs.declared.entry.Entry.{Entry}
 use Rattle.base_kinds.specs.declared.entry.Kind.TheVariants as kinds
 use Rattle.base_kinds.specs.declared.entry.Ask.{Ask}
 use Rattle.base_kinds.specs.declared.entry.Ask.TheVariants as asks
+use Rattle.base_kinds.specs.Limits.{most_elements, most_keys, most_id_octets, most_fraction_digits, shortest_duration, longest_duration}
 use Rattle.base_kinds.specs.Paths.{text_cmp, path_cmp}
 use Rattle.base_kinds.specs.Values.{row_values}
 use Rattle.base_kinds.specs.Step.{Rules, is_due, next_entry, new_stamp, judge}
@@ -24,17 +25,17 @@ rises cmp [] = true
 rises cmp (item ∷ []) = true
 rises cmp (item ∷ other ∷ others) = is_lt (cmp item other) && rises cmp (other ∷ others)
 
--- keys rise by name, and there are at most 65,535
+-- keys rise by name, and there aren't too many
 abbrev pub is_fit_elem : Elem → Bool
-is_fit_elem elem = nat_le (length elem.keys) 65535 && rises (λ a b. text_cmp a.0 b.0) elem.keys
+is_fit_elem elem = nat_le (length elem.keys) most_keys && rises (λ a b. text_cmp a.0 b.0) elem.keys
 
--- a path has at most 32 elements
+-- a path has a bounded number of elements, each of them fit
 abbrev pub is_fit_path : List Elem → Bool
-is_fit_path path = nat_le (length path) 32 && list_all is_fit_elem path
+is_fit_path path = nat_le (length path) most_elements && list_all is_fit_elem path
 
--- a value that is no list; a decimal has 1 to 18 digits behind the point
+-- a value that is no list; a decimal has at least one digit behind the point, and at most so many (RFC 7950 9.3.4)
 abbrev pub is_fit_scalar : Value → Bool
-is_fit_scalar (v.Dec digits places) = nat_le 1 places && nat_le places 18
+is_fit_scalar (v.Dec digits places) = nat_le 1 places && nat_le places most_fraction_digits
 is_fit_scalar (v.List' n values) = false
 is_fit_scalar _ = true
 
@@ -63,31 +64,29 @@ is_fit_op op = is_fit_path op.path && has_fit_rows op.act op.rows && list_all is
 abbrev pub AreFitOps : List Op → Type 0
 AreFitOps ops = IsTrue (list_all is_fit_op ops)
 
--- an id has 1 to 64 octets
-pub record IsFitId (id : List ℕ) : Type 0 where
-  pub least : 1 ≤ length id
-  pub most : length id ≤ 64
+-- an id has at least one octet
+abbrev pub is_fit_id : List ℕ → Bool
+is_fit_id id = nat_le 1 (length id) && nat_le (length id) most_id_octets
 
--- a duration is 1 s to 86,400 s, in nanoseconds
-pub record IsFitDuration (duration : ℕ) : Type 0 where
-  pub least : 1000000000 ≤ duration
-  pub most : duration ≤ 86400000000000
+-- a duration in nanoseconds that a trial may have
+abbrev pub is_fit_duration : ℕ → Bool
+is_fit_duration duration = nat_le shortest_duration duration && nat_le duration longest_duration
 
 pub record IsFitTrial (id : List ℕ) (ops : List Op) (duration : ℕ) : Type 0 where
-  pub id_fits : IsFitId id
+  pub id_fits : IsTrue (is_fit_id id)
   pub ops_fit : AreFitOps ops
-  pub duration_fits : IsFitDuration duration
+  pub duration_fits : IsTrue (is_fit_duration duration)
 
 pub record IsFitExtend (id : List ℕ) (duration : ℕ) : Type 0 where
-  pub id_fits : IsFitId id
-  pub duration_fits : IsFitDuration duration
+  pub id_fits : IsTrue (is_fit_id id)
+  pub duration_fits : IsTrue (is_fit_duration duration)
 
 -- what may be asked of a target at all
 abbrev pub IsFit : Ask → Type 0
 IsFit (asks.Apply ops) = AreFitOps ops
 IsFit (asks.Trial id ops duration) = IsFitTrial id ops duration
-IsFit (asks.Confirm id) = IsFitId id
-IsFit (asks.Cancel id) = IsFitId id
+IsFit (asks.Confirm id) = IsTrue (is_fit_id id)
+IsFit (asks.Cancel id) = IsTrue (is_fit_id id)
 IsFit (asks.Extend id duration) = IsFitExtend id duration
 
 -- the entry is the event of the clock: a trial that is due at the entry's own stamp expires

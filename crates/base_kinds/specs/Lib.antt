@@ -1,4 +1,6 @@
-pub mod Examples
+pub mod Ancestors
+pub mod Bases
+pub mod Events
 pub mod History
 pub mod Keys
 pub mod Legal
@@ -8,6 +10,8 @@ pub mod Parts
 pub mod Paths
 pub mod Records
 pub mod Refusals
+pub mod Rising
+pub mod Room
 pub mod Rules
 pub mod Schema
 pub mod Step
@@ -16,6 +20,4 @@ pub mod Tree
 pub mod Valid
 pub mod Values
 pub mod Weights
-pub mod WorkedMatches
-pub mod WorkedSteps
-pub mod WorkedTrees
+pub mod worked

@@ -1,7 +1,7 @@
 -- The order of paths. gNMI leaves it open; here it is that of octets, element by element.
-use Rattle.std.specs.Prelude.{ℕ, List}
+use Rattle.std.specs.Prelude.{ℕ, List, Bool}
 use Rattle.std.specs.declared.cmp.Ordering.{Ordering}
-use Rattle.std.specs.Ordering.{nat_cmp, ordering_then}
+use Rattle.std.specs.Ordering.{nat_cmp, ordering_then, is_eq}
 use Rattle.std.specs.Cmp.Lexicographic.{slice_cmp}
 use Rattle.base_kinds.specs.declared.path.Elem.{Elem}
 
@@ -20,3 +20,7 @@ elem_cmp a b = ordering_then (text_cmp a.name b.name) (slice_cmp key_cmp a.keys 
 -- a path element by element, and a front of a path comes before it
 abbrev pub path_cmp : List Elem → List Elem → Ordering
 path_cmp = slice_cmp elem_cmp
+
+-- the paths are equal
+abbrev pub same_path : List Elem → List Elem → Bool
+same_path a b = is_eq (path_cmp a b)

@@ -1,5 +1,6 @@
--- How many octets an entry has as a record of the journal, whose format is this project's own. Numbers have 8 octets, authors, counts and lengths of texts 4,
--- the number of elements of a path and of keys of an element 2, and what tells a variant 1.
+-- How many octets an entry has as a record of the journal, whose format is this project's own. Numbers have 8 octets,
+-- authors, counts and lengths of texts 4, the number of elements of a path and of keys of an element 2, and what tells a
+-- variant 1.
 use Rattle.std.specs.Prelude.{ℕ, ◌+◌, List, length, min, sum_by}
 use Rattle.base_kinds.specs.declared.path.Elem.{Elem}
 use Rattle.base_kinds.specs.declared.operation.Row.{Row}
@@ -9,6 +10,7 @@ use Rattle.base_kinds.specs.declared.entry.Kind.{Kind}
 use Rattle.base_kinds.specs.declared.entry.Kind.TheVariants as kinds
 use Rattle.base_kinds.specs.declared.value.Value.{Value, Row_of-Value, end_of-Value, more_of-Value}
 use Rattle.base_kinds.specs.declared.value.Value as v
+use Rattle.base_kinds.specs.Limits.{bare_record_octets, greatest_count}
 
 -- a length and the octets
 abbrev pub text_octets : List ℕ → ℕ
@@ -63,8 +65,8 @@ kind_octets (kinds.Extend deadline) = 8
 
 -- author, stamp, the kind's number, and what the kind has
 abbrev pub record_octets : Entry → ℕ
-record_octets entry = 13 + kind_octets entry.kind
+record_octets entry = bare_record_octets + kind_octets entry.kind
 
 -- a count that stops at the greatest number of 64 bits
 abbrev pub counted : ℕ → ℕ
-counted count = min count 18446744073709551615
+counted count = min count greatest_count

@@ -11,6 +11,7 @@ use Rattle.base_kinds.specs.declared.entry.Ask.{Ask}
 use Rattle.base_kinds.specs.declared.entry.Ask.TheVariants as asks
 use Rattle.base_kinds.specs.declared.refusal.Refusal.{Refusal}
 use Rattle.base_kinds.specs.declared.refusal.Refusal.TheVariants.{TrialOpen, NoTrial, WrongId, TreeInvalid, TreeFull, LogFull}
+use Rattle.base_kinds.specs.Limits.{latest_reading, gate_octets, closing_octets}
 use Rattle.base_kinds.specs.Tree.{effect}
 use Rattle.base_kinds.specs.History.{World, OpenTrial, world_of, stamp_of}
 
@@ -22,13 +23,9 @@ pub record Rules : Type 0 where
   pub record_octets : Entry → ℕ
   pub has_room : List Entry → ℕ → ℕ → Bool
 
--- no schema and no limits
-abbrev pub unchecked : Rules
-unchecked = record { valid = λ tree. true; fits = λ tree. true; record_octets = λ entry. 0; has_room = λ h entries octets. true }
-
 -- a reading of the clock counts up to the year 2100
 abbrev pub clamped_reading : ℕ → ℕ
-clamped_reading now = min now 4102444800000000000
+clamped_reading now = min now latest_reading
 
 -- the time at a reading: it doesn't go back behind the last entry
 abbrev pub time_at : List Entry → ℕ → ℕ
@@ -71,7 +68,7 @@ kind_of_ask stamp (asks.Confirm id) = kinds.Confirm
 kind_of_ask stamp (asks.Cancel id) = kinds.Cancel
 kind_of_ask stamp (asks.Extend id duration) = kinds.Extend (stamp + duration)
 
--- The cases in which operations are refused. Where room has to be left, a trial can still be closed: by an entry of 14 octets.
+-- The cases in which operations are refused, in this order.
 abbrev pub refusal_cases_of_ops : Rules → List Entry → World → List Op → ℕ → ℕ → List (Bool × Refusal)
 refusal_cases_of_ops rules h world ops entries octets =
     (is_open world.trial, TrialOpen)
@@ -82,13 +79,15 @@ refusal_cases_of_ops rules h world ops entries octets =
 abbrev pub refusal_cases_of_trial : World → List ℕ → List (Bool × Refusal) → List (Bool × Refusal)
 refusal_cases_of_trial world id others = (not (is_open world.trial), NoTrial) ∷ (is_other world.trial id, WrongId) ∷ others
 
--- the cases in which the ask is refused, whose entry's record has so many octets: 1 more is the octet in front of it
+-- The cases in which the ask is refused, whose entry's record has so many octets. A trial that is open behind the entry can
+-- still be closed: there is room for that entry too.
 abbrev pub refusal_cases : Rules → List Entry → World → Ask → ℕ → List (Bool × Refusal)
-refusal_cases rules h world (asks.Apply ops) octets = refusal_cases_of_ops rules h world ops 1 (octets + 1)
-refusal_cases rules h world (asks.Trial id ops duration) octets = refusal_cases_of_ops rules h world ops 2 (octets + 15)
+refusal_cases rules h world (asks.Apply ops) octets = refusal_cases_of_ops rules h world ops 1 (octets + gate_octets)
+refusal_cases rules h world (asks.Trial id ops duration) octets = refusal_cases_of_ops rules h world ops 2 (octets + (gate_octets + closing_octets))
 refusal_cases rules h world (asks.Confirm id) octets = refusal_cases_of_trial world id []
 refusal_cases rules h world (asks.Cancel id) octets = refusal_cases_of_trial world id []
-refusal_cases rules h world (asks.Extend id duration) octets = refusal_cases_of_trial world id ((not (rules.has_room h 2 (octets + 15)), LogFull) ∷ [])
+refusal_cases rules h world (asks.Extend id duration) octets =
+    refusal_cases_of_trial world id ((not (rules.has_room h 2 (octets + (gate_octets + closing_octets))), LogFull) ∷ [])
 
 -- the refusal of the first case that holds, else the entry
 abbrev pub first_refusal : List (Bool × Refusal) → Entry → Result Entry Refusal

@@ -3,14 +3,15 @@
 use Rattle.std.specs.Prelude.{ℕ, List, [], ◌∷◌, ◌++◌, Bool, true, false, not, ◌&&◌, ◌||◌, ◌==◌, nat_le, length, filter, Option, Some, None, IsTrue, if◌then◌else◌}
 use Rattle.std.specs.List.{list_any, list_all, flat_map}
 use Rattle.std.specs.Str.{bytes_eq}
-use Rattle.std.specs.Ordering.{is_eq}
 use Rattle.base_kinds.specs.declared.path.Elem.{Elem}
 use Rattle.base_kinds.specs.declared.value.Value.{Value}
 use Rattle.base_kinds.specs.declared.operation.Row.{Row}
 use Rattle.base_kinds.specs.declared.schema.Shape.{Shape}
 use Rattle.base_kinds.specs.declared.schema.Sort.{Sort}
 use Rattle.base_kinds.specs.declared.schema.Sort.TheVariants as sorts
-use Rattle.base_kinds.specs.Paths.{path_cmp}
+use Rattle.base_kinds.specs.Paths.{same_path}
+use Rattle.base_kinds.specs.Ancestors.{path_steps, ancestors, child, parent_of, parent_names, own_name}
+use Rattle.base_kinds.specs.Limits.{most_leaves, most_weight}
 use Rattle.base_kinds.specs.Schema.{SchemaNode, names_of, same_names, node_at}
 use Rattle.base_kinds.specs.Values.{is_list, values_in, same_scalar, all_differ, has_shape}
 use Rattle.base_kinds.specs.Keys.{key_text}
@@ -25,29 +26,6 @@ if_some (Some a) test = test a
 abbrev pub unless_none : {A : Type 0} → Option A → (A → Bool) → Bool
 unless_none None test = true
 unless_none (Some a) test = test a
-
-abbrev pub same_path : List Elem → List Elem → Bool
-same_path a b = is_eq (path_cmp a b)
-
--- the fronts of a path that end in an element, each with that element, where this much stands before them
-abbrev pub path_steps_from : List Elem → List Elem → List (List Elem × Elem)
-path_steps_from front [] = []
-path_steps_from front (elem ∷ elems) = (front ++ elem ∷ [], elem) ∷ path_steps_from (front ++ elem ∷ []) elems
-
-abbrev pub path_steps : List Elem → List (List Elem × Elem)
-path_steps path = path_steps_from [] path
-
--- the fronts that are shorter than the path: the instances that it stands below, the root first
-abbrev pub ancestors_from : List Elem → List Elem → List (List Elem)
-ancestors_from front [] = []
-ancestors_from front (elem ∷ elems) = front ∷ ancestors_from (front ++ elem ∷ []) elems
-
-abbrev pub ancestors : List Elem → List (List Elem)
-ancestors path = ancestors_from [] path
-
--- the path of the leaf with this name below the instance
-abbrev pub child : List Elem → List ℕ → List Elem
-child parent name = parent ++ record { name = name; keys = [] } ∷ []
 
 -- 1: each row stands at a leaf or a leaf-list, and each element has just the keys of its node
 abbrev pub is_leafy : Sort → Bool
@@ -93,18 +71,6 @@ keys_hold rows = list_all (row_has_keys rows) rows
 abbrev pub has_row : List Row → List Elem → Bool
 has_row rows path = list_any (λ row. same_path row.path path) rows
 
--- the names of a node's parent
-abbrev pub parent_names : List (List ℕ) → List (List ℕ)
-parent_names [] = []
-parent_names (name ∷ []) = []
-parent_names (name ∷ other ∷ others) = name ∷ parent_names (other ∷ others)
-
--- the name of the node itself
-abbrev pub own_name : List (List ℕ) → List ℕ
-own_name [] = []
-own_name (name ∷ []) = name
-own_name (name ∷ other ∷ others) = own_name (other ∷ others)
-
 -- the leaf stands below the instance, if that is one of the leaf's parent
 abbrev pub stands_below : List Row → List (List ℕ) → List Elem → Bool
 stands_below rows names instance = not (same_names (names_of instance) (parent_names names)) || has_row rows (child instance (own_name names))
@@ -133,12 +99,6 @@ each_once (path ∷ paths) = if list_any (same_path path) paths then each_once p
 -- the entries of the lists with these names: the instances that some row stands below
 abbrev pub entries_of : List Row → List (List ℕ) → List (List Elem)
 entries_of rows names = each_once (filter (λ instance. same_names (names_of instance) names) (flat_map (λ row. ancestors row.path) rows))
-
--- the path without its last element
-abbrev pub parent_of : List Elem → List Elem
-parent_of [] = []
-parent_of (elem ∷ []) = []
-parent_of (elem ∷ other ∷ others) = elem ∷ parent_of (other ∷ others)
 
 -- so many of the paths at most have the same path above them
 abbrev pub few_beside : ℕ → List (List Elem) → Bool
@@ -171,6 +131,6 @@ pub record IsValid (schema : List SchemaNode) (rows : List Row) : Type 0 where
   pub referring : IsTrue (leafrefs_resolve schema rows)
   pub within : IsTrue (max_elements_hold schema rows)
 
--- at most 65,536 leaves, and a weight of at most 1,900,000
+-- a tree has a bounded number of leaves, and a bounded weight
 abbrev pub fits : List Row → Bool
-fits rows = nat_le (length rows) 65536 && nat_le (tree_weight rows) 1900000
+fits rows = nat_le (length rows) most_leaves && nat_le (tree_weight rows) most_weight

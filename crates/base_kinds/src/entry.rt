@@ -1,6 +1,7 @@
-ghost use Rattle.std.specs.Prelude.{IsTrue, ◌↔◌};
-ghost use Rattle.base_kinds.specs.Limits.{AreInRange};
+ghost use Rattle.std.specs.Prelude.{◌≡◌, IsTrue, ◌↔◌};
+ghost use Rattle.base_kinds.specs.Limits.{AreInRange, default_limits};
 
+use crate::limits::{LEAST_LOG_ENTRIES, LEAST_LOG_OCTETS, MOST_LOG_ENTRIES, MOST_LOG_OCTETS};
 use crate::operation::{Ops, Rows};
 use base_lists::{Seq, Text};
 
@@ -61,9 +62,19 @@ impl Limits {
     pub fn in_range(&self) -> bool
         ensures { IsTrue result ↔ AreInRange self.now }
     {
-        self.entries >= 2
-            && self.entries <= 65_536
-            && self.octets >= 4_096
-            && self.octets <= 268_435_456
+        self.entries >= LEAST_LOG_ENTRIES
+            && self.entries <= MOST_LOG_ENTRIES
+            && self.octets >= LEAST_LOG_OCTETS
+            && self.octets <= MOST_LOG_OCTETS
+    }
+}
+
+/// The limits of a log for which none are given: the greatest.
+pub fn default_limits() -> Limits
+    ensures { result ≡ default_limits }
+{
+    Limits {
+        entries: MOST_LOG_ENTRIES,
+        octets: MOST_LOG_OCTETS,
     }
 }

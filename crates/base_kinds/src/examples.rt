@@ -3,13 +3,13 @@ ghost use Rattle.base_kinds.specs.declared.operation.Row.{Row as TreeRow};
 ghost use Rattle.base_kinds.specs.Schema.{SchemaNode};
 ghost use Rattle.base_kinds.specs.Valid.{valid, IsValid};
 ghost use Rattle.base_kinds.specs.History.{world_of};
-ghost use Rattle.base_kinds.specs.Step.{step, unchecked};
-ghost use Rattle.base_kinds.specs.Examples.{hostname_set, hostname_entry, hostname_tree};
+ghost use Rattle.base_kinds.specs.Step.{step};
+ghost use Rattle.base_kinds.specs.worked.Samples.{system_rules, hostname_set, hostname_entry, hostname_tree};
 
-/// The definitions, evaluated on a first Set of `/system/config/hostname` at reading 1000 by author 1:
-/// it is entry 1 at stamp 1000, and the tree then has its row.
+/// The definitions, evaluated on a first Set of `/system/config/hostname` at reading 1000 by author 1, under a schema of
+/// two leaves: it is entry 1 at stamp 1000, and the tree then has its row.
 pub fn first_set_is_entry_one()
-    ensures entry { step unchecked [] 1000 1 hostname_set ≡ Ok hostname_entry }
+    ensures entry { step system_rules [] 1000 1 hostname_set ≡ Ok hostname_entry }
     ensures tree { (world_of (hostname_entry ∷ [])).tree ≡ hostname_tree }
 {}
 

@@ -4,7 +4,7 @@ use Rattle.base_kinds.specs.declared.operation.Row.{Row}
 use Rattle.base_kinds.specs.declared.operation.Op.{Op}
 use Rattle.base_kinds.specs.History.{World}
 use Rattle.base_kinds.specs.Tree.{effect}
-use Rattle.history_laws.specs.Rising.{IsRising}
+use Rattle.base_kinds.specs.Rising.{IsRising}
 use Rattle.history_laws.proofs.Effects.{rising_effect}
 use Rattle.history_laws.proofs.States.{rising_world}
 use Rattle.commit_core.specs.Cores.{IsKept}

@@ -12,7 +12,7 @@ use Rattle.base_kinds.specs.Records.{record_octets}
 use Rattle.base_kinds.specs.Rules.{size_of}
 use Rattle.base_kinds.specs.Schema.{SchemaNode}
 use Rattle.base_kinds.specs.Valid.{valid, fits}
-use Rattle.history_laws.specs.Room.{HasRoom}
+use Rattle.base_kinds.specs.Room.{HasRoom}
 use Rattle.commit_core.specs.Logs.{LogView}
 
 -- what is judged by, the history, and the tree after the entry that was judged, where one was

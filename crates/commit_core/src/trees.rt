@@ -2,7 +2,7 @@
 ghost use Rattle.std.specs.Prelude.{◌≡◌, true, IfOk, IfErr, OnOk};
 ghost use Rattle.base_kinds.specs.Tree.{effect, in_turn, is_act, with_act};
 ghost use Rattle.base_kinds.specs.Valid.{valid, fits};
-ghost use Rattle.history_laws.specs.Rising.{IsRising};
+ghost use Rattle.base_kinds.specs.Rising.{IsRising};
 ghost use Rattle.commit_core.specs.Cores.{IsTreeRefusal};
 
 use base_kinds::{Act, NoMemory, Op, Path, Paths, Refusal, Rows, TreeLike};

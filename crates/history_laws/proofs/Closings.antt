@@ -1,12 +1,12 @@
 -- Confirm and Cancel: taken for the open trial's id, and refused for want of a trial or for another id alone.
-use Rattle.std.proofs.Common.{◌≡◌, ◌≢◌, ℕ, List, [], ◌∷◌, Bool, true, false, not, Option, Some, None, Result, Ok, Err, refl, sym, ap, ◌∙◌, inl, inr, ◌⊎◌, is_ok, true≢false, if◌then◌else◌}
+use Rattle.std.proofs.Common.{◌≡◌, ℕ, List, [], ◌∷◌, Bool, true, false, not, Option, Some, None, Result, Ok, Err, refl, sym, ap, ◌∙◌, inl, inr, ◌⊎◌, is_ok, true≢false, if◌then◌else◌}
 use Rattle.std.specs.Str.{bytes_eq}
 use Rattle.base_kinds.specs.declared.entry.Entry.{Entry}
 use Rattle.base_kinds.specs.declared.entry.Ask.{Ask}
 use Rattle.base_kinds.specs.declared.entry.Ask.TheVariants as asks
 use Rattle.base_kinds.specs.declared.entry.Kind.TheVariants as kinds
 use Rattle.base_kinds.specs.declared.refusal.Refusal.{Refusal}
-use Rattle.base_kinds.specs.declared.refusal.Refusal.TheVariants.{NoTrial, WrongId, TreeInvalid, TreeFull, LogFull}
+use Rattle.base_kinds.specs.declared.refusal.Refusal.TheVariants.{NoTrial, WrongId}
 use Rattle.base_kinds.specs.History.{OpenTrial, world_of}
 use Rattle.base_kinds.specs.Step.{Rules, new_stamp, next_entry, kind_of_ask, is_open, is_other, first_refusal, judge}
 use Rattle.std.proofs.lemmas.Slice.Eq.{bytes_eq-Decides}
@@ -39,10 +39,3 @@ pub closings_are_refused : (rules : Rules) (h : List Entry) (now author : ℕ) (
 closings_are_refused rules h now author id (asks.Confirm other) refusal closes is = refused (world_of h).trial other (next_entry h (new_stamp h now) author kinds.Confirm) refusal is
 closings_are_refused rules h now author id (asks.Cancel other) refusal closes is = refused (world_of h).trial other (next_entry h (new_stamp h now) author kinds.Cancel) refusal is
 closings_are_refused rules h now author id _ refusal closes is = absurd closes
-
-other_refusals : (refusal : Refusal) → (refusal ≡ NoTrial) ⊎ (refusal ≡ WrongId) → (refusal ≢ TreeInvalid) × (refusal ≢ TreeFull) × (refusal ≢ LogFull)
-other_refusals refusal (inl is) = (λ other. cc (sym is ∙ other), λ other. cc (sym is ∙ other), λ other. cc (sym is ∙ other))
-other_refusals refusal (inr is) = (λ other. cc (sym is ∙ other), λ other. cc (sym is ∙ other), λ other. cc (sym is ∙ other))
-
-pub closings_are_free : (rules : Rules) (h : List Entry) (now author : ℕ) (id : List ℕ) (ask : Ask) (refusal : Refusal) → ClosesTrial id ask → judge rules h now author ask ≡ Err refusal → (refusal ≢ TreeInvalid) × (refusal ≢ TreeFull) × (refusal ≢ LogFull)
-closings_are_free rules h now author id ask refusal closes is = other_refusals refusal (closings_are_refused rules h now author id ask refusal closes is)

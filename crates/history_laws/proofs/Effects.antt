@@ -5,7 +5,7 @@ use Rattle.base_kinds.specs.declared.operation.Op.{Op}
 use Rattle.base_kinds.specs.declared.operation.Act.{Act}
 use Rattle.base_kinds.specs.declared.operation.Act.TheVariants.{Delete, Replace, Update}
 use Rattle.base_kinds.specs.Tree.{act_effect, op_effect, in_turn, effect, with_act, uncovered}
-use Rattle.history_laws.specs.Rising.{IsRising}
+use Rattle.base_kinds.specs.Rising.{IsRising}
 use Rattle.history_laws.proofs.Setting.{rising_sets, rising_uncovered}
 
 rising_act : (act : Act) (op : Op) (tree : List Row) → IsRising tree → IsRising (act_effect act op tree)

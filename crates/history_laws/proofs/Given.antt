@@ -1,5 +1,7 @@
 -- Entries that are given, and given again at their own stamps.
-use Rattle.std.proofs.Common.{◌≡◌, ℕ, ◌+◌, ◌<◌, ◌≤◌, List, [], ◌∷◌, ◌++◌, Bool, true, false, Option, Some, None, Result, Ok, Err, length, refl, sym, ap, ◌∙◌, subst, arith, inl, inr, append_assoc, append-nil, if◌then◌else◌}
+use Rattle.std.proofs.Common.{◌≡◌, ℕ, ◌+◌, ◌<◌, ◌≤◌, List, [], ◌∷◌, ◌++◌, Bool, true, false, Option, Some, None, Result, Ok, Err, length, refl, sym, ap, ◌∙◌, subst, arith, inl, inr, append_assoc, append-nil, if◌then◌else◌, nat_le}
+use Rattle.std.specs.List.{list_any}
+use Rattle.std.proofs.lemmas.Bool.{and_parts, leb-true}
 use Rattle.std.proofs.lemmas.List.{append_cancel_left}
 use Rattle.std.proofs.lemmas.List.Elements.{All-push}
 use Rattle.base_kinds.specs.declared.entry.Entry.{Entry}
@@ -9,9 +11,11 @@ use Rattle.base_kinds.specs.declared.entry.Ask.TheVariants as asks
 use Rattle.base_kinds.specs.declared.refusal.Refusal.{Refusal}
 use Rattle.base_kinds.specs.History.{World, OpenTrial, IsHistory, world_after, world_of, stamp_of}
 use Rattle.base_kinds.specs.Step.{Rules, new_stamp, time_at, next_entry, is_past, is_due, after_expiry, kind_of_ask, judge, with_answer}
-use Rattle.base_kinds.specs.Legal.{IsFit, Gives, GivenInTurn, IsLegal}
-use Rattle.history_laws.specs.Events.{Event, after_event, after_events, IsBounded, AreBounded}
-use Rattle.history_laws.specs.LegalLaws.{IsAhead, IsFitEvent, AreFitEvents}
+use Rattle.base_kinds.specs.Legal.{is_fit_duration, IsFit, Gives, GivenInTurn, IsLegal}
+use Rattle.base_kinds.specs.Bases.{IsBounded, AreBounded, IsAhead}
+use Rattle.base_kinds.specs.Events.{Request, Set, Get, Event, is_long, history_after_request, history_after, history_after_all}
+use Rattle.base_kinds.specs.Limits.{latest_reading, shortest_duration, longest_duration}
+use Rattle.history_laws.specs.LegalLaws.{IsFitRequest, IsFitEvent, AreFitEvents}
 use Rattle.history_laws.proofs.States.{world_after_one, stamp_after_one, history_after_one}
 use Rattle.history_laws.proofs.Judged.{asked, accepted_is_next, accepted_is_above, accepted_is_bounded, accepted_at_own_stamp, new_stamp_is_above, next_is_bounded, own_stamp, bounded_stamp}
 
@@ -29,15 +33,15 @@ pub expiry_is_given : (rules : Rules) (h : List Entry) (now : ℕ) → is_due h 
 expiry_is_given rules h now due =
     inl (record { due = still_past (world_of h).trial h now due; is = ap (λ stamp. next_entry h stamp 0 kinds.Expire) (sym (own_stamp h now)) })
 
-pub accepted_is_given : (rules : Rules) (h : List Entry) (event : Event) (entry : Entry) → IsAhead (world_of h).trial (stamp_of h) → IsFitEvent event → is_due h event.reading ≡ false → judge rules h event.reading event.author event.ask ≡ Ok entry → Gives rules h entry
-accepted_is_given rules h event entry ahead fit quiet is =
-    let next : entry ≡ asked h event.reading event.author event.ask = accepted_is_next rules h event.reading event.author event.ask entry is in
+pub accepted_is_given : (rules : Rules) (h : List Entry) (now author : ℕ) (ask : Ask) (entry : Entry) → IsAhead (world_of h).trial (stamp_of h) → 1 ≤ author → IsFit ask → is_due h now ≡ false → judge rules h now author ask ≡ Ok entry → Gives rules h entry
+accepted_is_given rules h now author ask entry ahead some fit quiet is =
+    let next : entry ≡ asked h now author ask = accepted_is_next rules h now author ask entry is in
     inr (record {
-      not_due = subst (λ (e : Entry). is_due h e.stamp ≡ false) (sym next) (not_past (world_of h).trial h event.reading ahead quiet);
-      author = subst (λ (e : Entry). 1 ≤ e.author) (sym next) fit.author;
-      ask = event.ask;
-      ask_fits = fit.ask_fits;
-      judged = accepted_at_own_stamp rules h event.reading event.author event.ask entry is;
+      not_due = subst (λ (e : Entry). is_due h e.stamp ≡ false) (sym next) (not_past (world_of h).trial h now ahead quiet);
+      author = subst (λ (e : Entry). 1 ≤ e.author) (sym next) some;
+      ask = ask;
+      ask_fits = fit;
+      judged = accepted_at_own_stamp rules h now author ask entry is;
     })
 
 -- ---- what holds of each given entry
@@ -48,22 +52,25 @@ given_is_next rules h entry (inl expiry) =
 given_is_next rules h entry (inr answer) =
     (ap (λ (e : Entry). e.number) (accepted_is_next rules h entry.stamp entry.author answer.ask entry answer.judged), accepted_is_above rules h entry.stamp entry.author answer.ask entry answer.judged)
 
-given_is_bounded : (rules : Rules) (h : List Entry) (entry : Entry) → stamp_of h ≤ 4102444800000000000 + length h → Gives rules h entry → IsBounded entry
+given_is_bounded : (rules : Rules) (h : List Entry) (entry : Entry) → stamp_of h ≤ latest_reading + length h → Gives rules h entry → IsBounded entry
 given_is_bounded rules h entry bound (inl expiry) = subst IsBounded (sym expiry.is) (next_is_bounded h entry.stamp 0 kinds.Expire bound)
 given_is_bounded rules h entry bound (inr answer) = accepted_is_bounded rules h entry.stamp entry.author answer.ask entry bound answer.judged
 
 -- ---- an open trial ends a second or more behind the last stamp
 
+lasts : (duration : ℕ) → is_fit_duration duration ≡ true → shortest_duration ≤ duration
+lasts duration fit = leb-true shortest_duration duration (and_parts (nat_le shortest_duration duration) (nat_le duration longest_duration) fit).0
+
 ahead_after : (ask : Ask) (stamp : ℕ) (world : World) → IsFit ask → IsAhead (world_after (kind_of_ask stamp ask) world).trial stamp
 ahead_after (asks.Apply ops) stamp world fit = tt
-ahead_after (asks.Trial id ops duration) stamp world fit = let least = fit.duration_fits.least in omega (arith, least)
+ahead_after (asks.Trial id ops duration) stamp world fit = let least = lasts duration fit.duration_fits in omega (arith, least)
 ahead_after (asks.Confirm id) stamp world fit = tt
 ahead_after (asks.Cancel id) stamp world fit = tt
 ahead_after (asks.Extend id duration) stamp world fit = by_trial world.trial
   where
     by_trial : (trial : Option OpenTrial) → IsAhead (world_after (kind_of_ask stamp (asks.Extend id duration)) (record { tree = world.tree; trial = trial })).trial stamp
     by_trial None = tt
-    by_trial (Some trial) = let least = fit.duration_fits.least in omega (arith, least)
+    by_trial (Some trial) = let least = lasts duration fit.duration_fits in omega (arith, least)
 
 given_is_ahead : (rules : Rules) (h : List Entry) (entry : Entry) → Gives rules h entry → IsAhead (world_after entry.kind (world_of h)).trial entry.stamp
 given_is_ahead rules h entry (inl expiry) = subst (λ (e : Entry). IsAhead (world_after e.kind (world_of h)).trial e.stamp) (sym expiry.is) tt
@@ -155,18 +162,27 @@ quiet_after_clock h now = by_test (is_due h now) refl
     by_test true is = quiet_after_expiry h (new_stamp h now) now
     by_test false is = is
 
-judged_is_legal : (rules : Rules) (base h : List Entry) (event : Event) → IsAhead (world_of h).trial (stamp_of h) → IsFitEvent event → is_due h event.reading ≡ false → IsLegal rules base h → IsLegal rules base (with_answer h (judge rules h event.reading event.author event.ask))
-judged_is_legal rules base h event ahead fit quiet legal = by_answer (judge rules h event.reading event.author event.ask) refl
+judged_is_legal : (rules : Rules) (base h : List Entry) (now author : ℕ) (ask : Ask) → IsAhead (world_of h).trial (stamp_of h) → 1 ≤ author → IsFit ask → is_due h now ≡ false → IsLegal rules base h → IsLegal rules base (with_answer h (judge rules h now author ask))
+judged_is_legal rules base h now author ask ahead some fit quiet legal = by_answer (judge rules h now author ask) refl
   where
-    by_answer : (answer : Result Entry Refusal) → judge rules h event.reading event.author event.ask ≡ answer → IsLegal rules base (with_answer h answer)
-    by_answer (Ok entry) is = given_is_legal rules base h entry legal (accepted_is_given rules h event entry ahead fit quiet is)
+    by_answer : (answer : Result Entry Refusal) → judge rules h now author ask ≡ answer → IsLegal rules base (with_answer h answer)
+    by_answer (Ok entry) is = given_is_legal rules base h entry legal (accepted_is_given rules h now author ask entry ahead some fit quiet is)
     by_answer (Err refusal) is = legal
 
-pub event_is_legal : (rules : Rules) (base h : List Entry) (event : Event) → IsAhead (world_of base).trial (stamp_of base) → IsFitEvent event → IsLegal rules base h → IsLegal rules base (after_event rules h event)
-event_is_legal rules base h event ahead fit legal =
-    let ticked = clock_is_legal rules base h event.reading legal in
-    judged_is_legal rules base (after_expiry h event.reading) event (legal_is_ahead rules base (after_expiry h event.reading) ahead ticked) fit (quiet_after_clock h event.reading) ticked
+request_is_legal : (rules : Rules) (base h : List Entry) (now author : ℕ) (request : Request) → IsAhead (world_of base).trial (stamp_of base) → 1 ≤ author → IsFitRequest request → IsLegal rules base h → IsLegal rules base (history_after_request rules h now author request)
+request_is_legal rules base h now author (Set (Ok ask)) ahead some fit legal =
+    let ticked = clock_is_legal rules base h now legal in
+    judged_is_legal rules base (after_expiry h now) now author ask (legal_is_ahead rules base (after_expiry h now) ahead ticked) some fit (quiet_after_clock h now) ticked
+request_is_legal rules base h now author (Set (Err refusal)) ahead some fit legal = legal
+request_is_legal rules base h now author (Get patterns) ahead some fit legal = by_test (list_any is_long patterns)
+  where
+    by_test : (long : Bool) → IsLegal rules base (if long then h else after_expiry h now)
+    by_test true = legal
+    by_test false = clock_is_legal rules base h now legal
 
-pub events_are_legal : (rules : Rules) (base h : List Entry) (events : List Event) → IsAhead (world_of base).trial (stamp_of base) → AreFitEvents events → IsLegal rules base h → IsLegal rules base (after_events rules h events)
+pub event_is_legal : (rules : Rules) (base h : List Entry) (event : Event) → IsAhead (world_of base).trial (stamp_of base) → IsFitEvent event → IsLegal rules base h → IsLegal rules base (history_after rules h event)
+event_is_legal rules base h event ahead fit legal = request_is_legal rules base h event.reading event.author event.request ahead fit.author fit.request_fits legal
+
+pub events_are_legal : (rules : Rules) (base h : List Entry) (events : List Event) → IsAhead (world_of base).trial (stamp_of base) → AreFitEvents events → IsLegal rules base h → IsLegal rules base (history_after_all rules h events)
 events_are_legal rules base h [] ahead fit legal = legal
-events_are_legal rules base h (event ∷ events) ahead fit legal = events_are_legal rules base (after_event rules h event) events ahead fit.1 (event_is_legal rules base h event ahead fit.0 legal)
+events_are_legal rules base h (event ∷ events) ahead fit legal = events_are_legal rules base (history_after rules h event) events ahead fit.1 (event_is_legal rules base h event ahead fit.0 legal)

@@ -7,6 +7,7 @@ pub mod PathOrder
 pub mod Reached
 pub mod RoomKept
 pub mod Setting
+pub mod SoundTrees
 pub mod States
 pub mod Undoing
 pub mod Values

@@ -10,18 +10,18 @@ use Rattle.base_kinds.specs.declared.entry.Ask.{Ask}
 use Rattle.base_kinds.specs.declared.entry.Ask.TheVariants as asks
 use Rattle.base_kinds.specs.declared.entry.Limits.{Limits}
 use Rattle.base_kinds.specs.History.{World, OpenTrial, world_after, world_of}
-use Rattle.base_kinds.specs.Limits.{AreInRange}
+use Rattle.base_kinds.specs.Limits.{AreInRange, gate_octets}
 use Rattle.base_kinds.specs.Schema.{SchemaNode}
 use Rattle.base_kinds.specs.Records.{record_octets, kind_octets}
 use Rattle.base_kinds.specs.Rules.{size_of, limited, rules_of}
 use Rattle.base_kinds.specs.Step.{new_stamp, time_at, is_past, is_open, kind_of_ask, refusal_cases, judge}
 use Rattle.base_kinds.specs.Legal.{Gives, IsLegal}
-use Rattle.history_laws.specs.Room.{HasRoom, IsWithin, IsClosing, CanClose, HasRoomFor, StaysOpen}
+use Rattle.base_kinds.specs.Room.{HasRoom, IsWithin, IsClosing, CanClose, HasRoomFor, StaysOpen}
 use Rattle.history_laws.proofs.States.{world_after_one}
 use Rattle.history_laws.proofs.Judged.{NoneHolds, asked, accepted}
 use Rattle.history_laws.proofs.Given.{kept_by_legal}
 
-pub size_after_one : (h : List Entry) (entry : Entry) → size_of (h ++ entry ∷ []) ≡ size_of h + 1 + record_octets entry
+pub size_after_one : (h : List Entry) (entry : Entry) → size_of (h ++ entry ∷ []) ≡ size_of h + gate_octets + record_octets entry
 size_after_one h entry = let sum = sum_by-append (λ (e : Entry). 1 + record_octets e) h (entry ∷ []) in omega (arith, sum)
 
 -- room for some entries and octets more is what is left behind one entry
@@ -70,16 +70,16 @@ trials_leave_room schema limits h now author (asks.Extend id duration) entry sta
 trials_leave_room schema limits h now author _ entry stays is = absurd stays
 
 -- a closing adds nothing to author, stamp and number of its kind
-closing_octets : (kind : Kind) → IsClosing kind → kind_octets kind ≡ 0
-closing_octets kinds.Confirm closes = refl
-closing_octets kinds.Cancel closes = refl
-closing_octets kinds.Expire closes = refl
-closing_octets kinds.Restart closes = refl
-closing_octets _ closes = absurd closes
+closing_adds_none : (kind : Kind) → IsClosing kind → kind_octets kind ≡ 0
+closing_adds_none kinds.Confirm closes = refl
+closing_adds_none kinds.Cancel closes = refl
+closing_adds_none kinds.Expire closes = refl
+closing_adds_none kinds.Restart closes = refl
+closing_adds_none _ closes = absurd closes
 
 pub closings_fit : (limits : Limits) (h : List Entry) (entry : Entry) → HasRoom limits h 1 14 → IsClosing entry.kind → IsWithin limits (h ++ entry ∷ [])
 closings_fit limits h entry room closes =
-    let none = closing_octets entry.kind closes in
+    let none = closing_adds_none entry.kind closes in
     left_alone limits h entry (record { entries_left = room.entries_left; octets_left = omega (arith, room.octets_left, none) })
 
 pub new_log_has_room : (limits : Limits) → AreInRange limits → CanClose limits [] (world_of []).trial

@@ -6,7 +6,7 @@ use Rattle.base_kinds.specs.declared.entry.Entry.{Entry}
 use Rattle.base_kinds.specs.declared.entry.Kind.{Kind}
 use Rattle.base_kinds.specs.declared.entry.Kind.TheVariants as kinds
 use Rattle.base_kinds.specs.History.{World, OpenTrial, IsNumberedFrom, IsHistory, world_after, world_from, world_of, last_stamp, stamp_of, empty_world}
-use Rattle.history_laws.specs.Rising.{IsRising}
+use Rattle.base_kinds.specs.Rising.{IsRising}
 use Rattle.history_laws.proofs.Effects.{rising_effect}
 
 pub world_from_more : (world : World) (entries more : List Entry) → world_from world (entries ++ more) ≡ world_from (world_from world entries) more

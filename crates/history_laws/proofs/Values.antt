@@ -8,13 +8,13 @@ use Rattle.std.proofs.lemmas.Cmp.{tied_itself, alike_right}
 use Rattle.base_kinds.specs.declared.path.Elem.{Elem}
 use Rattle.base_kinds.specs.declared.value.Value.{Value}
 use Rattle.base_kinds.specs.declared.operation.Row.{Row}
-use Rattle.base_kinds.specs.Paths.{path_cmp}
+use Rattle.base_kinds.specs.Paths.{path_cmp, same_path}
 use Rattle.base_kinds.specs.declared.operation.Op.{Op}
 use Rattle.base_kinds.specs.declared.operation.Act.{Act}
 use Rattle.base_kinds.specs.declared.operation.Act.TheVariants.{Delete, Replace, Update}
 use Rattle.base_kinds.specs.Tree.{set_row, set_rows, placed, uncovered, act_effect, op_effect, in_turn, with_act, effect}
 use Rattle.base_kinds.specs.Match.{covers}
-use Rattle.history_laws.specs.Rising.{IsRising, is_path, value_at, last_value, value_after, values_after}
+use Rattle.base_kinds.specs.Rising.{IsRising, value_at, last_value, value_after, values_after}
 use Rattle.history_laws.proofs.PathOrder.{path_total, exact_paths}
 use Rattle.history_laws.proofs.Setting.{AllAbove, above_more, turned}
 
@@ -24,22 +24,22 @@ equal_from_test Equal is = refl
 equal_from_test Greater is = absurd (true≢false (sym is))
 
 -- what the test calls equal is
-pub same_path : (a b : List Elem) → is_path a b ≡ true → a ≡ b
-same_path a b is = exact_paths a b (equal_from_test (path_cmp a b) is)
+pub paths_equal : (a b : List Elem) → same_path a b ≡ true → a ≡ b
+paths_equal a b is = exact_paths a b (equal_from_test (path_cmp a b) is)
 
 -- a path is itself
-pub own_path : (path : List Elem) → is_path path path ≡ true
+pub own_path : (path : List Elem) → same_path path path ≡ true
 own_path path = ap is_eq (tied_itself path_total path)
 
-pub other_path : (a b : List Elem) → (a ≡ b → ⊥) → is_path a b ≡ false
-other_path a b different = by_test (is_path a b) refl
+pub other_path : (a b : List Elem) → (a ≡ b → ⊥) → same_path a b ≡ false
+other_path a b different = by_test (same_path a b) refl
   where
-    by_test : (test : Bool) → is_path a b ≡ test → test ≡ false
-    by_test true is = absurd (different (same_path a b is))
+    by_test : (test : Bool) → same_path a b ≡ test → test ≡ false
+    by_test true is = absurd (different (paths_equal a b is))
     by_test false is = refl
 
 -- one path isn't that of two rows of which one is below the other
-not_both : (x y path : List Elem) → path_cmp x y ≡ Less → is_path x path ≡ true → is_path y path ≡ true → ⊥
+not_both : (x y path : List Elem) → path_cmp x y ≡ Less → same_path x path ≡ true → same_path y path ≡ true → ⊥
 not_both x y path less a b =
     let same : path_cmp x y ≡ path_cmp x path = alike_right path_total y path x (equal_from_test (path_cmp y path) b) in
     true≢false (sym (ap is_eq (sym less ∙ same) ∙ a))
@@ -56,14 +56,14 @@ hidden true false a b c same = absurd (true≢false same)
 hidden false true a b c same = absurd (true≢false (sym same))
 hidden false false a b c same = refl
 
-value_at_placed : (path : List Elem) (row first : Row) (others set : List Row) (order : Ordering) → path_cmp first.path row.path ≡ order → value_at path set ≡ (if is_path row.path path then Some row.value else value_at path others) → value_at path (placed order row first others set) ≡ (if is_path row.path path then Some row.value else value_at path (first ∷ others))
+value_at_placed : (path : List Elem) (row first : Row) (others set : List Row) (order : Ordering) → path_cmp first.path row.path ≡ order → value_at path set ≡ (if same_path row.path path then Some row.value else value_at path others) → value_at path (placed order row first others set) ≡ (if same_path row.path path then Some row.value else value_at path (first ∷ others))
 value_at_placed path row first others set Less is rest =
-    ap (λ v. if is_path first.path path then Some first.value else v) rest ∙ swapped (is_path first.path path) (is_path row.path path) (Some first.value) (Some row.value) (value_at path others) (not_both first.path row.path path is)
-value_at_placed path row first others set Equal is rest = hidden (is_path first.path path) (is_path row.path path) (Some first.value) (Some row.value) (value_at path others) (ap is_eq (path_total.congr first.path row.path path is))
+    ap (λ v. if same_path first.path path then Some first.value else v) rest ∙ swapped (same_path first.path path) (same_path row.path path) (Some first.value) (Some row.value) (value_at path others) (not_both first.path row.path path is)
+value_at_placed path row first others set Equal is rest = hidden (same_path first.path path) (same_path row.path path) (Some first.value) (Some row.value) (value_at path others) (ap is_eq (path_total.congr first.path row.path path is))
 value_at_placed path row first others set Greater is rest = refl
 
 -- the new row's value at its path, and at every other path what was there
-pub value_at_set : (path : List Elem) (row : Row) (tree : List Row) → value_at path (set_row row tree) ≡ (if is_path row.path path then Some row.value else value_at path tree)
+pub value_at_set : (path : List Elem) (row : Row) (tree : List Row) → value_at path (set_row row tree) ≡ (if same_path row.path path then Some row.value else value_at path tree)
 value_at_set path row [] = refl
 value_at_set path row (first ∷ others) = value_at_placed path row first others (set_row row others) (path_cmp first.path row.path) refl (value_at_set path row others)
 
@@ -78,7 +78,7 @@ value_at_sets path [] tree = refl
 value_at_sets path (row ∷ rows) tree = value_at_sets path rows (set_row row tree) ∙ ap (last_value path rows) (value_at_set path row tree)
 
 -- the step of a filter by path, by whether the row has the path, and whether the path stays
-filter_one : (here stays kept : Bool) (row : Row) (rest rows : List Row) (path : List Elem) → (here ≡ true → kept ≡ stays) → is_path row.path path ≡ here → value_at path rest ≡ (if stays then value_at path rows else None) → value_at path (if kept then row ∷ rest else rest) ≡ (if stays then (if here then Some row.value else value_at path rows) else None)
+filter_one : (here stays kept : Bool) (row : Row) (rest rows : List Row) (path : List Elem) → (here ≡ true → kept ≡ stays) → same_path row.path path ≡ here → value_at path rest ≡ (if stays then value_at path rows else None) → value_at path (if kept then row ∷ rest else rest) ≡ (if stays then (if here then Some row.value else value_at path rows) else None)
 filter_one true true kept row rest rows path same is further = rw (same refl, is) refl
 filter_one true false kept row rest rows path same is further = rw (same refl) further
 filter_one false true true row rest rows path same is further = rw (is, further) refl
@@ -93,7 +93,7 @@ value_at_filter keep path [] = by_test (keep path)
     by_test true = refl
     by_test false = refl
 value_at_filter keep path (row ∷ rows) =
-    filter_one (is_path row.path path) (keep path) (keep row.path) row (filter (λ (r : Row). keep r.path) rows) rows path (λ is. ap keep (same_path row.path path is)) refl (value_at_filter keep path rows)
+    filter_one (same_path row.path path) (keep path) (keep row.path) row (filter (λ (r : Row). keep r.path) rows) rows path (λ is. ap keep (paths_equal row.path path is)) refl (value_at_filter keep path rows)
 
 negated : (test : Bool) (a b : Option Value) → (if not test then a else b) ≡ (if test then b else a)
 negated true a b = refl
@@ -135,9 +135,9 @@ absent value is = true≢false (sym (ap is_some is))
 value_at_first : (row : Row) (rows : List Row) → value_at row.path (row ∷ rows) ≡ Some row.value
 value_at_first row rows = ap (λ test. if test then Some row.value else value_at row.path rows) (own_path row.path)
 
-same_behind : (row : Row) (xs ys : List Row) (path : List Elem) (test : Bool) → is_path row.path path ≡ test → AllAbove row.path xs → AllAbove row.path ys → (if test then Some row.value else value_at path xs) ≡ (if test then Some row.value else value_at path ys) → value_at path xs ≡ value_at path ys
+same_behind : (row : Row) (xs ys : List Row) (path : List Elem) (test : Bool) → same_path row.path path ≡ test → AllAbove row.path xs → AllAbove row.path ys → (if test then Some row.value else value_at path xs) ≡ (if test then Some row.value else value_at path ys) → value_at path xs ≡ value_at path ys
 same_behind row xs ys path true is above_xs above_ys same =
-    let here : row.path ≡ path = same_path row.path path is in
+    let here : row.path ≡ path = paths_equal row.path path is in
     ap (λ p. value_at p xs) (sym here) ∙ none_above row.path xs above_xs ∙ sym (none_above row.path ys above_ys) ∙ ap (λ p. value_at p ys) here
 same_behind row xs ys path false is above_xs above_ys same = same
 
@@ -161,5 +161,5 @@ values_decide (x ∷ xs) (y ∷ ys) rising_xs rising_ys same =
     let first : x ≡ y = same_first x y xs ys (path_cmp x.path y.path) refl rising_xs.0 rising_ys.0 same in
     let above : AllAbove x.path ys = subst (λ (row : Row). AllAbove row.path ys) (sym first) rising_ys.0 in
     let alike : (path : List Elem) → value_at path (x ∷ xs) ≡ value_at path (x ∷ ys) = λ path. same path ∙ ap (λ row. value_at path (row ∷ ys)) (sym first) in
-    let others : xs ≡ ys = values_decide xs ys rising_xs.1 rising_ys.1 (λ path. same_behind x xs ys path (is_path x.path path) refl rising_xs.0 above (alike path)) in
+    let others : xs ≡ ys = values_decide xs ys rising_xs.1 rising_ys.1 (λ path. same_behind x xs ys path (same_path x.path path) refl rising_xs.0 above (alike path)) in
     λ i. first i ∷ others i

@@ -1,21 +1,33 @@
 -- What holds of legal histories, whatever a target judges by.
-use Rattle.std.specs.Prelude.{◌≡◌, ℕ, ◌+◌, ◌<◌, ◌≤◌, List, [], ◌∷◌, ◌++◌, length, true, false, Ok, Option, Some, None}
+use Rattle.std.specs.Prelude.{◌≡◌, ℕ, ◌+◌, ◌<◌, ◌≤◌, List, [], ◌∷◌, ◌++◌, length, true, false, Result, Ok, Err, None}
+use Rattle.base_kinds.specs.declared.entry.Ask.{Ask}
 use Rattle.base_kinds.specs.declared.entry.Entry.{Entry}
 use Rattle.base_kinds.specs.declared.entry.Kind.TheVariants as kinds
-use Rattle.base_kinds.specs.History.{IsHistory, OpenTrial, world_of, stamp_of}
-use Rattle.base_kinds.specs.Step.{Rules, is_due, new_stamp, next_entry, judge}
+use Rattle.base_kinds.specs.declared.entry.Limits.{Limits}
+use Rattle.base_kinds.specs.declared.refusal.Refusal.{Refusal}
+use Rattle.base_kinds.specs.Bases.{AreBounded, IsAhead, IsSound, IsBase}
+use Rattle.base_kinds.specs.Events.{Request, Set, Get, Event, history_after_all}
+use Rattle.base_kinds.specs.History.{IsHistory, world_of, stamp_of}
 use Rattle.base_kinds.specs.Legal.{IsFit, Gives, IsLegal}
-use Rattle.history_laws.specs.Events.{Event, after_events, AreBounded}
+use Rattle.base_kinds.specs.Limits.{AreInRange}
+use Rattle.base_kinds.specs.Room.{IsWithin}
+use Rattle.base_kinds.specs.Rules.{rules_of}
+use Rattle.base_kinds.specs.Schema.{SchemaNode}
+use Rattle.base_kinds.specs.Step.{Rules, is_due, new_stamp, next_entry, judge}
 
--- an open trial ends a second or more behind the stamp
-abbrev pub IsAhead : Option OpenTrial → ℕ → Type 0
-IsAhead None stamp = Unit {0}
-IsAhead (Some trial) stamp = stamp + 1000000000 ≤ trial.deadline
+-- what a Set asks is fit
+abbrev pub AsksFit : Result Ask Refusal → Type 0
+AsksFit (Ok ask) = IsFit ask
+AsksFit (Err refusal) = Unit {0}
 
--- the ask is fit, and some author's
+abbrev pub IsFitRequest : Request → Type 0
+IsFitRequest (Set resolved) = AsksFit resolved
+IsFitRequest (Get patterns) = Unit {0}
+
+-- the request is some author's, and what it asks is fit
 pub record IsFitEvent (event : Event) : Type 0 where
   pub author : 1 ≤ event.author
-  pub ask_fits : IsFit event.ask
+  pub request_fits : IsFitRequest event.request
 
 abbrev pub AreFitEvents : List Event → Type 0
 AreFitEvents [] = Unit {0}
@@ -54,7 +66,7 @@ LegalIsAhead = (rules : Rules) (base h : List Entry) → IsAhead (world_of base)
 
 -- an accepted fit ask where nothing is due gives an entry that can be given again from the entry alone
 abbrev pub AcceptedIsGiven : Type 0
-AcceptedIsGiven = (rules : Rules) (h : List Entry) (event : Event) (entry : Entry) → IsAhead (world_of h).trial (stamp_of h) → IsFitEvent event → is_due h event.reading ≡ false → judge rules h event.reading event.author event.ask ≡ Ok entry → Gives rules h entry
+AcceptedIsGiven = (rules : Rules) (h : List Entry) (now author : ℕ) (ask : Ask) (entry : Entry) → IsAhead (world_of h).trial (stamp_of h) → 1 ≤ author → IsFit ask → is_due h now ≡ false → judge rules h now author ask ≡ Ok entry → Gives rules h entry
 
 -- and so does the clock's event
 abbrev pub ExpiryIsGiven : Type 0
@@ -62,8 +74,20 @@ ExpiryIsGiven = (rules : Rules) (h : List Entry) (now : ℕ) → is_due h now �
 
 -- whatever is asked, a legal history stays legal
 abbrev pub EventsAreLegal : Type 0
-EventsAreLegal = (rules : Rules) (base h : List Entry) (events : List Event) → IsAhead (world_of base).trial (stamp_of base) → AreFitEvents events → IsLegal rules base h → IsLegal rules base (after_events rules h events)
+EventsAreLegal = (rules : Rules) (base h : List Entry) (events : List Event) → IsAhead (world_of base).trial (stamp_of base) → AreFitEvents events → IsLegal rules base h → IsLegal rules base (history_after_all rules h events)
 
 -- and every legal history comes of some fit events
 abbrev pub LegalIsReached : Type 0
-LegalIsReached = (rules : Rules) (base h : List Entry) → IsLegal rules base h → (events : List Event) × AreFitEvents events × (after_events rules base events ≡ h)
+LegalIsReached = (rules : Rules) (base h : List Entry) → IsLegal rules base h → (events : List Event) × AreFitEvents events × (history_after_all rules base events ≡ h)
+
+-- the empty history is a base
+abbrev pub EmptyIsBase : Type 0
+EmptyIsBase = (schema : List SchemaNode) (limits : Limits) → AreInRange limits → IsBase schema limits []
+
+-- and so is every history without an open trial that is within the limits, has bounded stamps and stands for a sound tree
+abbrev pub ClosedIsBase : Type 0
+ClosedIsBase = (schema : List SchemaNode) (limits : Limits) (h : List Entry) → IsHistory h → AreBounded h → IsWithin limits h → (world_of h).trial ≡ None → IsSound schema (world_of h).tree → IsBase schema limits h
+
+-- what goes on legally from a base is one
+abbrev pub LegalIsBase : Type 0
+LegalIsBase = (schema : List SchemaNode) (limits : Limits) (base h : List Entry) → IsBase schema limits base → IsLegal (rules_of schema limits) base h → IsBase schema limits h

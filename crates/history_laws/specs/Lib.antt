@@ -1,10 +1,8 @@
-pub mod Events
 pub mod HistoryLaws
 pub mod LegalLaws
 pub mod OrderLaws
-pub mod Rising
-pub mod Room
 pub mod RoomLaws
+pub mod SoundLaws
 pub mod StepLaws
 pub mod TreeLaws
 pub mod TrialLaws

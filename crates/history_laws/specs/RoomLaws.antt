@@ -4,13 +4,13 @@ use Rattle.base_kinds.specs.declared.entry.Entry.{Entry}
 use Rattle.base_kinds.specs.declared.entry.Ask.{Ask}
 use Rattle.base_kinds.specs.declared.entry.Limits.{Limits}
 use Rattle.base_kinds.specs.History.{world_of}
-use Rattle.base_kinds.specs.Limits.{AreInRange}
+use Rattle.base_kinds.specs.Limits.{AreInRange, gate_octets, closing_octets}
 use Rattle.base_kinds.specs.Schema.{SchemaNode}
 use Rattle.base_kinds.specs.Records.{record_octets}
 use Rattle.base_kinds.specs.Rules.{limited, rules_of, size_of}
 use Rattle.base_kinds.specs.Step.{judge}
 use Rattle.base_kinds.specs.Legal.{Gives, IsLegal}
-use Rattle.history_laws.specs.Room.{HasRoom, IsWithin, IsClosing, CanClose, HasRoomFor, StaysOpen}
+use Rattle.base_kinds.specs.Room.{HasRoom, IsWithin, IsClosing, CanClose, HasRoomFor, StaysOpen}
 
 -- the test says that there is room
 abbrev pub TestSaysRoom : Type 0
@@ -18,7 +18,7 @@ TestSaysRoom = (limits : Limits) (h : List Entry) (entries octets : ℕ) → IsT
 
 -- one more entry adds its record and the octet in front of it
 abbrev pub SizeAfterOne : Type 0
-SizeAfterOne = (h : List Entry) (entry : Entry) → size_of (h ++ entry ∷ []) ≡ size_of h + 1 + record_octets entry
+SizeAfterOne = (h : List Entry) (entry : Entry) → size_of (h ++ entry ∷ []) ≡ size_of h + gate_octets + record_octets entry
 
 -- what was accepted had the room that it needs
 abbrev pub AcceptedHadRoom : Type 0
@@ -26,11 +26,11 @@ AcceptedHadRoom = (schema : List SchemaNode) (limits : Limits) (h : List Entry) 
 
 -- behind an accepted trial or extend there is room for the entry that closes the trial
 abbrev pub TrialsLeaveRoom : Type 0
-TrialsLeaveRoom = (schema : List SchemaNode) (limits : Limits) (h : List Entry) (now author : ℕ) (ask : Ask) (entry : Entry) → StaysOpen ask → judge (rules_of schema limits) h now author ask ≡ Ok entry → HasRoom limits (h ++ entry ∷ []) 1 14
+TrialsLeaveRoom = (schema : List SchemaNode) (limits : Limits) (h : List Entry) (now author : ℕ) (ask : Ask) (entry : Entry) → StaysOpen ask → judge (rules_of schema limits) h now author ask ≡ Ok entry → HasRoom limits (h ++ entry ∷ []) 1 closing_octets
 
 -- and that entry then fits
 abbrev pub ClosingsFit : Type 0
-ClosingsFit = (limits : Limits) (h : List Entry) (entry : Entry) → HasRoom limits h 1 14 → IsClosing entry.kind → IsWithin limits (h ++ entry ∷ [])
+ClosingsFit = (limits : Limits) (h : List Entry) (entry : Entry) → HasRoom limits h 1 closing_octets → IsClosing entry.kind → IsWithin limits (h ++ entry ∷ [])
 
 -- a new log has the room
 abbrev pub NewLogHasRoom : Type 0

@@ -1,5 +1,5 @@
 -- What holds of trials, whatever a target judges by (gNMI commit-confirmed extension).
-use Rattle.std.specs.Prelude.{◌≡◌, ◌≢◌, ℕ, List, [], ◌∷◌, ◌++◌, Some, None, Ok, Err, ◌⊎◌}
+use Rattle.std.specs.Prelude.{◌≡◌, ℕ, List, [], ◌∷◌, ◌++◌, Some, None, Ok, Err, ◌⊎◌}
 use Rattle.base_kinds.specs.declared.operation.Op.{Op}
 use Rattle.base_kinds.specs.declared.entry.Entry.{Entry}
 use Rattle.base_kinds.specs.declared.entry.Kind.{Kind}
@@ -7,7 +7,7 @@ use Rattle.base_kinds.specs.declared.entry.Kind.TheVariants as kinds
 use Rattle.base_kinds.specs.declared.entry.Ask.{Ask}
 use Rattle.base_kinds.specs.declared.entry.Ask.TheVariants as asks
 use Rattle.base_kinds.specs.declared.refusal.Refusal.{Refusal}
-use Rattle.base_kinds.specs.declared.refusal.Refusal.TheVariants.{NoTrial, WrongId, TreeInvalid, TreeFull, LogFull}
+use Rattle.base_kinds.specs.declared.refusal.Refusal.TheVariants.{NoTrial, WrongId}
 use Rattle.base_kinds.specs.History.{OpenTrial, world_after, world_of}
 use Rattle.base_kinds.specs.Step.{Rules, new_stamp, next_entry, kind_of_ask, judge}
 
@@ -44,10 +44,6 @@ ClosesTrial id _ = ⊥
 abbrev pub ClosingsAreTaken : Type 0
 ClosingsAreTaken = (rules : Rules) (h : List Entry) (now author : ℕ) (trial : OpenTrial) (ask : Ask) → (world_of h).trial ≡ Some trial → ClosesTrial trial.id ask → judge rules h now author ask ≡ Ok (next_entry h (new_stamp h now) author (kind_of_ask (new_stamp h now) ask))
 
--- and is refused for want of a trial or for another id alone
+-- and is refused for want of a trial or for another id alone: neither the tree nor the log's length stands against it
 abbrev pub ClosingsAreRefused : Type 0
 ClosingsAreRefused = (rules : Rules) (h : List Entry) (now author : ℕ) (id : List ℕ) (ask : Ask) (refusal : Refusal) → ClosesTrial id ask → judge rules h now author ask ≡ Err refusal → (refusal ≡ NoTrial) ⊎ (refusal ≡ WrongId)
-
--- so neither the tree nor the log's length stands against it
-abbrev pub ClosingsAreFree : Type 0
-ClosingsAreFree = (rules : Rules) (h : List Entry) (now author : ℕ) (id : List ℕ) (ask : Ask) (refusal : Refusal) → ClosesTrial id ask → judge rules h now author ask ≡ Err refusal → (refusal ≢ TreeInvalid) × (refusal ≢ TreeFull) × (refusal ≢ LogFull)

@@ -1,4 +1,4 @@
-ghost use Rattle.history_laws.specs.LegalLaws.{BaseIsLegal, FrontsAreLegal, GivenIsLegal, LegalGoesOn, GivenIsNext, LegalIsHistory, LegalIsBounded, LegalIsAhead, AcceptedIsGiven, ExpiryIsGiven, EventsAreLegal, LegalIsReached};
+ghost use Rattle.history_laws.specs.LegalLaws.{BaseIsLegal, FrontsAreLegal, GivenIsLegal, LegalGoesOn, GivenIsNext, LegalIsHistory, LegalIsBounded, LegalIsAhead, AcceptedIsGiven, ExpiryIsGiven, EventsAreLegal, LegalIsReached, EmptyIsBase, ClosedIsBase, LegalIsBase};
 
 /// Legal histories have legal fronts, and go on by what is given.
 pub fn legal_histories_go_on()
@@ -22,4 +22,12 @@ pub fn events_are_legal()
     ensures expiry { ExpiryIsGiven }
     ensures all { EventsAreLegal }
     ensures reached { LegalIsReached }
+{}
+
+/// What a history has to be for these laws: the empty one is so, each one without an open trial that is within the limits,
+/// and whatever goes on legally from such a base.
+pub fn bases_go_on()
+    ensures empty { EmptyIsBase }
+    ensures closed { ClosedIsBase }
+    ensures legal { LegalIsBase }
 {}

@@ -1,4 +1,4 @@
-ghost use Rattle.history_laws.specs.StepLaws.{ClockKeepsHistory, EventKeepsHistory, EventsKeepHistory, EventsKeepBound, AcceptedAddsOne, RefusedAddsNone, AcceptedIsNext, AcceptedIsAbove, AcceptedIsBounded, JudgedByStamp, AcceptedAtOwnStamp};
+ghost use Rattle.history_laws.specs.StepLaws.{ClockKeepsHistory, EventKeepsHistory, EventsKeepHistory, EventsKeepBound, AcceptedAddsOne, RefusedAddsNone, AcceptedIsNext, AcceptedIsAbove, AcceptedIsBounded, RefusedForSix, JudgedWithoutMemory, JudgedByStamp, AcceptedAtOwnStamp};
 
 /// Whatever is asked, at whatever readings, entries are numbered without a gap, and stamps rise and stay bounded.
 pub fn events_keep_histories()
@@ -25,4 +25,10 @@ pub fn accepted_asks()
 pub fn stamps_decide()
     ensures judged { JudgedByStamp }
     ensures accepted { AcceptedAtOwnStamp }
+{}
+
+/// An ask is refused over a history for one of six reasons, and want of memory is none of them.
+pub fn refused_asks()
+    ensures six { RefusedForSix }
+    ensures memory { JudgedWithoutMemory }
 {}

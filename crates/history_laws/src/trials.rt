@@ -1,4 +1,4 @@
-ghost use Rattle.history_laws.specs.TrialLaws.{UndoesTrials, ConfirmsTrials, ClosingsAreTaken, ClosingsAreRefused, ClosingsAreFree};
+ghost use Rattle.history_laws.specs.TrialLaws.{UndoesTrials, ConfirmsTrials, ClosingsAreTaken, ClosingsAreRefused};
 
 /// Cancel, Expire and Restart bring back the tree from before the trial: values that it overwrote, and leaves that it deleted.
 pub fn trials_are_undone()
@@ -14,5 +14,4 @@ pub fn trials_are_confirmed()
 pub fn trials_can_be_closed()
     ensures taken { ClosingsAreTaken }
     ensures refused { ClosingsAreRefused }
-    ensures free { ClosingsAreFree }
 {}

@@ -3,7 +3,7 @@ use Rattle.std.specs.Prelude.{◌≡◌, [], ◌∷◌, ◌++◌, codes, length,
 use Rattle.base_kinds.specs.declared.entry.Entry.{Entry}
 use Rattle.base_kinds.specs.declared.entry.Limits.{Limits}
 use Rattle.base_kinds.specs.declared.entry.Kind.TheVariants as kinds
-use Rattle.base_kinds.specs.Examples.{hostname_entry}
+use Rattle.base_kinds.specs.worked.Samples.{hostname_entry}
 use Rattle.base_kinds.specs.Rules.{size_of}
 use Rattle.journal_record.specs.Spelling.{text_spelling, keys_spelling, elem_spelling, path_spelling, row_spelling, rows_spelling, op_spelling, ops_spelling, kind_spelling, record_of}
 use Rattle.journal_record.specs.Worked.{hostname_record}

@@ -4,7 +4,7 @@ ghost use Rattle.base_kinds.specs.declared.entry.Entry.{Entry as LogEntry};
 ghost use Rattle.base_kinds.specs.declared.entry.Limits.{Limits as LogLimits};
 ghost use Rattle.base_kinds.specs.Limits.{AreInRange};
 ghost use Rattle.base_kinds.specs.Rules.{size_of};
-ghost use Rattle.base_kinds.specs.Examples.{hostname_entry};
+ghost use Rattle.base_kinds.specs.worked.Samples.{hostname_entry};
 ghost use Rattle.journal_record.specs.Kept.{IsKept, HasRecord};
 ghost use Rattle.journal_record.specs.Worked.{hostname_record};
 ghost use Rattle.journal_format.specs.Legal.{IsNext, IsLegalFor};

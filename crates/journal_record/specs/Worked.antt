@@ -2,7 +2,7 @@
 use Rattle.std.specs.Prelude.{◌≡◌, ℕ, List, [], ◌∷◌, ◌++◌, codes, length, refl, pos, negsuc, true}
 use Rattle.base_kinds.specs.declared.value.Value.TheVariants as values
 use Rattle.base_kinds.specs.declared.entry.Kind.TheVariants as kinds
-use Rattle.base_kinds.specs.Examples.{hostname_entry}
+use Rattle.base_kinds.specs.worked.Samples.{hostname_entry}
 use Rattle.journal_record.specs.Spelling.{text_spelling, key_spelling, keys_spelling, elem_spelling, path_spelling, value_spelling, row_spelling, rows_spelling, op_spelling, ops_spelling, kind_spelling, record_of}
 
 -- the path `/system/config/hostname`

@@ -2,7 +2,7 @@
 ghost use Rattle.std.specs.Prelude.{◌≡◌, ℕ, List, [], ◌++◌, length};
 ghost use Rattle.base_kinds.specs.declared.entry.Entry.{Entry as LogEntry};
 ghost use Rattle.base_kinds.specs.Records.{record_octets};
-ghost use Rattle.base_kinds.specs.Examples.{hostname_entry};
+ghost use Rattle.base_kinds.specs.worked.Samples.{hostname_entry};
 ghost use Rattle.journal_record.specs.Spelling.{record_of};
 ghost use Rattle.journal_record.specs.Kept.{HasRecord};
 ghost use Rattle.journal_record.specs.Worked.{hostname_record};

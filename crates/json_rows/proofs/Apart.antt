@@ -4,7 +4,7 @@ use Rattle.std.specs.List.{AllByRecursion, IsDistinct}
 use Rattle.std.proofs.lemmas.List.{append_assoc, append-nil}
 use Rattle.base_kinds.specs.declared.path.Elem.{Elem}
 use Rattle.base_kinds.specs.declared.operation.Row.{Row}
-use Rattle.history_laws.specs.Rising.{is_path}
+use Rattle.base_kinds.specs.Paths.{same_path}
 use Rattle.history_laws.proofs.Values.{other_path}
 
 -- a path right below another one or further, whose first element past it passes the test
@@ -90,11 +90,11 @@ all_above above elem test wide passes (row ∷ rows) all =
 pub adds_above : (above : List Elem) (elem : Elem) (test wide : Elem → Bool) (before after : List Row) → Adds (above ++ elem ∷ []) test before after → wide elem ≡ true → Adds above wide before after
 adds_above above elem test wide before after adds passes = record { added = adds.added; joined = adds.joined; under = all_above above elem test wide passes adds.added adds.under; apart = adds.apart }
 
-each_other : (row : Row) (rows : List Row) → AllByRecursion (λ other. row.path ≡ other.path → ⊥) rows → AllByRecursion (λ other. is_path row.path other.path ≡ false) rows
+each_other : (row : Row) (rows : List Row) → AllByRecursion (λ other. row.path ≡ other.path → ⊥) rows → AllByRecursion (λ other. same_path row.path other.path ≡ false) rows
 each_other row [] all = tt
 each_other row (other ∷ others) all = (other_path row.path other.path all.0, each_other row others all.1)
 
-pub distinct_rows : (rows : List Row) → Apart rows → IsDistinct (λ a b. is_path a.path b.path) rows
+pub distinct_rows : (rows : List Row) → Apart rows → IsDistinct (λ a b. same_path a.path b.path) rows
 unfolding IsDistinct
 distinct_rows [] apart = tt
 distinct_rows (row ∷ rows) apart = (each_other row rows apart.0, distinct_rows rows apart.1)

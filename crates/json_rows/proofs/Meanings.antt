@@ -3,7 +3,7 @@ use Rattle.std.proofs.Common.{◌≡◌, ◌⊎◌, inl, inr, List, [], Ok, Err,
 use Rattle.base_kinds.specs.declared.operation.Row.{Row}
 use Rattle.base_kinds.specs.Legal.{rises}
 use Rattle.base_kinds.specs.Tree.{set_rows}
-use Rattle.history_laws.specs.Rising.{row_cmp}
+use Rattle.base_kinds.specs.Rising.{row_cmp}
 use Rattle.history_laws.proofs.Setting.{rising_sets, test_says_rising}
 use Rattle.json_rows.specs.declared.fault.RowsFault.{RowsFault}
 use Rattle.json_rows.specs.Entries.{and_then}

@@ -15,20 +15,20 @@ use Rattle.std.proofs.lemmas.Map.Keys.{sorted_head, sorted_tail, sorted_from_all
 use Rattle.base_kinds.specs.declared.path.Elem.{Elem}
 use Rattle.base_kinds.specs.declared.operation.Row.{Row}
 use Rattle.base_kinds.specs.declared.value.Value.{Value}
-use Rattle.base_kinds.specs.Paths.{path_cmp}
+use Rattle.base_kinds.specs.Paths.{path_cmp, same_path}
 use Rattle.base_kinds.specs.Tree.{set_rows}
 use Rattle.base_kinds.specs.Legal.{rises}
-use Rattle.history_laws.specs.Rising.{IsRising, is_path, value_at, last_value, row_cmp}
-use Rattle.history_laws.proofs.Values.{same_path, own_path, value_at_sets, values_decide}
+use Rattle.base_kinds.specs.Rising.{IsRising, value_at, last_value, row_cmp}
+use Rattle.history_laws.proofs.Values.{paths_equal, own_path, value_at_sets, values_decide}
 use Rattle.history_laws.proofs.Setting.{rising_sets, test_says_rising, turned}
 use Rattle.history_laws.proofs.PathOrder.{path_total}
 
 -- a row with the path has this value there
 abbrev Gives : List Elem → Option Value → Row → Type 0
-Gives path there row = is_path row.path path ≡ true → there ≡ Some row.value
+Gives path there row = same_path row.path path ≡ true → there ≡ Some row.value
 
 abbrev Misses : List Elem → Row → Type 0
-Misses path row = is_path row.path path ≡ false
+Misses path row = same_path row.path path ≡ false
 
 to_each : (P : Row → Type 0) (rows : List Row) → All P rows → AllByRecursion P rows
 to_each P [] all = tt
@@ -38,35 +38,35 @@ from_each : (P : Row → Type 0) (rows : List Row) → AllByRecursion P rows →
 from_each P [] each = All-nil P
 from_each P (row ∷ rows) each = All-cons P row rows each.0 (from_each P rows each.1)
 
-not_both : (x y path : List Elem) → path_cmp x y ≡ Less → is_path x path ≡ true → is_path y path ≡ true → ⊥
+not_both : (x y path : List Elem) → path_cmp x y ≡ Less → same_path x path ≡ true → same_path y path ≡ true → ⊥
 not_both x y path less a b =
-    let same : x ≡ y = same_path x path a ∙ sym (same_path y path b) in
+    let same : x ≡ y = paths_equal x path a ∙ sym (paths_equal y path b) in
     let less_self : path_cmp y y ≡ Less = subst (λ z. path_cmp z y ≡ Less) same less in
     true≢false (sym (own_path y) ∙ ap is_eq less_self)
 
 -- a row before those that it is below doesn't change what they give
-hidden : (x y path : List Elem) (first : Value) (there : Option Value) (value : Option Value) (test : Bool) → is_path x path ≡ test → path_cmp x y ≡ Less → is_path y path ≡ true → there ≡ value → cond test (Some first) there ≡ value
+hidden : (x y path : List Elem) (first : Value) (there : Option Value) (value : Option Value) (test : Bool) → same_path x path ≡ test → path_cmp x y ≡ Less → same_path y path ≡ true → there ≡ value → cond test (Some first) there ≡ value
 hidden x y path first there value true is less own same = absurd (not_both x y path less is own)
 hidden x y path first there value false is less own same = same
 
-shifted : (path : List Elem) (first : Row) (there : Option Value) (rows : List Row) → AllByRecursion (λ row. row_cmp first row ≡ Less) rows → AllByRecursion (Gives path there) rows → AllByRecursion (Gives path (cond (is_path first.path path) (Some first.value) there)) rows
+shifted : (path : List Elem) (first : Row) (there : Option Value) (rows : List Row) → AllByRecursion (λ row. row_cmp first row ≡ Less) rows → AllByRecursion (Gives path there) rows → AllByRecursion (Gives path (cond (same_path first.path path) (Some first.value) there)) rows
 shifted path first there [] above each = tt
-shifted path first there (row ∷ rows) above each = (λ own. hidden first.path row.path path first.value there (Some row.value) (is_path first.path path) refl above.0 own (each.0 own), shifted path first there rows above.1 each.1)
+shifted path first there (row ∷ rows) above each = (λ own. hidden first.path row.path path first.value there (Some row.value) (same_path first.path path) refl above.0 own (each.0 own), shifted path first there rows above.1 each.1)
 
 -- each row of a tree has the value at its path
 each_gives : (path : List Elem) (rows : List Row) → IsRising rows → AllByRecursion (Gives path (value_at path rows)) rows
 each_gives path [] rising = tt
-each_gives path (row ∷ rows) rising = (λ own. cond-true (is_path row.path path) (Some row.value) (value_at path rows) own, shifted path row (value_at path rows) rows (sorted_head row_cmp row rows rising) (each_gives path rows (sorted_tail row_cmp row rows rising)))
+each_gives path (row ∷ rows) rising = (λ own. cond-true (same_path row.path path) (Some row.value) (value_at path rows) own, shifted path row (value_at path rows) rows (sorted_head row_cmp row rows rising) (each_gives path rows (sorted_tail row_cmp row rows rising)))
 
 -- no row has the path
 none_there : (path : List Elem) (rows : List Row) → AllByRecursion (Misses path) rows → value_at path rows ≡ None
 none_there path [] each = refl
-none_there path (row ∷ rows) each = cond-false (is_path row.path path) (Some row.value) (value_at path rows) each.0 ∙ none_there path rows each.1
+none_there path (row ∷ rows) each = cond-false (same_path row.path path) (Some row.value) (value_at path rows) each.0 ∙ none_there path rows each.1
 
 Last : List Elem → Option Value → List Row → Option Value → Type 0
 Last path there rows old = (last_value path rows old ≡ there) ⊎ ((last_value path rows old ≡ old) × AllByRecursion (Misses path) rows)
 
-last_more : (path : List Elem) (there : Option Value) (row : Row) (rows : List Row) (old : Option Value) (test : Bool) → is_path row.path path ≡ test → (test ≡ true → there ≡ Some row.value) → Last path there rows (cond test (Some row.value) old) → (last_value path rows (cond test (Some row.value) old) ≡ there) ⊎ ((last_value path rows (cond test (Some row.value) old) ≡ old) × AllByRecursion (Misses path) (row ∷ rows))
+last_more : (path : List Elem) (there : Option Value) (row : Row) (rows : List Row) (old : Option Value) (test : Bool) → same_path row.path path ≡ test → (test ≡ true → there ≡ Some row.value) → Last path there rows (cond test (Some row.value) old) → (last_value path rows (cond test (Some row.value) old) ≡ there) ⊎ ((last_value path rows (cond test (Some row.value) old) ≡ old) × AllByRecursion (Misses path) (row ∷ rows))
 unfolding Last
 last_more path there row rows old true is gives rest = ⊎_elim (λ found. inl found) (λ missed. inl (missed.0 ∙ sym (gives refl))) rest
 last_more path there row rows old false is gives rest = ⊎_elim (λ found. inl found) (λ missed. inr (missed.0, (is, missed.1))) rest
@@ -75,7 +75,7 @@ last_more path there row rows old false is gives rest = ⊎_elim (λ found. inl 
 last_gives : (path : List Elem) (there : Option Value) (rows : List Row) (old : Option Value) → AllByRecursion (Gives path there) rows → Last path there rows old
 unfolding Last
 last_gives path there [] old each = inr (refl, tt)
-last_gives path there (row ∷ rows) old each = last_more path there row rows old (is_path row.path path) refl each.0 (last_gives path there rows (cond (is_path row.path path) (Some row.value) old) each.1)
+last_gives path there (row ∷ rows) old each = last_more path there row rows old (same_path row.path path) refl each.0 (last_gives path there rows (cond (same_path row.path path) (Some row.value) old) each.1)
 
 same_values : (path : List Elem) (walked rows : List Row) → IsPermutation walked rows → IsRising rows → last_value path walked None ≡ value_at path rows
 unfolding Last
@@ -104,15 +104,15 @@ pub tree_of_itself : (rows : List Row) → IsTrue (rises row_cmp rows) → set_r
 tree_of_itself rows tested = tree_of_tested rows rows (IsPermutation-refl rows) tested
 
 abbrev pub same_path_rows : Row → Row → Bool
-same_path_rows a b = is_path a.path b.path
+same_path_rows a b = same_path a.path b.path
 
-path_turns : (a b : List Elem) → is_path a b ≡ is_path b a
-path_turns a b = same_from_decides (is_path a b) (is_path b a) (same_path a b, λ same. own_at a b same) (λ is. sym (same_path b a is), λ same. own_at b a (sym same))
+path_turns : (a b : List Elem) → same_path a b ≡ same_path b a
+path_turns a b = same_from_decides (same_path a b) (same_path b a) (paths_equal a b, λ same. own_at a b same) (λ is. sym (paths_equal b a is), λ same. own_at b a (sym same))
   where
-    own_at : (a b : List Elem) → a ≡ b → is_path a b ≡ true
-    own_at a b same = subst (λ z. is_path a z ≡ true) same (own_path a)
+    own_at : (a b : List Elem) → a ≡ b → same_path a b ≡ true
+    own_at a b same = subst (λ z. same_path a z ≡ true) same (own_path a)
 
-less_from : (x y : List Elem) (order : Ordering) → path_cmp x y ≡ order → is_path x y ≡ false → is_lt (path_cmp y x) ≡ false → path_cmp x y ≡ Less
+less_from : (x y : List Elem) (order : Ordering) → path_cmp x y ≡ order → same_path x y ≡ false → is_lt (path_cmp y x) ≡ false → path_cmp x y ≡ Less
 less_from x y Less is apart up = is
 less_from x y Equal is apart up = absurd (true≢false (sym (ap is_eq is) ∙ apart))
 less_from x y Greater is apart up = absurd (true≢false (sym (ap is_lt (turned x y is)) ∙ up))

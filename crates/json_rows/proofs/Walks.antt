@@ -13,7 +13,7 @@ use Rattle.base_kinds.specs.declared.value.Value.TheVariants as values
 use Rattle.base_kinds.specs.declared.schema.Sort.{Sort}
 use Rattle.base_kinds.specs.declared.schema.Sort.TheVariants as sorts
 use Rattle.base_kinds.specs.Schema.{SchemaNode, names_of, node_at}
-use Rattle.history_laws.specs.Rising.{is_path}
+use Rattle.base_kinds.specs.Paths.{same_path}
 use Rattle.json_rows.specs.declared.fault.RowsFault.{RowsFault}
 use Rattle.json_rows.specs.declared.fault.RowsFault.TheVariants.{BadValue}
 use Rattle.json_rows.specs.Leaves.{leaf_at, values_from}
@@ -222,5 +222,5 @@ end_apart schema path None (Some json) out is = apart_of path (is_new []) out (o
 end_apart schema path (Some last) json out is = found_apart schema path last (node_at schema path) json out is
 
 -- no two rows of a walk have one path
-pub walked_distinct : (schema : List SchemaNode) (path : List Elem) (json : Option Data) (out : List Row) → walked schema path json ≡ Ok out → IsDistinct (λ a b. is_path a.path b.path) out
+pub walked_distinct : (schema : List SchemaNode) (path : List Elem) (json : Option Data) (out : List Row) → walked schema path json ≡ Ok out → IsDistinct (λ a b. same_path a.path b.path) out
 walked_distinct schema path json out is = distinct_rows out (end_apart schema path (slice_get path (length path - 1)) json out is)

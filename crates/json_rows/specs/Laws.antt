@@ -6,7 +6,7 @@ use Rattle.base_kinds.specs.declared.path.Elem.{Elem}
 use Rattle.base_kinds.specs.declared.operation.Row.{Row}
 use Rattle.base_kinds.specs.Legal.{rises}
 use Rattle.base_kinds.specs.Schema.{SchemaNode}
-use Rattle.history_laws.specs.Rising.{IsRising, row_cmp}
+use Rattle.base_kinds.specs.Rising.{IsRising, row_cmp}
 use Rattle.json_rows.specs.declared.fault.RowsFault.{RowsFault}
 use Rattle.json_rows.specs.Reading.{JsonRows, JsonFault, in_order, rows_told}
 

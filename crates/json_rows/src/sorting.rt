@@ -2,9 +2,8 @@
 ghost use Rattle.std.specs.Prelude.{◌≡◌, [], IsTrue, IfOk, IsPermutation, IsSortedByKey};
 ghost use Rattle.std.specs.Ordering.{is_lt};
 ghost use Rattle.std.specs.List.{IsDistinct};
-ghost use Rattle.history_laws.specs.Rising.{is_path};
 ghost use Rattle.base_kinds.specs.Legal.{rises};
-ghost use Rattle.base_kinds.specs.Paths.{path_cmp};
+ghost use Rattle.base_kinds.specs.Paths.{path_cmp, same_path};
 ghost use Rattle.base_kinds.specs.Tree.{set_rows};
 
 use base_kinds::{NoMemory, Row, Rows, Seq};
@@ -45,7 +44,7 @@ fn sorted_rows(rows: Rows) -> Result<Rows, NoMemory>
 /// The rows that stand in a tree where each of these is set.
 #[tactic(auto, using(crate::proofs::Sorted::tree_of_sorted, crate::proofs::Sorted::sorted_rise, crate::proofs::Sorted::tree_of_itself))]
 pub(crate) fn in_order(rows: Rows) -> Result<Rows, NoMemory>
-    requires { IsDistinct (λ a b. is_path a.path b.path) rows }
+    requires { IsDistinct (λ a b. same_path a.path b.path) rows }
     ensures rows { IfOk result (λ sorted. sorted ≡ set_rows rows []) }
     ensures rising { IfOk result (λ sorted. IsTrue (rises (λ a b. path_cmp a.path b.path) sorted)) }
 {

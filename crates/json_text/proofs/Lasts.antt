@@ -3,7 +3,7 @@ use Rattle.std.proofs.Common.{◌≡◌, ℕ, List, [], ◌∷◌, ◌++◌, ◌
 use Rattle.std.proofs.lemmas.Bool.Decides.{nat_tests}
 use Rattle.std.specs.Prelude.{IsTrue, ◌↔◌}
 use Rattle.base_kinds.specs.declared.path.Elem.{Elem}
-use Rattle.base_kinds.specs.Valid.{own_name}
+use Rattle.base_kinds.specs.Ancestors.{own_name}
 use Rattle.json_text.specs.Trees.{ends_plain}
 
 pub own_name-last : (front : List (List ℕ)) (name : List ℕ) → own_name (front ++ name ∷ []) ≡ name

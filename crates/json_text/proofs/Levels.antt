@@ -17,8 +17,9 @@ use Rattle.base_kinds.specs.declared.schema.Sort.{Sort}
 use Rattle.base_kinds.specs.declared.schema.Sort.TheVariants as sorts
 use Rattle.base_kinds.specs.Paths.{text_cmp, elem_cmp, path_cmp}
 use Rattle.base_kinds.specs.Schema.{SchemaNode, names_of, node_of, node_at}
-use Rattle.base_kinds.specs.Valid.{if_some, own_name, has_just_keys, is_leafy, row_has_nodes, row_has_type}
-use Rattle.history_laws.specs.Rising.{row_cmp, IsRising}
+use Rattle.base_kinds.specs.Valid.{if_some, has_just_keys, is_leafy, row_has_nodes, row_has_type}
+use Rattle.base_kinds.specs.Ancestors.{own_name}
+use Rattle.base_kinds.specs.Rising.{row_cmp, IsRising}
 use Rattle.history_laws.proofs.PathOrder.{path_total, elem_total, exact_elems}
 use Rattle.schema_core.specs.Nodes.{is_inner}
 use Rattle.schema_core.proofs.NodeLemmas.{stands_there}

@@ -16,7 +16,8 @@ use Rattle.base_kinds.specs.declared.value.Value.TheOpen as opened
 use Rattle.base_kinds.specs.declared.value.Value.TheViews.{roll-Value, out-Value, roll-out-Value}
 use Rattle.base_kinds.specs.declared.value.Value.TheVariants as values
 use Rattle.base_kinds.specs.Schema.{SchemaNode, names_of, node_of, node_at}
-use Rattle.base_kinds.specs.Valid.{if_some, path_steps, step_has_node, row_has_type, has_type, has_just_keys}
+use Rattle.base_kinds.specs.Valid.{if_some, step_has_node, row_has_type, has_type, has_just_keys}
+use Rattle.base_kinds.specs.Ancestors.{path_steps}
 use Rattle.base_kinds.specs.Values.{is_list, values_in, has_shape, all_differ}
 use Rattle.base_kinds.proofs.Lists.{values_in-List}
 use Rattle.schema_core.specs.Nodes.{is_inner}

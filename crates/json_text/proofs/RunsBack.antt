@@ -4,7 +4,7 @@ use Rattle.std.specs.List.{AllByRecursion}
 use Rattle.std.specs.Cmp.{IsTotalOrder}
 use Rattle.std.specs.List.Sorted.{IsStrictlySortedBy}
 use Rattle.base_kinds.specs.declared.operation.Row.{Row}
-use Rattle.history_laws.specs.Rising.{row_cmp, IsRising}
+use Rattle.base_kinds.specs.Rising.{row_cmp, IsRising}
 use Rattle.json_text.specs.Runs.{with_front, runs}
 
 abbrev pub whole : List (List Row) → List Row

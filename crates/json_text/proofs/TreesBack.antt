@@ -6,11 +6,13 @@ use Rattle.serde_json.specs.Data.{Members}
 use Rattle.base_kinds.specs.declared.path.Elem.{Elem}
 use Rattle.base_kinds.specs.declared.operation.Row.{Row}
 use Rattle.base_kinds.specs.Schema.{SchemaNode}
-use Rattle.base_kinds.specs.Valid.{row_has_nodes, row_has_type, path_steps_from, same_path, child, has_key_leaf}
+use Rattle.base_kinds.specs.Valid.{row_has_nodes, row_has_type, has_key_leaf}
+use Rattle.base_kinds.specs.Ancestors.{path_steps_from, child}
+use Rattle.base_kinds.specs.Paths.{same_path}
 use Rattle.base_kinds.specs.Keys.{key_text}
 use Rattle.std.proofs.lemmas.Slice.Eq.{bytes_eq-Decides}
-use Rattle.history_laws.proofs.Values.{same_path as equal_paths}
-use Rattle.history_laws.specs.Rising.{IsRising}
+use Rattle.history_laws.proofs.Values.{paths_equal as equal_paths}
+use Rattle.base_kinds.specs.Rising.{IsRising}
 use Rattle.json_rows.specs.Entries.{and_then}
 use Rattle.json_rows.specs.Walk.{members_at}
 use Rattle.json_rows.specs.Reading.{in_order}

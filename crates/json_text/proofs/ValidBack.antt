@@ -10,14 +10,15 @@ use Rattle.base_kinds.specs.declared.operation.Row.{Row}
 use Rattle.base_kinds.specs.declared.schema.Sort.{Sort}
 use Rattle.base_kinds.specs.declared.schema.Sort.TheVariants as sorts
 use Rattle.base_kinds.specs.Match.{covers}
-use Rattle.base_kinds.specs.Paths.{path_cmp}
+use Rattle.base_kinds.specs.Paths.{path_cmp, same_path}
 use Rattle.base_kinds.specs.Parts.{is_covered, part}
 use Rattle.base_kinds.specs.Legal.{is_fit_elem, is_fit_path, is_fit_value}
 use Rattle.base_kinds.specs.Schema.{SchemaNode, names_of, node_of, node_at}
-use Rattle.base_kinds.specs.Valid.{if_some, same_path, has_key_leaf, row_has_type, is_leafy, has_just_keys, path_steps, step_has_node}
-use Rattle.history_laws.specs.Rising.{row_cmp, IsRising}
+use Rattle.base_kinds.specs.Valid.{if_some, has_key_leaf, row_has_type, is_leafy, has_just_keys, step_has_node}
+use Rattle.base_kinds.specs.Ancestors.{path_steps}
+use Rattle.base_kinds.specs.Rising.{row_cmp, IsRising}
 use Rattle.history_laws.proofs.PathOrder.{path_total}
-use Rattle.history_laws.proofs.Values.{same_path as is_path_same}
+use Rattle.history_laws.proofs.Values.{paths_equal as is_path_same}
 use Rattle.schema_core.specs.Nodes.{is_inner}
 use Rattle.schema_core.specs.WellFormed.{is_list_sort, is_list_node, IsWellFormed}
 use Rattle.schema_core.proofs.WellFormedLemmas.{no_root, formed_node, inner_above}

@@ -12,10 +12,11 @@ use Rattle.std.proofs.lemmas.List.Kept.{IsStrictlySortedBy-filter}
 use Rattle.std.proofs.lemmas.Slice.Eq.{bytes_eq-Decides}
 use Rattle.base_kinds.specs.declared.path.Elem.{Elem}
 use Rattle.base_kinds.specs.declared.operation.Row.{Row}
-use Rattle.base_kinds.specs.Paths.{text_cmp, key_cmp}
+use Rattle.base_kinds.specs.Paths.{text_cmp, key_cmp, same_path}
 use Rattle.base_kinds.specs.Match.{suffixes, prefixes, key_matches, elem_matches, first_matches, matches, covers}
 use Rattle.base_kinds.specs.Schema.{SchemaNode, names_of, same_names, node_of, node_at}
-use Rattle.base_kinds.specs.Valid.{if_some, same_path, child, has_key_leaf, row_has_keys, row_has_type, is_leafy, has_just_keys, path_steps_from, path_steps, step_has_node, row_has_nodes, nodes_exist, types_hold, keys_hold, mandatory_present, leafrefs_resolve, max_elements_hold}
+use Rattle.base_kinds.specs.Valid.{if_some, has_key_leaf, row_has_keys, row_has_type, is_leafy, has_just_keys, step_has_node, row_has_nodes, nodes_exist, types_hold, keys_hold, mandatory_present, leafrefs_resolve, max_elements_hold}
+use Rattle.base_kinds.specs.Ancestors.{child, path_steps_from, path_steps}
 use Rattle.base_kinds.specs.Keys.{key_text}
 use Rattle.base_kinds.specs.Parts.{is_covered, part}
 use Rattle.base_kinds.specs.declared.schema.Sort.{Sort}
@@ -25,8 +26,8 @@ use Rattle.schema_core.specs.WellFormed.{texts_differ, IsWellFormed}
 use Rattle.schema_core.proofs.WellFormedLemmas.{formed_node, no_root}
 use Rattle.base_kinds.specs.Legal.{rises, is_fit_elem, is_fit_path, is_fit_value, is_fit_row}
 use Rattle.history_laws.proofs.PathOrder.{key_total}
-use Rattle.history_laws.proofs.Values.{same_path as is_path_same}
-use Rattle.history_laws.specs.Rising.{row_cmp}
+use Rattle.history_laws.proofs.Values.{paths_equal as is_path_same}
+use Rattle.base_kinds.specs.Rising.{row_cmp}
 use Rattle.json_text.specs.Laws.{IsWhole, IsBelow, IsPart, with_name, in_name_order, step_ordered, row_ordered, keyed_behind}
 use Rattle.json_text.specs.ValidLaws.{is_plain_elem, IsWholeTree, IsInstance}
 use Rattle.json_text.proofs.Below.{names_below}

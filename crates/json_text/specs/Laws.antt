@@ -11,8 +11,9 @@ use Rattle.base_kinds.specs.declared.path.Elem.{Elem}
 use Rattle.base_kinds.specs.declared.operation.Row.{Row}
 use Rattle.base_kinds.specs.declared.schema.Sort.TheVariants as sorts
 use Rattle.base_kinds.specs.Schema.{SchemaNode, same_names, node_at}
-use Rattle.base_kinds.specs.Valid.{if_some, is_leafy, path_steps, path_steps_from, has_key_leaf, nodes_exist, types_hold, row_has_type}
-use Rattle.history_laws.specs.Rising.{IsRising}
+use Rattle.base_kinds.specs.Valid.{if_some, is_leafy, has_key_leaf, nodes_exist, types_hold, row_has_type}
+use Rattle.base_kinds.specs.Ancestors.{path_steps, path_steps_from}
+use Rattle.base_kinds.specs.Rising.{IsRising}
 use Rattle.schema_core.specs.WellFormed.{IsWellFormed}
 use Rattle.base_kinds.specs.Legal.{is_fit_scalar}
 use Rattle.base_kinds.specs.Values.{has_shape, all_differ, is_list, values_in}

@@ -10,7 +10,7 @@ use Rattle.base_kinds.specs.declared.schema.Shape.{Shape}
 use Rattle.base_kinds.specs.declared.schema.Sort.{Sort}
 use Rattle.base_kinds.specs.declared.schema.Sort.TheVariants as sorts
 use Rattle.base_kinds.specs.Schema.{SchemaNode, names_of, node_of, node_at}
-use Rattle.base_kinds.specs.Valid.{own_name}
+use Rattle.base_kinds.specs.Ancestors.{own_name}
 use Rattle.json_text.specs.Leaves.{leaf_data}
 use Rattle.json_text.specs.Runs.{runs, share_name, share_entry, first_elem}
 

@@ -5,10 +5,11 @@ use Rattle.std.specs.Str.{bytes_eq}
 use Rattle.base_kinds.specs.declared.path.Elem.{Elem}
 use Rattle.base_kinds.specs.declared.operation.Row.{Row}
 use Rattle.base_kinds.specs.Schema.{SchemaNode, node_at}
-use Rattle.base_kinds.specs.Valid.{path_steps, step_has_node, has_row, valid}
+use Rattle.base_kinds.specs.Valid.{step_has_node, has_row, valid}
+use Rattle.base_kinds.specs.Ancestors.{path_steps}
 use Rattle.base_kinds.specs.Legal.{is_fit_elem, is_fit_row}
 use Rattle.base_kinds.specs.Parts.{part}
-use Rattle.history_laws.specs.Rising.{IsRising}
+use Rattle.base_kinds.specs.Rising.{IsRising}
 use Rattle.schema_core.specs.Nodes.{is_inner}
 use Rattle.schema_core.specs.WellFormed.{IsWellFormed}
 use Rattle.json_text.specs.Laws.{IsWhole, ReadsBack}

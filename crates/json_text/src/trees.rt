@@ -4,7 +4,7 @@ ghost use Rattle.std.specs.Option.{option_copied, option_and_then, option_map, F
 ghost use Rattle.serde_json.specs.Data.{object};
 ghost use Rattle.serde_json.specs.View.{view, items_view, members_view};
 ghost use Rattle.base_kinds.specs.Schema.{SchemaNode};
-ghost use Rattle.base_kinds.specs.Valid.{own_name};
+ghost use Rattle.base_kinds.specs.Ancestors.{own_name};
 ghost use Rattle.schema_core.specs.Nodes.{names_above, names_at};
 ghost use Rattle.json_rows.specs.Reading.{data_of};
 ghost use Rattle.json_text.specs.Runs.{runs, share_name, share_entry, first_elem};

@@ -7,7 +7,7 @@ use Rattle.std.proofs.lemmas.List.{get_or_default}
 use Rattle.std.proofs.lemmas.Map.Keys.{Less-from_sorted}
 use Rattle.base_kinds.specs.declared.operation.Row.{Row}
 use Rattle.base_kinds.specs.Paths.{path_cmp}
-use Rattle.history_laws.specs.Rising.{row_cmp, IsRising}
+use Rattle.base_kinds.specs.Rising.{row_cmp, IsRising}
 use Rattle.history_laws.proofs.PathOrder.{path_total}
 use Rattle.plain_tree.specs.Places.{IsGap}
 

@@ -18,7 +18,7 @@ impl Model for PlainTree {
     ghost use Rattle.std.specs.Coded.{codes};
     ghost use Rattle.base_kinds.specs.contracts.value.Value as value;
     ghost use Rattle.base_kinds.specs.declared.operation.Row.{Row as TreeRow};
-    ghost use Rattle.history_laws.specs.Rising.{IsRising};
+    ghost use Rattle.base_kinds.specs.Rising.{IsRising};
 
     ghost Value = { List TreeRow };
 

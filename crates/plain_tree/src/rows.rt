@@ -3,7 +3,7 @@ ghost use Rattle.std.specs.Prelude.{◌≡◌, ◌<◌, length, slice_index_or, 
 ghost use Rattle.base_kinds.specs.Paths.{path_cmp};
 ghost use Rattle.base_kinds.specs.Parts.{is_covered, part};
 ghost use Rattle.base_kinds.specs.Tree.{set_row, set_rows, uncovered};
-ghost use Rattle.history_laws.specs.Rising.{IsRising};
+ghost use Rattle.base_kinds.specs.Rising.{IsRising};
 ghost use Rattle.plain_tree.specs.Places.{IsGap};
 
 use base_kinds::{Copied, NoMemory, Path, Paths, Row};

@@ -8,8 +8,8 @@ use Rattle.std.proofs.lemmas.List.{drop_all}
 use Rattle.std.proofs.Math.Seq.{drop-cons, take-suc}
 use Rattle.std.proofs.lemmas.Map.Text.{is_eq-slice_cmp}
 use Rattle.base_kinds.specs.declared.path.Elem.{Elem}
-use Rattle.base_kinds.specs.Paths.{text_cmp, key_cmp, elem_cmp, path_cmp}
-use Rattle.base_kinds.specs.Valid.{same_path, path_steps_from, ancestors_from, child, parent_of, parent_names, own_name}
+use Rattle.base_kinds.specs.Paths.{text_cmp, key_cmp, elem_cmp, path_cmp, same_path}
+use Rattle.base_kinds.specs.Ancestors.{path_steps_from, ancestors_from, child, parent_of, parent_names, own_name}
 
 pub above_last : (path front : List Elem) (elem : Elem) → path ≡ front ++ elem ∷ [] → parent_of path ≡ front
 above_last path front elem is = rw is (last front elem)

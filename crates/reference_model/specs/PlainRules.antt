@@ -1,15 +1,14 @@
 -- What is judged by limits alone, without a schema.
-use Rattle.std.specs.Prelude.{ℕ}
+use Rattle.std.specs.Prelude.{ℕ, [], true}
 use Rattle.base_kinds.specs.declared.entry.Limits.{Limits}
 use Rattle.base_kinds.specs.declared.entry.Ask.{Ask}
 use Rattle.base_kinds.specs.declared.entry.Ask.TheVariants as asks
-use Rattle.base_kinds.specs.Records.{record_octets}
-use Rattle.base_kinds.specs.Rules.{limited}
-use Rattle.base_kinds.specs.Step.{Rules, unchecked}
+use Rattle.base_kinds.specs.Rules.{rules_of}
+use Rattle.base_kinds.specs.Step.{Rules}
 
 -- every tree is valid and small enough
 abbrev pub plain_rules : Limits → Rules
-plain_rules limits = record unchecked { record_octets = record_octets; has_room = limited limits }
+plain_rules limits = record (rules_of [] limits) { valid = λ tree. true; fits = λ tree. true }
 
 -- how long a trial is asked to last
 abbrev pub duration_of : Ask → ℕ

@@ -1,8 +1,9 @@
 // Instances: a path, the one above it, and the leaf below it.
 ghost use Rattle.std.specs.Prelude.{◌≡◌, ◌+◌, ◌<◌, [], ◌∷◌, length, take, drop};
 ghost use Rattle.std.specs.Ordering.{is_eq};
-ghost use Rattle.base_kinds.specs.Paths.{elem_cmp};
-ghost use Rattle.base_kinds.specs.Valid.{same_path, path_steps_from, child, parent_of, parent_names, own_name, has_row};
+ghost use Rattle.base_kinds.specs.Paths.{elem_cmp, same_path};
+ghost use Rattle.base_kinds.specs.Valid.{has_row};
+ghost use Rattle.base_kinds.specs.Ancestors.{path_steps_from, child, parent_of, parent_names, own_name};
 
 use base_kinds::{Elem, Row, Text};
 use std::cmp::Ordering;

@@ -5,7 +5,8 @@ use Rattle.std.specs.Prelude.{slice_get, unwrap_or, is_some}
 use Rattle.std.specs.Option.{option_map}
 use Rattle.std.specs.Cmp.Lexicographic.{pointwise_decides, bytes_decides}
 use Rattle.base_kinds.specs.Schema.{SchemaNode, node_of, same_names}
-use Rattle.base_kinds.specs.Valid.{if_some, parent_names}
+use Rattle.base_kinds.specs.Valid.{if_some}
+use Rattle.base_kinds.specs.Ancestors.{parent_names}
 use Rattle.schema_core.specs.Nodes.{names_at, has_parent, is_inner, IsPlaced, AllPlaced}
 
 pub same_decides : (a b : List (List ℕ)) → (same_names a b ≡ true → a ≡ b) × (a ≡ b → same_names a b ≡ true)

@@ -4,7 +4,8 @@ use Rattle.std.specs.Option.{option_map}
 use Rattle.base_kinds.specs.declared.schema.Sort.{Sort}
 use Rattle.base_kinds.specs.declared.schema.Sort.TheVariants as sorts
 use Rattle.base_kinds.specs.Schema.{SchemaNode, node_of}
-use Rattle.base_kinds.specs.Valid.{if_some, parent_names}
+use Rattle.base_kinds.specs.Valid.{if_some}
+use Rattle.base_kinds.specs.Ancestors.{parent_names}
 use Rattle.schema_core.specs.declared.node.NodeId.{NodeId}
 
 -- the names of the node with this number, counted from 0 in the order of the text

@@ -5,7 +5,8 @@ use Rattle.std.specs.Str.{bytes_eq}
 use Rattle.base_kinds.specs.declared.schema.Sort.{Sort}
 use Rattle.base_kinds.specs.declared.schema.Sort.TheVariants as sorts
 use Rattle.base_kinds.specs.Schema.{SchemaNode, node_of}
-use Rattle.base_kinds.specs.Valid.{if_some, own_name}
+use Rattle.base_kinds.specs.Valid.{if_some}
+use Rattle.base_kinds.specs.Ancestors.{own_name}
 use Rattle.schema_core.specs.Nodes.{AllPlaced}
 
 abbrev pub is_leaf : Sort → Bool

@@ -4,7 +4,8 @@ use Rattle.std.specs.List.{AllByRecursion, list_all}
 use Rattle.std.proofs.lemmas.Bool.{and_parts, and_from}
 use Rattle.std.proofs.lemmas.List.{length-append}
 use Rattle.base_kinds.specs.Schema.{SchemaNode, node_of}
-use Rattle.base_kinds.specs.Valid.{if_some, own_name}
+use Rattle.base_kinds.specs.Valid.{if_some}
+use Rattle.base_kinds.specs.Ancestors.{own_name}
 use Rattle.schema_core.specs.Nodes.{has_parent}
 use Rattle.schema_core.specs.WellFormed.{is_leaf, is_list_node, lacks_colon, texts_differ, has_leaf, IsWellFormedNode}
 use Rattle.schema_text.specs.declared.cause.Cause.{Cause}

@@ -5,7 +5,7 @@ use Rattle.std.specs.Option.{option_map}
 use Rattle.std.proofs.lemmas.Bool.{and_parts, and_from}
 use Rattle.std.proofs.lemmas.Bool.Decides.{nat_tests}
 use Rattle.base_kinds.specs.declared.schema.Shape.{Shape}
-use Rattle.base_kinds.specs.Valid.{own_name}
+use Rattle.base_kinds.specs.Ancestors.{own_name}
 use Rattle.schema_core.specs.WellFormed.{is_colon, lacks_colon, texts_differ}
 use Rattle.schema_text.specs.declared.line.Declared.{Declared}
 use Rattle.schema_text.specs.declared.line.Declared.TheVariants as declared

@@ -5,7 +5,7 @@ use Rattle.base_kinds.specs.declared.operation.Act.TheVariants as acts
 use Rattle.base_kinds.specs.declared.fill.Fill.TheVariants as fills
 use Rattle.base_kinds.specs.declared.request.Span.TheVariants as spans
 use Rattle.base_kinds.specs.declared.request.SubMode.TheVariants as sub_modes
-use Rattle.base_kinds.specs.Examples.{plain}
+use Rattle.base_kinds.specs.worked.Samples.{plain}
 use Rattle.path_core.specs.PathText.{IsPathText}
 use Rattle.script_text.specs.declared.keywords.Keyword.TheVariants as keywords
 use Rattle.script_text.specs.declared.line.Line.TheVariants as lines

@@ -16,7 +16,7 @@ use Rattle.base_kinds.specs.declared.request.Span.{Span}
 use Rattle.base_kinds.specs.declared.request.Span.TheVariants as spans
 use Rattle.base_kinds.specs.declared.refusal.Refusal.{Refusal}
 use Rattle.base_kinds.specs.declared.refusal.Refusal.TheVariants.{Unsupported, MixedAction, BadId, BadDuration, BadPath, BadValue}
-use Rattle.base_kinds.specs.Legal.{rises, is_fit_path, is_fit_row, has_fit_rows, is_fit_op, AreFitOps, IsFit, IsFitId, IsFitDuration}
+use Rattle.base_kinds.specs.Legal.{rises, is_fit_path, is_fit_row, has_fit_rows, is_fit_op, AreFitOps, IsFit, is_fit_duration}
 use Rattle.base_kinds.specs.Paths.{path_cmp}
 use Rattle.base_kinds.specs.Schema.{SchemaNode}
 use Rattle.base_kinds.specs.Tree.{set_rows}
@@ -121,34 +121,28 @@ fit_ops schema ask ops e =
 
 -- actions
 
-fit_id : (id : List ℕ) → is_id id ≡ true → IsFitId id
-fit_id id good =
-    let parts = and_parts (leb 1 (length id)) (leb (length id) 64) good in
-    record { least = leb-true 1 (length id) parts.0; most = leb-true (length id) 64 parts.1 }
-
-fit_duration : (span : Span) (nanos : ℕ) → duration span ≡ Some nanos → IsFitDuration nanos
+fit_duration : (span : Span) (nanos : ℕ) → duration span ≡ Some nanos → is_fit_duration nanos ≡ true
 fit_duration spans.Absent nanos e =
     let same : 600000000000 ≡ nanos = cc in
-    record { least = omega (arith, same); most = omega (arith, same) }
+    subst (λ d. is_fit_duration d ≡ true) same refl
 fit_duration (spans.Of seconds rest) nanos e =
     let s = followed_some (natural seconds) (λ s. then_some (natural rest) (λ n. in_range n (s * 1000000000 + n))) nanos e in
     let n = followed_some (natural rest) (λ n. in_range n (s.a * 1000000000 + n)) nanos s.then in
     range_of n.a (s.a * 1000000000 + n.a) nanos n.then
   where
-    range_of : (n all nanos : ℕ) → in_range n all ≡ Some nanos → IsFitDuration nanos
+    range_of : (n all nanos : ℕ) → in_range n all ≡ Some nanos → is_fit_duration nanos ≡ true
     range_of n all nanos e =
         let t = tested (ltb n 1000000000 && leb 1000000000 all && leb all 86400000000000) all nanos e in
         let parts = and_parts (ltb n 1000000000 && leb 1000000000 all) (leb all 86400000000000) t.0 in
-        let low = leb-true 1000000000 all (and_parts (ltb n 1000000000) (leb 1000000000 all) parts.0).1 in
-        let high = leb-true all 86400000000000 parts.1 in
-        record { least = subst (λ d. 1000000000 ≤ d) t.1 low; most = subst (λ d. d ≤ 86400000000000) t.1 high }
+        let low = (and_parts (ltb n 1000000000) (leb 1000000000 all) parts.0).1 in
+        subst (λ d. is_fit_duration d ≡ true) t.1 (and_from (leb 1000000000 all) (leb all 86400000000000) low parts.1)
 
 fit_action : (action : Action) (nanos : ℕ) (ops : List Op) → has_good_id action ≡ true → action_duration action ≡ Some nanos → AreFitOps ops → IsFit (ask_of action ops nanos)
 fit_action actions.Plain nanos ops good e fit = fit
-fit_action (actions.Trial id span) nanos ops good e fit = record { id_fits = fit_id id good; ops_fit = fit; duration_fits = fit_duration span nanos e }
-fit_action (actions.Confirm id) nanos ops good e fit = fit_id id good
-fit_action (actions.Cancel id) nanos ops good e fit = fit_id id good
-fit_action (actions.Extend id span) nanos ops good e fit = record { id_fits = fit_id id good; duration_fits = fit_duration span nanos e }
+fit_action (actions.Trial id span) nanos ops good e fit = record { id_fits = good; ops_fit = fit; duration_fits = fit_duration span nanos e }
+fit_action (actions.Confirm id) nanos ops good e fit = good
+fit_action (actions.Cancel id) nanos ops good e fit = good
+fit_action (actions.Extend id span) nanos ops good e fit = record { id_fits = good; duration_fits = fit_duration span nanos e }
 fit_action actions.Mixed nanos ops good e fit = fit
 
 pub fit_ask : (ask : SetAsk) (nanos : ℕ) (ops : List Op) → action_told ask ≡ Ok nanos → AreFitOps ops → IsFit (ask_of ask.action ops nanos)

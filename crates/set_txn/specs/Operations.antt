@@ -17,7 +17,7 @@ use Rattle.base_kinds.specs.Schema.{SchemaNode}
 use Rattle.base_kinds.specs.Tree.{set_rows}
 use Rattle.base_kinds.specs.Valid.{unless_none}
 use Rattle.base_kinds.specs.Values.{same_scalar}
-use Rattle.history_laws.specs.Rising.{value_at}
+use Rattle.base_kinds.specs.Rising.{value_at}
 use Rattle.set_txn.specs.Results.{then_ok, each_told}
 use Rattle.set_txn.specs.Values.{value_told}
 use Rattle.set_txn.specs.Walking.{is_wild, walk}

@@ -10,7 +10,8 @@ use Rattle.base_kinds.specs.declared.schema.Shape.{Shape}
 use Rattle.base_kinds.specs.declared.refusal.Refusal.{Refusal}
 use Rattle.base_kinds.specs.declared.refusal.Refusal.TheVariants.{BadPath, NotInSchema}
 use Rattle.base_kinds.specs.Schema.{SchemaNode, node_at}
-use Rattle.base_kinds.specs.Valid.{child, has_just_keys}
+use Rattle.base_kinds.specs.Valid.{has_just_keys}
+use Rattle.base_kinds.specs.Ancestors.{child}
 use Rattle.set_txn.specs.KeyValues.{key_value}
 use Rattle.set_txn.specs.Results.{then_ok}
 

@@ -3,11 +3,11 @@ ghost use Rattle.std.specs.Prelude.{◌≡◌, IfOk, OnOk};
 ghost use Rattle.std.specs.List.{list_all};
 ghost use Rattle.std.specs.Option.{option_copied};
 ghost use Rattle.std.specs.Ordering.{is_eq};
-ghost use Rattle.base_kinds.specs.Paths.{path_cmp};
+ghost use Rattle.base_kinds.specs.Paths.{path_cmp, same_path};
 ghost use Rattle.base_kinds.specs.Tree.{set_row, set_rows};
 ghost use Rattle.base_kinds.specs.Valid.{unless_none};
 ghost use Rattle.base_kinds.specs.Values.{same_scalar as equal_values};
-ghost use Rattle.history_laws.specs.Rising.{value_at, is_path};
+ghost use Rattle.base_kinds.specs.Rising.{value_at};
 ghost use Rattle.set_txn.specs.Operations.{keys_agree};
 
 use base_kinds::{Copied, NoMemory, Path, Row, Rows, Seq, Value};
@@ -37,15 +37,15 @@ fn value_at<'a>(path: &Path, rows: &'a [Row]) -> Option<&'a Value>
     ensures { option_copied result ≡ value_at path.now rows.now }
 {
     for row in rows {
-        if is_path(&row.path, path) {
+        if same_path(&row.path, path) {
             return Some(&row.value);
         }
     }
     None
 }
 
-fn is_path(a: &Path, b: &Path) -> bool
-    ensures { result ≡ is_path a.now b.now }
+fn same_path(a: &Path, b: &Path) -> bool
+    ensures { result ≡ same_path a.now b.now }
 {
     match cmp_paths(a, b) {
         Ordering::Equal => true,

@@ -4,7 +4,8 @@ ghost use Rattle.std.specs.List.{list_all, list_any};
 ghost use Rattle.std.specs.Option.{option_copied};
 ghost use Rattle.std.specs.Str.{bytes_eq};
 ghost use Rattle.base_kinds.specs.Schema.{node_at};
-ghost use Rattle.base_kinds.specs.Valid.{child, has_just_keys};
+ghost use Rattle.base_kinds.specs.Valid.{has_just_keys};
+ghost use Rattle.base_kinds.specs.Ancestors.{child};
 ghost use Rattle.set_txn.specs.Walking.{shape_at, key_spelled, leaf_row, keys_told, elem_told, walk, walk_from};
 
 use crate::key_values::key_value;

@@ -2,11 +2,7 @@
 use Rattle.std.specs.Prelude.{◌≡◌, ℕ, List, [], ◌∷◌, ◌⊎◌, codes}
 use Rattle.std.specs.Fmt.{decimal}
 use Rattle.base_kinds.specs.declared.entry.Limits.{Limits}
-use Rattle.base_kinds.specs.Limits.{AreInRange}
-
--- the limits of a commit log where none are given: 65,536 entries and 268,435,456 octets
-abbrev pub default_limits : Limits
-default_limits = record { entries = 65536; octets = 268435456 }
+use Rattle.base_kinds.specs.Limits.{AreInRange, default_limits}
 
 -- the limits as two words
 abbrev pub AreLimits : List ℕ → List ℕ → Limits → Type 0

@@ -14,8 +14,8 @@ use Rattle.base_kinds.specs.declared.path.Elem.{Elem}
 use Rattle.base_kinds.specs.declared.operation.Row.{Row}
 use Rattle.base_kinds.specs.Paths.{path_cmp, elem_cmp}
 use Rattle.base_kinds.specs.Schema.{names_of, same_names}
-use Rattle.base_kinds.specs.Valid.{ancestors, ancestors_from, parent_of}
-use Rattle.history_laws.specs.Rising.{IsRising}
+use Rattle.base_kinds.specs.Ancestors.{ancestors, ancestors_from, parent_of}
+use Rattle.base_kinds.specs.Rising.{IsRising}
 use Rattle.tree_check.specs.Entries.{is_below, entry_of, entries_along}
 
 -- ---- which instances a row stands below

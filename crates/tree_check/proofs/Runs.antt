@@ -11,9 +11,10 @@ use Rattle.std.proofs.lemmas.Bool.Decides.{nat_tests}
 use Rattle.std.proofs.lemmas.Cmp.{tied_itself}
 use Rattle.base_kinds.specs.declared.path.Elem.{Elem}
 use Rattle.base_kinds.specs.declared.operation.Row.{Row}
-use Rattle.base_kinds.specs.Paths.{path_cmp}
-use Rattle.base_kinds.specs.Valid.{same_path, parent_of, each_once, entries_of, few_beside}
-use Rattle.history_laws.specs.Rising.{IsRising}
+use Rattle.base_kinds.specs.Paths.{path_cmp, same_path}
+use Rattle.base_kinds.specs.Valid.{each_once, entries_of, few_beside}
+use Rattle.base_kinds.specs.Ancestors.{parent_of}
+use Rattle.base_kinds.specs.Rising.{IsRising}
 use Rattle.history_laws.proofs.PathOrder.{path_total, exact_paths}
 use Rattle.tree_check.specs.Entries.{entry_of, count_after, few_behind, entries_along}
 use Rattle.tree_check.proofs.Fronts.{Leads, AreInOrder, in_order, come_up}

@@ -5,7 +5,8 @@ use Rattle.std.specs.List.{flat_map}
 use Rattle.base_kinds.specs.declared.path.Elem.{Elem}
 use Rattle.base_kinds.specs.declared.operation.Row.{Row}
 use Rattle.base_kinds.specs.Schema.{names_of, same_names}
-use Rattle.base_kinds.specs.Valid.{same_path, parent_of}
+use Rattle.base_kinds.specs.Paths.{same_path}
+use Rattle.base_kinds.specs.Ancestors.{parent_of}
 
 -- the path stands below an entry of the list with these names
 abbrev pub is_below : List (List ℕ) → List Elem → Bool

@@ -1,6 +1,6 @@
 ghost use Rattle.std.specs.Prelude.{◌≡◌, true, false, IfOk, OnOk, IsErrOf, IsTrue};
 ghost use Rattle.base_kinds.specs.Valid.{valid, fits};
-ghost use Rattle.history_laws.specs.Rising.{IsRising};
+ghost use Rattle.base_kinds.specs.Rising.{IsRising};
 
 use crate::fault::CheckFault;
 use crate::known::nodes_exist;

@@ -4,7 +4,8 @@ ghost use Rattle.std.specs.List.{list_any, list_all};
 ghost use Rattle.std.specs.Option.{ForSome};
 ghost use Rattle.std.specs.Str.{bytes_eq};
 ghost use Rattle.base_kinds.specs.Schema.{node_of};
-ghost use Rattle.base_kinds.specs.Valid.{if_some, path_steps, is_leafy, has_just_keys, step_has_node, row_has_nodes, nodes_exist};
+ghost use Rattle.base_kinds.specs.Valid.{if_some, is_leafy, has_just_keys, step_has_node, row_has_nodes, nodes_exist};
+ghost use Rattle.base_kinds.specs.Ancestors.{path_steps};
 ghost use Rattle.schema_core.specs.Nodes.{names_at, names_above};
 
 use base_kinds::{Elem, Row, Sort, Text};

@@ -1,7 +1,7 @@
 // The order of rows that a tree keeps.
 ghost use Rattle.std.specs.Prelude.{◌≡◌, ◌↔◌, IsTrue};
 ghost use Rattle.base_kinds.specs.Legal.{rises};
-ghost use Rattle.history_laws.specs.Rising.{row_cmp, IsRising};
+ghost use Rattle.base_kinds.specs.Rising.{row_cmp, IsRising};
 
 use base_kinds::Row;
 

@@ -4,8 +4,10 @@ ghost use Rattle.std.specs.Prelude.{◌≡◌, ◌<◌, ◌≤◌, ◌+◌, ◌^
 ghost use Rattle.std.specs.List.{list_all};
 ghost use Rattle.std.specs.Option.{option_copied};
 ghost use Rattle.base_kinds.specs.Schema.{names_of, same_names};
-ghost use Rattle.base_kinds.specs.Valid.{same_path, parent_of, entries_of, few_beside, few_values, is_in_maximum, node_in_maximum, max_elements_hold};
-ghost use Rattle.history_laws.specs.Rising.{IsRising};
+ghost use Rattle.base_kinds.specs.Valid.{entries_of, few_beside, few_values, is_in_maximum, node_in_maximum, max_elements_hold};
+ghost use Rattle.base_kinds.specs.Paths.{same_path};
+ghost use Rattle.base_kinds.specs.Ancestors.{parent_of};
+ghost use Rattle.base_kinds.specs.Rising.{IsRising};
 ghost use Rattle.tree_check.specs.Entries.{entry_of, count_after};
 
 use crate::values::values_in;

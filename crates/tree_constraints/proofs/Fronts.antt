@@ -2,7 +2,8 @@
 use Rattle.std.proofs.Common.{◌≡◌, ℕ, ◌+◌, ◌<◌, length, take, drop, get_or, List, [], ◌∷◌, ◌++◌, refl, ap, sym, ◌∙◌, Some, Bool, true, false, ◌&&◌}
 use Rattle.std.proofs.lemmas.List.{drop_more, take_more, take-append-drop, append-nil, append_assoc}
 use Rattle.base_kinds.specs.declared.path.Elem.{Elem}
-use Rattle.base_kinds.specs.Valid.{path_steps, path_steps_from, has_key_leaf, parent_names, own_name, node_is_present, mandatory_present}
+use Rattle.base_kinds.specs.Valid.{has_key_leaf, node_is_present, mandatory_present}
+use Rattle.base_kinds.specs.Ancestors.{path_steps, path_steps_from, parent_names, own_name}
 use Rattle.base_kinds.specs.Schema.{SchemaNode}
 use Rattle.base_kinds.specs.declared.operation.Row.{Row}
 use Rattle.std.specs.Prelude.{slice_get}

@@ -6,7 +6,8 @@ use Rattle.std.proofs.lemmas.List.{take_at, take-take}
 use Rattle.base_kinds.specs.declared.path.Elem.{Elem}
 use Rattle.base_kinds.specs.declared.operation.Row.{Row}
 use Rattle.base_kinds.specs.Schema.{names_of, same_names}
-use Rattle.base_kinds.specs.Valid.{ancestors, ancestors_from, parent_names, own_name, child, has_row, stands_below}
+use Rattle.base_kinds.specs.Valid.{has_row, stands_below}
+use Rattle.base_kinds.specs.Ancestors.{ancestors, ancestors_from, parent_names, own_name, child}
 use Rattle.schema_core.proofs.NodeLemmas.{same_decides}
 
 length_names : (path : List Elem) → length (names_of path) ≡ length path

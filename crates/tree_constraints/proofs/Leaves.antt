@@ -16,10 +16,11 @@ use Rattle.std.proofs.lemmas.List.Sorted.{searchable_from_sorted}
 use Rattle.std.proofs.lemmas.Map.Keys.{Less-from_sorted, sorted_head, sorted_tail}
 use Rattle.base_kinds.specs.declared.path.Elem.{Elem}
 use Rattle.base_kinds.specs.declared.operation.Row.{Row}
-use Rattle.base_kinds.specs.Paths.{elem_cmp, path_cmp}
+use Rattle.base_kinds.specs.Paths.{elem_cmp, path_cmp, same_path}
 use Rattle.base_kinds.specs.Keys.{key_text}
-use Rattle.base_kinds.specs.Valid.{child, same_path, has_key_leaf, has_row}
-use Rattle.history_laws.specs.Rising.{row_cmp, IsRising}
+use Rattle.base_kinds.specs.Valid.{has_key_leaf, has_row}
+use Rattle.base_kinds.specs.Ancestors.{child}
+use Rattle.base_kinds.specs.Rising.{row_cmp, IsRising}
 use Rattle.history_laws.proofs.PathOrder.{path_total}
 
 -- ---- in place

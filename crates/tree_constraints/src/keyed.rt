@@ -2,9 +2,10 @@
 ghost use Rattle.std.specs.Prelude.{◌≡◌, ◌≤◌, length, take, drop, true, IfOk};
 ghost use Rattle.std.specs.List.{list_all};
 ghost use Rattle.std.specs.Str.{bytes_eq};
-ghost use Rattle.history_laws.specs.Rising.{IsRising};
+ghost use Rattle.base_kinds.specs.Rising.{IsRising};
 ghost use Rattle.base_kinds.specs.Keys.{key_text};
-ghost use Rattle.base_kinds.specs.Valid.{path_steps, path_steps_from, has_key_leaf, row_has_keys, keys_hold};
+ghost use Rattle.base_kinds.specs.Valid.{has_key_leaf, row_has_keys, keys_hold};
+ghost use Rattle.base_kinds.specs.Ancestors.{path_steps, path_steps_from};
 
 use crate::leaf::find_leaf;
 use crate::seen::shared;

@@ -2,9 +2,9 @@
 ghost use Rattle.std.specs.Prelude.{◌≡◌, []};
 ghost use Rattle.std.specs.List.{find};
 ghost use Rattle.std.specs.Option.{option_copied};
-ghost use Rattle.history_laws.specs.Rising.{IsRising};
-ghost use Rattle.base_kinds.specs.Paths.{elem_cmp, path_cmp};
-ghost use Rattle.base_kinds.specs.Valid.{child, same_path};
+ghost use Rattle.base_kinds.specs.Rising.{IsRising};
+ghost use Rattle.base_kinds.specs.Paths.{elem_cmp, path_cmp, same_path};
+ghost use Rattle.base_kinds.specs.Ancestors.{child};
 
 use base_kinds::{Elem, Row};
 use std::cmp::Ordering;

@@ -1,9 +1,10 @@
 // A mandatory leaf stands wherever some row is below the instance of its parent (RFC 7950 7.6.5).
 ghost use Rattle.std.specs.Prelude.{◌≡◌, ◌<◌, length, take, true, IsTrue, IfOk};
 ghost use Rattle.std.specs.List.{list_all};
-ghost use Rattle.history_laws.specs.Rising.{IsRising};
+ghost use Rattle.base_kinds.specs.Rising.{IsRising};
 ghost use Rattle.base_kinds.specs.Schema.{names_of, same_names};
-ghost use Rattle.base_kinds.specs.Valid.{child, has_row, ancestors, parent_names, own_name, stands_below, node_is_present, mandatory_present};
+ghost use Rattle.base_kinds.specs.Valid.{has_row, stands_below, node_is_present, mandatory_present};
+ghost use Rattle.base_kinds.specs.Ancestors.{child, ancestors, parent_names, own_name};
 
 use crate::leaf::find_leaf;
 use crate::seen::shared;

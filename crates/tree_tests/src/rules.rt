@@ -1,4 +1,4 @@
-ghost use Rattle.history_laws.specs.Rising.{IsRising};
+ghost use Rattle.base_kinds.specs.Rising.{IsRising};
 
 use base_kinds::{Copied, Elem, Path, Row, Rows, Seq, Shape, Text, Texts, Value};
 use schema_core::{MOST_NODES, Node, Schema};

@@ -1,7 +1,8 @@
 // Each element with keys has its key leaves as rows, and their key texts are the keys (RFC 7950 7.8.2).
 ghost use Rattle.std.specs.Prelude.{◌≡◌, ◌≤◌, length, take, drop, IfOk};
 ghost use Rattle.std.specs.List.{list_all};
-ghost use Rattle.base_kinds.specs.Valid.{path_steps_from, has_key_leaf, row_has_keys, keys_hold};
+ghost use Rattle.base_kinds.specs.Valid.{has_key_leaf, row_has_keys, keys_hold};
+ghost use Rattle.base_kinds.specs.Ancestors.{path_steps_from};
 
 use crate::key_texts::key_text;
 use crate::paths::{elem_at, is_child};

@@ -2,7 +2,8 @@
 ghost use Rattle.std.specs.Prelude.{◌≡◌, ◌≤◌, length, take, drop};
 ghost use Rattle.std.specs.List.{list_any, list_all};
 ghost use Rattle.std.specs.Str.{bytes_eq};
-ghost use Rattle.base_kinds.specs.Valid.{path_steps_from, is_leafy, has_just_keys, step_has_node, row_has_nodes, nodes_exist};
+ghost use Rattle.base_kinds.specs.Valid.{is_leafy, has_just_keys, step_has_node, row_has_nodes, nodes_exist};
+ghost use Rattle.base_kinds.specs.Ancestors.{path_steps_from};
 
 use crate::paths::elem_at;
 use crate::schema::{Node, node_at};

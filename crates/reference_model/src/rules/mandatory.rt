@@ -1,7 +1,8 @@
 // A mandatory leaf stands wherever some row is below the instance of its parent (RFC 7950 7.6.5).
 ghost use Rattle.std.specs.Prelude.{◌≡◌, ◌≤◌, length, take, drop};
 ghost use Rattle.std.specs.List.{list_all};
-ghost use Rattle.base_kinds.specs.Valid.{ancestors, ancestors_from, stands_below, node_is_present, mandatory_present};
+ghost use Rattle.base_kinds.specs.Valid.{stands_below, node_is_present, mandatory_present};
+ghost use Rattle.base_kinds.specs.Ancestors.{ancestors, ancestors_from};
 
 use crate::paths::{has_row, own_name, parent_names};
 use crate::schema::{Node, has_names};

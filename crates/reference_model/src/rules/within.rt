@@ -3,7 +3,9 @@
 ghost use Rattle.std.specs.Prelude.{◌≡◌, ◌++◌, IfOk, OnOk, filter, length, nat_le};
 ghost use Rattle.std.specs.List.{list_any, list_all, flat_map};
 ghost use Rattle.base_kinds.specs.Schema.{names_of, same_names};
-ghost use Rattle.base_kinds.specs.Valid.{same_path, ancestors, ancestors_from, each_once, entries_of, parent_of, few_beside, few_values, is_in_maximum, node_in_maximum, max_elements_hold};
+ghost use Rattle.base_kinds.specs.Valid.{each_once, entries_of, few_beside, few_values, is_in_maximum, node_in_maximum, max_elements_hold};
+ghost use Rattle.base_kinds.specs.Paths.{same_path};
+ghost use Rattle.base_kinds.specs.Ancestors.{ancestors, ancestors_from, parent_of};
 
 use crate::paths::{parent_of, same_path};
 use crate::schema::{Node, has_names};

@@ -1,5 +1,5 @@
 use Rattle.std.proofs.Common.{sym, ap, ◌∙◌}
-use Rattle.base_kinds.specs.Valid.{own_name}
+use Rattle.base_kinds.specs.Ancestors.{own_name}
 use Rattle.json_text.proofs.Lasts.{own_name-last}
 use Rattle.json_text.proofs.trees.own_name.Goals as goal
 

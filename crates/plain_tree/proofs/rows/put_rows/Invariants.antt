@@ -1,6 +1,6 @@
 use Rattle.std.proofs.Common.{◌≡◌, drop}
 use Rattle.base_kinds.specs.Tree.{set_rows}
-use Rattle.history_laws.specs.Rising.{IsRising}
+use Rattle.base_kinds.specs.Rising.{IsRising}
 use Rattle.plain_tree.proofs.rows.put_rows.Given as goal
 
 -- setting the rows that are left gives what setting all of them gives

@@ -1,5 +1,5 @@
 use Rattle.std.proofs.Common.{◌≡◌, drop}
-use Rattle.history_laws.specs.Rising.{value_at}
+use Rattle.base_kinds.specs.Rising.{value_at}
 use Rattle.set_txn.proofs.merging.value_at.Given as goal
 
 -- no row so far has the path

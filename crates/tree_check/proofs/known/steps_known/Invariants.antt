@@ -2,7 +2,8 @@ use Rattle.std.proofs.Common.{◌≡◌, ◌<◌, take, drop, length}
 use Rattle.std.specs.List.{list_all}
 use Rattle.std.specs.Option.{ForSome}
 use Rattle.base_kinds.specs.Schema.{names_of}
-use Rattle.base_kinds.specs.Valid.{path_steps, path_steps_from, step_has_node}
+use Rattle.base_kinds.specs.Valid.{step_has_node}
+use Rattle.base_kinds.specs.Ancestors.{path_steps, path_steps_from}
 use Rattle.schema_core.specs.Nodes.{names_above}
 use Rattle.tree_check.proofs.known.steps_known.Given as goal
 

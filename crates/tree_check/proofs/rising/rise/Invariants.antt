@@ -1,6 +1,6 @@
 use Rattle.std.proofs.Common.{◌≡◌, length}
 use Rattle.base_kinds.specs.Legal.{rises}
-use Rattle.history_laws.specs.Rising.{row_cmp}
+use Rattle.base_kinds.specs.Rising.{row_cmp}
 use Rattle.tree_check.proofs.rising.rise.Given as goal
 
 abbrev pub invariant-loop-row : goal.invariant-loop-row

@@ -1,6 +1,7 @@
 use Rattle.std.proofs.Common.{◌≡◌, take, drop}
 use Rattle.std.specs.List.{list_all}
-use Rattle.base_kinds.specs.Valid.{path_steps_from, has_key_leaf}
+use Rattle.base_kinds.specs.Valid.{has_key_leaf}
+use Rattle.base_kinds.specs.Ancestors.{path_steps_from}
 use Rattle.tree_constraints.proofs.keyed.keyed_from.Given as goal
 
 abbrev pub invariant-loop-n : goal.invariant-loop-n

@@ -2,7 +2,8 @@ use Rattle.std.proofs.Common.{◌≡◌, List, take, true}
 use Rattle.std.specs.List.{list_all}
 use Rattle.base_kinds.specs.declared.path.Elem.{Elem}
 use Rattle.base_kinds.specs.declared.operation.Row.{Row}
-use Rattle.base_kinds.specs.Valid.{path_steps, has_key_leaf, row_has_keys}
+use Rattle.base_kinds.specs.Valid.{has_key_leaf, row_has_keys}
+use Rattle.base_kinds.specs.Ancestors.{path_steps}
 use Rattle.tree_constraints.proofs.keyed.keys_hold.Given as goal
 
 -- the rows so far are keyed, and so is the last path of them

@@ -1,7 +1,8 @@
 use Rattle.std.proofs.Common.{◌≡◌, Bool, List, IfOk, ap, ◌∙◌, subst}
 use Rattle.std.specs.List.{list_all}
 use Rattle.base_kinds.specs.declared.path.Elem.{Elem}
-use Rattle.base_kinds.specs.Valid.{path_steps, has_key_leaf}
+use Rattle.base_kinds.specs.Valid.{has_key_leaf}
+use Rattle.base_kinds.specs.Ancestors.{path_steps}
 use Rattle.tree_constraints.proofs.Fronts.{steps_seen}
 use Rattle.tree_constraints.proofs.keyed.row_has_keys.Goals as goal
 

@@ -1,7 +1,7 @@
 use Rattle.std.proofs.Common.{rules, ◌≡◌}
 use Rattle.std.proofs.lemmas.Fn.{always_returns_same}
 use Rattle.base_kinds.specs.Paths.{path_cmp}
-use Rattle.base_kinds.specs.Valid.{child}
+use Rattle.base_kinds.specs.Ancestors.{child}
 use Rattle.tree_constraints.proofs.Leaves.{found_there, found_nowhere_else}
 use Rattle.tree_constraints.proofs.leaf.find_leaf.Goals as goal
 

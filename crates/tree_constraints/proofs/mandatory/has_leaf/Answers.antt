@@ -1,5 +1,5 @@
 use Rattle.std.proofs.Common.{is_some, ap, ◌∙◌}
-use Rattle.base_kinds.specs.Valid.{child}
+use Rattle.base_kinds.specs.Ancestors.{child}
 use Rattle.tree_constraints.proofs.Leaves.{has_found, copied_some}
 use Rattle.tree_constraints.proofs.mandatory.has_leaf.Goals as goal
 

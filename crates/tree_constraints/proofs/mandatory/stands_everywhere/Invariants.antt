@@ -2,7 +2,8 @@ use Rattle.std.proofs.Common.{◌≡◌, ℕ, List, take, true}
 use Rattle.std.specs.List.{list_all}
 use Rattle.base_kinds.specs.declared.path.Elem.{Elem}
 use Rattle.base_kinds.specs.declared.operation.Row.{Row}
-use Rattle.base_kinds.specs.Valid.{ancestors, stands_below}
+use Rattle.base_kinds.specs.Valid.{stands_below}
+use Rattle.base_kinds.specs.Ancestors.{ancestors}
 use Rattle.tree_constraints.proofs.mandatory.stands_everywhere.Given as goal
 
 -- the leaf stands for the rows so far, and for the last path of them

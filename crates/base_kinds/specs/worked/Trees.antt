@@ -9,57 +9,13 @@ use Rattle.base_kinds.specs.declared.schema.Shape.{Shape}
 use Rattle.base_kinds.specs.declared.schema.Shape.TheVariants as shapes
 use Rattle.base_kinds.specs.declared.schema.Sort.{Sort}
 use Rattle.base_kinds.specs.declared.schema.Sort.TheVariants as sorts
-use Rattle.base_kinds.specs.Examples.{plain, hostname, text_row, hostname_entry, hostname_tree}
+use Rattle.base_kinds.specs.worked.Samples.{plain, hostname, text_row, hostname_entry, hostname_tree, bare_node, system_schema, port_schema, port, name_row, speed_row, port_rows, via_row}
 use Rattle.base_kinds.specs.Schema.{SchemaNode}
 use Rattle.base_kinds.specs.Values.{has_shape}
 use Rattle.base_kinds.specs.Valid.{valid, fits}
 use Rattle.base_kinds.specs.Weights.{row_weight, tree_weight}
 use Rattle.base_kinds.specs.Records.{record_octets}
 use Rattle.base_kinds.specs.Rules.{size_of}
-
-abbrev pub default_limits : Limits
-default_limits = record { entries = 65536; octets = 268435456 }
-
--- a node without keys or marks
-abbrev pub bare_node : List (List ℕ) → Sort → Option Shape → SchemaNode
-bare_node names sort shape = record { names = names; sort = sort; shape = shape; keys = []; module_name = codes "m"; is_mandatory = false; reference = None; maximum = None }
-
-abbrev pub system_names : List (List ℕ)
-system_names = codes "system" ∷ codes "config" ∷ []
-
--- `/system/config` with two leaves of texts
-abbrev pub system_schema : List SchemaNode
-system_schema =
-    bare_node (codes "system" ∷ []) sorts.Container None
-    ∷ bare_node (codes "system" ∷ codes "config" ∷ []) sorts.Container None
-    ∷ bare_node (codes "system" ∷ codes "config" ∷ codes "hostname" ∷ []) sorts.Leaf (Some shapes.Text)
-    ∷ bare_node (codes "system" ∷ codes "config" ∷ codes "motd" ∷ []) sorts.Leaf (Some shapes.Text)
-    ∷ []
-
--- A list of at most two interfaces with a mandatory leaf, a leaf that refers to their names, and a leaf-list of at most two.
-abbrev pub port_schema : List SchemaNode
-port_schema =
-    record (bare_node (codes "port" ∷ []) sorts.List None) { keys = codes "name" ∷ []; maximum = Some 2 }
-    ∷ bare_node (codes "port" ∷ codes "name" ∷ []) sorts.Leaf (Some shapes.Text)
-    ∷ record (bare_node (codes "port" ∷ codes "speed" ∷ []) sorts.Leaf (Some (shapes.Uint 8))) { is_mandatory = true }
-    ∷ record (bare_node (codes "via" ∷ []) sorts.Leaf (Some shapes.Text)) { reference = Some (codes "port" ∷ codes "name" ∷ []) }
-    ∷ record (bare_node (codes "tags" ∷ []) sorts.LeafList (Some shapes.Text)) { maximum = Some 2 }
-    ∷ []
-
-abbrev pub port : List ℕ → Elem
-port name = record { name = codes "port"; keys = (codes "name", name) ∷ [] }
-
-abbrev pub name_row : List ℕ → Row
-name_row name = record { path = port name ∷ plain (codes "name") ∷ []; value = values.Text name }
-
-abbrev pub speed_row : List ℕ → Value → Row
-speed_row name speed = record { path = port name ∷ plain (codes "speed") ∷ []; value = speed }
-
-abbrev pub port_rows : List ℕ → List Row
-port_rows name = name_row name ∷ speed_row name (values.Uint 10) ∷ []
-
-abbrev pub via_row : List ℕ → Row
-via_row name = text_row (plain (codes "via") ∷ []) name
 
 -- no rows are valid, and so are two ports and a reference to one of them
 no_rows_are_valid : valid port_schema [] ≡ true

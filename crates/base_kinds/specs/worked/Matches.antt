@@ -2,7 +2,7 @@
 use Rattle.std.specs.Prelude.{◌≡◌, ℕ, List, [], ◌∷◌, true, false, not, codes, refl}
 use Rattle.std.specs.List.{list_all}
 use Rattle.base_kinds.specs.declared.path.Elem.{Elem}
-use Rattle.base_kinds.specs.Examples.{plain}
+use Rattle.base_kinds.specs.worked.Samples.{plain}
 use Rattle.base_kinds.specs.Match.{matches, covers}
 
 abbrev a : Elem

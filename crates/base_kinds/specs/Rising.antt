@@ -1,7 +1,6 @@
 -- The rows of a tree rise by path, and have at most one value at each path.
-use Rattle.std.specs.Prelude.{List, [], ◌∷◌, Bool, Option, Some, None, if◌then◌else◌}
+use Rattle.std.specs.Prelude.{List, [], ◌∷◌, Option, Some, None, if◌then◌else◌}
 use Rattle.std.specs.List.Sorted.{IsStrictlySortedBy}
-use Rattle.std.specs.Ordering.{is_eq}
 use Rattle.std.specs.declared.cmp.Ordering.{Ordering}
 use Rattle.base_kinds.specs.declared.path.Elem.{Elem}
 use Rattle.base_kinds.specs.declared.value.Value.{Value}
@@ -9,7 +8,7 @@ use Rattle.base_kinds.specs.declared.operation.Row.{Row}
 use Rattle.base_kinds.specs.declared.operation.Op.{Op}
 use Rattle.base_kinds.specs.declared.operation.Act.{Act}
 use Rattle.base_kinds.specs.declared.operation.Act.TheVariants.{Delete, Replace, Update}
-use Rattle.base_kinds.specs.Paths.{path_cmp}
+use Rattle.base_kinds.specs.Paths.{path_cmp, same_path}
 use Rattle.base_kinds.specs.Match.{covers}
 
 abbrev pub row_cmp : Row → Row → Ordering
@@ -19,19 +18,15 @@ row_cmp a b = path_cmp a.path b.path
 abbrev pub IsRising : List Row → Type 0
 IsRising = IsStrictlySortedBy row_cmp
 
--- the paths are equal
-abbrev pub is_path : List Elem → List Elem → Bool
-is_path a b = is_eq (path_cmp a b)
-
 -- the value of the first row that has the path
 abbrev pub value_at : List Elem → List Row → Option Value
 value_at path [] = None
-value_at path (row ∷ rows) = if is_path row.path path then Some row.value else value_at path rows
+value_at path (row ∷ rows) = if same_path row.path path then Some row.value else value_at path rows
 
 -- the value of the last of these rows that has the path, or else this one
 abbrev pub last_value : List Elem → List Row → Option Value → Option Value
 last_value path [] old = old
-last_value path (row ∷ rows) old = last_value path rows (if is_path row.path path then Some row.value else old)
+last_value path (row ∷ rows) old = last_value path rows (if same_path row.path path then Some row.value else old)
 
 -- what an operation leaves at a path where this stood
 abbrev pub value_after : Act → Op → List Elem → Option Value → Option Value

@@ -1,4 +1,4 @@
--- The room that a log keeps, so that an open trial can always be closed.
+-- The room that a log keeps, so that an open trial can always be closed (this project's own rule).
 use Rattle.std.specs.Prelude.{ℕ, ◌+◌, ◌≤◌, List, length, Option, Some, None}
 use Rattle.base_kinds.specs.declared.entry.Entry.{Entry}
 use Rattle.base_kinds.specs.declared.entry.Kind.{Kind}
@@ -6,6 +6,7 @@ use Rattle.base_kinds.specs.declared.entry.Kind.TheVariants as kinds
 use Rattle.base_kinds.specs.declared.entry.Ask.{Ask}
 use Rattle.base_kinds.specs.declared.entry.Ask.TheVariants as asks
 use Rattle.base_kinds.specs.declared.entry.Limits.{Limits}
+use Rattle.base_kinds.specs.Limits.{gate_octets, closing_octets}
 use Rattle.base_kinds.specs.History.{OpenTrial}
 use Rattle.base_kinds.specs.Rules.{size_of}
 
@@ -26,16 +27,16 @@ IsClosing kinds.Expire = Unit {0}
 IsClosing kinds.Restart = Unit {0}
 IsClosing _ = ⊥
 
--- while a trial is open there is room for the entry that closes it: 13 octets of its record, and the one in front
+-- while a trial is open there is room for the entry that closes it
 abbrev pub CanClose : Limits → List Entry → Option OpenTrial → Type 0
 CanClose limits h None = IsWithin limits h
-CanClose limits h (Some trial) = HasRoom limits h 1 14
+CanClose limits h (Some trial) = HasRoom limits h 1 closing_octets
 
 -- the room that an ask needs whose entry's record has so many octets
 abbrev pub HasRoomFor : Limits → List Entry → ℕ → Ask → Type 0
-HasRoomFor limits h octets (asks.Apply ops) = HasRoom limits h 1 (octets + 1)
-HasRoomFor limits h octets (asks.Trial id ops duration) = HasRoom limits h 2 (octets + 15)
-HasRoomFor limits h octets (asks.Extend id duration) = HasRoom limits h 2 (octets + 15)
+HasRoomFor limits h octets (asks.Apply ops) = HasRoom limits h 1 (octets + gate_octets)
+HasRoomFor limits h octets (asks.Trial id ops duration) = HasRoom limits h 2 (octets + (gate_octets + closing_octets))
+HasRoomFor limits h octets (asks.Extend id duration) = HasRoom limits h 2 (octets + (gate_octets + closing_octets))
 HasRoomFor limits h octets (asks.Confirm id) = Unit {0}
 HasRoomFor limits h octets (asks.Cancel id) = Unit {0}
 

@@ -1,0 +1,5 @@
+pub mod Matches
+pub mod Samples
+pub mod Steps
+pub mod Texts
+pub mod Trees
