@@ -1,8 +1,7 @@
 -- Which asks are fit to be judged, and which histories can come about. Both are this project's own.
 use Rattle.std.specs.Prelude.{◌≡◌, ◌⊎◌, ℕ, ◌≤◌, List, [], ◌∷◌, ◌++◌, Bool, true, false, ◌&&◌, nat_le, length, IsTrue, Ok}
 use Rattle.std.specs.List.{list_all}
-use Rattle.std.specs.Ordering.{is_lt}
-use Rattle.std.specs.declared.cmp.Ordering.{Ordering}
+use Rattle.base_lists.specs.Rising.{rises}
 use Rattle.base_kinds.specs.declared.path.Elem.{Elem}
 use Rattle.base_kinds.specs.declared.value.Value.{Value}
 use Rattle.base_kinds.specs.declared.value.Value as v
@@ -18,12 +17,6 @@ use Rattle.base_kinds.specs.Limits.{most_elements, most_keys, most_id_octets, mo
 use Rattle.base_kinds.specs.Paths.{text_cmp, path_cmp}
 use Rattle.base_kinds.specs.Values.{row_values}
 use Rattle.base_kinds.specs.Step.{Rules, is_due, next_entry, new_stamp, judge}
-
--- each of the items is above the one before it
-abbrev pub rises : {A : Type 0} → (A → A → Ordering) → List A → Bool
-rises cmp [] = true
-rises cmp (item ∷ []) = true
-rises cmp (item ∷ other ∷ others) = is_lt (cmp item other) && rises cmp (other ∷ others)
 
 -- keys rise by name, and there aren't too many
 abbrev pub is_fit_elem : Elem → Bool

@@ -1,6 +1,6 @@
 -- Which trees are valid under a schema, by six rules (RFC 7950 7.6.5, 7.7.6, 7.8.2, 9.9, narrowed to this project's
 -- profile), and which are small enough.
-use Rattle.std.specs.Prelude.{ℕ, List, [], ◌∷◌, ◌++◌, Bool, true, false, not, ◌&&◌, ◌||◌, ◌==◌, nat_le, length, filter, Option, Some, None, IsTrue, if◌then◌else◌}
+use Rattle.std.specs.Prelude.{ℕ, List, [], ◌∷◌, Bool, true, false, not, ◌&&◌, ◌||◌, ◌==◌, nat_le, length, filter, Option, Some, None, IsTrue, if◌then◌else◌}
 use Rattle.std.specs.List.{list_any, list_all, flat_map}
 use Rattle.std.specs.Str.{bytes_eq}
 use Rattle.base_kinds.specs.declared.path.Elem.{Elem}

@@ -22,7 +22,7 @@ mod tests;
 mod tree;
 mod value;
 
-pub use base_lists::{Bytes, Copied, NoMemory, Same, Seq, Text, TextOfFault, Texts};
+pub use base_lists::{Bytes, Copied, NoMemory, Ranked, Same, Seq, Text, TextOfFault, Texts, rises};
 pub use entry::{Ask, Entries, Entry, Kind, Limits, View, default_limits};
 pub use examples::{first_set_is_entry_one, validity_is_six_rules};
 pub use fill::Fill;

@@ -1,6 +1,9 @@
+ghost use Rattle.std.specs.Prelude.{◌≡◌};
+ghost use Rattle.base_kinds.specs.Tree.{is_act};
+
 use crate::path::Path;
 use crate::value::Value;
-use base_lists::{Copied, NoMemory, Same, Seq};
+use base_lists::{Copied, NoMemory, Ranked, Same, Seq};
 use std::alloc::Global;
 
 /// A leaf or a leaf-list of a tree: its path, with all keys, and its value.
@@ -50,5 +53,29 @@ impl Copied for Op {
         let path = self.path.copy(alloc)?;
         let rows = self.rows.copy(alloc)?;
         Ok(Op { act, path, rows })
+    }
+}
+
+/// A row has the rank of its path.
+impl Ranked for Row {
+    ghost use Rattle.base_kinds.specs.Rising.{row_cmp};
+
+    ghost rank = { row_cmp };
+
+    fn is_below(&self, other: &Row) -> bool {
+        self.path.cmp(&other.path).is_lt()
+    }
+}
+
+impl Act {
+    /// Whether it is this act.
+    pub fn is_act(self, act: Act) -> bool
+        ensures { result ≡ is_act act self }
+    {
+        match act {
+            Act::Delete => matches!(self, Act::Delete),
+            Act::Replace => matches!(self, Act::Replace),
+            Act::Update => matches!(self, Act::Update),
+        }
     }
 }

@@ -1,5 +1,5 @@
 -- Confirm and Cancel: taken for the open trial's id, and refused for want of a trial or for another id alone.
-use Rattle.std.proofs.Common.{◌≡◌, ℕ, List, [], ◌∷◌, Bool, true, false, not, Option, Some, None, Result, Ok, Err, refl, sym, ap, ◌∙◌, inl, inr, ◌⊎◌, is_ok, true≢false, if◌then◌else◌}
+use Rattle.std.proofs.Common.{◌≡◌, ℕ, List, [], ◌∷◌, Bool, true, false, not, Option, Some, None, Result, Ok, Err, refl, ap, ◌∙◌, inl, inr, ◌⊎◌, is_ok, true≢false, if◌then◌else◌}
 use Rattle.std.specs.Str.{bytes_eq}
 use Rattle.base_kinds.specs.declared.entry.Entry.{Entry}
 use Rattle.base_kinds.specs.declared.entry.Ask.{Ask}

@@ -12,7 +12,7 @@ use Rattle.base_kinds.specs.declared.refusal.Refusal.TheVariants.{NoMemory}
 use Rattle.base_kinds.specs.History.{IsNumberedFrom, IsHistory, world_of, last_stamp, stamp_of}
 use Rattle.base_kinds.specs.Step.{Rules, new_stamp, next_entry, is_due, after_expiry, kind_of_ask, refusal_cases, first_refusal, judge_at, judge, step, with_answer}
 use Rattle.base_kinds.specs.Bases.{IsBounded, AreBounded}
-use Rattle.base_kinds.specs.Events.{Request, Set, Get, Event, is_long, history_after_set, history_after_get, history_after_request, history_after, history_after_all}
+use Rattle.base_kinds.specs.Events.{Request, Set, Get, Event, is_long, history_after_set, history_after_request, history_after, history_after_all}
 use Rattle.base_kinds.specs.Limits.{latest_reading}
 use Rattle.history_laws.specs.StepLaws.{is_refusal_of_judge}
 use Rattle.history_laws.proofs.States.{history_after_one}

@@ -12,7 +12,7 @@ use Rattle.base_kinds.specs.declared.operation.Row.{Row}
 use Rattle.base_kinds.specs.Paths.{path_cmp}
 use Rattle.base_kinds.specs.Tree.{set_row, set_rows, placed, uncovered}
 use Rattle.base_kinds.specs.Match.{covers}
-use Rattle.base_kinds.specs.Legal.{rises}
+use Rattle.base_lists.specs.Rising.{rises}
 use Rattle.base_kinds.specs.Rising.{row_cmp, IsRising}
 use Rattle.history_laws.proofs.PathOrder.{path_total, exact_paths}
 

@@ -1,13 +1,11 @@
 -- The trees of histories under a schema are valid and small enough.
-use Rattle.std.proofs.Common.{◌≡◌, ℕ, ◌+◌, List, [], ◌∷◌, ◌++◌, Bool, true, false, not, ◌&&◌, ◌||◌, Option, Some, None, Ok, refl, sym, ap, subst, inl, inr}
-use Rattle.std.specs.List.{list_all}
+use Rattle.std.proofs.Common.{◌≡◌, ℕ, ◌+◌, List, [], ◌∷◌, ◌++◌, true, false, not, ◌&&◌, Option, Some, None, Ok, refl, sym, subst, inl, inr}
 use Rattle.std.proofs.lemmas.Bool.{not-false, and_from}
 use Rattle.std.proofs.Math.Bool.{or-true}
 use Rattle.std.proofs.lemmas.List.Elements.{All-nil}
 use Rattle.base_kinds.specs.declared.operation.Row.{Row}
 use Rattle.base_kinds.specs.declared.operation.Op.{Op}
 use Rattle.base_kinds.specs.declared.entry.Entry.{Entry}
-use Rattle.base_kinds.specs.declared.entry.Kind.{Kind}
 use Rattle.base_kinds.specs.declared.entry.Kind.TheVariants as kinds
 use Rattle.base_kinds.specs.declared.entry.Ask.{Ask}
 use Rattle.base_kinds.specs.declared.entry.Ask.TheVariants as asks
@@ -15,18 +13,18 @@ use Rattle.base_kinds.specs.declared.entry.Limits.{Limits}
 use Rattle.base_kinds.specs.declared.schema.Sort.{Sort}
 use Rattle.base_kinds.specs.declared.schema.Sort.TheVariants as sorts
 use Rattle.base_kinds.specs.Bases.{IsBounded, AreBounded, IsAhead, IsSound, IsSoundBefore, HasSoundTrees, IsBase}
-use Rattle.base_kinds.specs.History.{World, OpenTrial, IsHistory, world_after, world_of, stamp_of}
+use Rattle.base_kinds.specs.History.{OpenTrial, IsHistory, world_after, world_of, stamp_of}
 use Rattle.base_kinds.specs.Legal.{Gives, IsLegal}
 use Rattle.base_kinds.specs.Limits.{AreInRange}
 use Rattle.base_kinds.specs.Room.{IsWithin, CanClose}
 use Rattle.base_kinds.specs.Rules.{rules_of}
 use Rattle.base_kinds.specs.Schema.{SchemaNode}
-use Rattle.base_kinds.specs.Step.{new_stamp, next_entry, kind_of_ask, refusal_cases, judge}
+use Rattle.base_kinds.specs.Step.{new_stamp, kind_of_ask, judge}
 use Rattle.base_kinds.specs.Tree.{effect}
 use Rattle.base_kinds.specs.Valid.{unless_none, is_in_maximum, valid, fits, node_is_present, node_in_maximum, mandatory_present, max_elements_hold}
 use Rattle.history_laws.specs.SoundLaws.{AsksOperations}
 use Rattle.history_laws.proofs.States.{world_after_one}
-use Rattle.history_laws.proofs.Judged.{NoneHolds, asked, accepted, accepted_is_next}
+use Rattle.history_laws.proofs.Judged.{asked, accepted, accepted_is_next}
 use Rattle.history_laws.proofs.Given.{kept_by_legal, legal_is_history, legal_is_bounded, legal_is_ahead}
 use Rattle.history_laws.proofs.RoomKept.{new_log_has_room, legal_keeps_room}
 

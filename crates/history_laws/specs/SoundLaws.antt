@@ -12,7 +12,6 @@ use Rattle.base_kinds.specs.Rules.{rules_of}
 use Rattle.base_kinds.specs.Schema.{SchemaNode}
 use Rattle.base_kinds.specs.Step.{judge}
 use Rattle.base_kinds.specs.Tree.{effect}
-use Rattle.base_kinds.specs.Valid.{valid}
 
 -- the ask is of these operations, as a plain Set or as a trial
 abbrev pub AsksOperations : List Op → Ask → Type 0

@@ -7,7 +7,7 @@ use Rattle.base_kinds.specs.declared.operation.Op.{Op}
 use Rattle.base_kinds.specs.Match.{covers}
 use Rattle.base_kinds.specs.declared.operation.Act.TheVariants.{Delete, Replace, Update}
 use Rattle.base_kinds.specs.Tree.{set_row, set_rows, uncovered, op_effect, with_act, effect}
-use Rattle.base_kinds.specs.Legal.{rises}
+use Rattle.base_lists.specs.Rising.{rises}
 use Rattle.base_kinds.specs.Rising.{row_cmp, IsRising, value_at, last_value, value_after, values_after}
 
 -- setting a row keeps the rows rising

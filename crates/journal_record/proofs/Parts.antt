@@ -14,7 +14,8 @@ use Rattle.base_kinds.specs.declared.value.Value.{Value}
 use Rattle.base_kinds.specs.declared.value.Value as v
 use Rattle.base_kinds.specs.declared.value.Value.TheVariants as values
 use Rattle.base_kinds.specs.Paths.{text_cmp}
-use Rattle.base_kinds.specs.Legal.{rises, is_fit_elem, is_fit_path, is_fit_scalar}
+use Rattle.base_kinds.specs.Legal.{is_fit_elem, is_fit_path, is_fit_scalar}
+use Rattle.base_lists.specs.Rising.{rises}
 use Rattle.journal_record.specs.Spelling.{text_spelling, key_spelling, keys_spelling, elem_spelling, path_spelling, value_spelling, bool_octet}
 use Rattle.journal_record.specs.Kept.{IsKeptText, AreOctets, IsKeptKey, IsKeptElem, IsKeptPath, IsKeptValue}
 use Rattle.journal_record.specs.Reading.{◌>>=◌, number_at, octets_at, text_at, many_at, listed_at, key_at, keys_at, elem_at, path_at, bool_at, places_at, dec_at, int_at, uint_at, text_value_at, bin_at, enum_at, scalar_at, item_at, value_at}

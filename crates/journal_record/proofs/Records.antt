@@ -19,7 +19,8 @@ use Rattle.base_kinds.specs.declared.value.Value.TheViews.{roll-Value, out-Value
 use Rattle.base_kinds.specs.declared.value.Value.TheVariants as values
 use Rattle.base_kinds.specs.Paths.{path_cmp}
 use Rattle.base_kinds.specs.Values.{row_values, values_in, is_list}
-use Rattle.base_kinds.specs.Legal.{rises, has_fit_rows, is_fit_path, is_fit_scalar, is_fit_value, is_fit_row, is_fit_op, AreFitOps}
+use Rattle.base_kinds.specs.Legal.{has_fit_rows, is_fit_path, is_fit_scalar, is_fit_value, is_fit_row, is_fit_op, AreFitOps}
+use Rattle.base_lists.specs.Rising.{rises}
 use Rattle.base_kinds.proofs.Lists.{values_in-List, value_octets-List}
 use Rattle.journal_record.specs.Spelling.{text_spelling, path_spelling, value_spelling, inner_values, row_spelling, rows_spelling, act_octet, op_spelling, ops_spelling, kind_spelling, record_of, ops_of}
 use Rattle.journal_record.specs.Kept.{IsKeptValue, AreKeptValues, IsKeptRow, IsKeptOp, AreKeptOps, IsKeptKind, IsKept}

@@ -3,7 +3,7 @@ use Rattle.std.proofs.Common.{◌≡◌, ℕ, suc, ◌+◌, ◌-◌, ◌<◌, �
 use Rattle.std.specs.declared.cmp.Ordering.{Ordering}
 use Rattle.std.specs.Ordering.{is_lt}
 use Rattle.std.proofs.lemmas.List.{length-drop}
-use Rattle.base_kinds.specs.Legal.{rises}
+use Rattle.base_lists.specs.Rising.{rises}
 
 two_first : {A : Type 0} (cmp : A → A → Ordering) (xs : List A) (k : ℕ) (a b : A) → a ≡ get_or xs k a → b ≡ get_or xs (suc k) b → suc k < length xs → rises cmp (drop k xs) ≡ (is_lt (cmp a b) && rises cmp (drop (suc k) xs))
 two_first {A} cmp xs k a b is_a is_b lt =

@@ -14,7 +14,8 @@ use Rattle.base_kinds.specs.declared.entry.Kind.TheVariants as kinds
 use Rattle.base_kinds.specs.declared.value.Value.{Value}
 use Rattle.base_kinds.specs.declared.value.Value.TheVariants as values
 use Rattle.base_kinds.specs.Paths.{text_cmp, path_cmp}
-use Rattle.base_kinds.specs.Legal.{rises, has_fit_rows}
+use Rattle.base_kinds.specs.Legal.{has_fit_rows}
+use Rattle.base_lists.specs.Rising.{rises}
 use Rattle.journal_record.specs.declared.fault.RecordFault.{RecordFault}
 use Rattle.journal_record.specs.declared.fault.RecordFault.TheVariants as faults
 

@@ -1,7 +1,8 @@
 // Reading rows and operations.
 ghost use Rattle.std.specs.Prelude.{◌≡◌};
 ghost use Rattle.base_kinds.specs.Paths.{path_cmp};
-ghost use Rattle.base_kinds.specs.Legal.{rises, has_fit_rows, is_empty};
+ghost use Rattle.base_kinds.specs.Legal.{has_fit_rows, is_empty};
+ghost use Rattle.base_lists.specs.Rising.{rises};
 ghost use Rattle.journal_record.specs.Reading.{Gives, act_at, rows_at, op_parts_at, ops_at};
 
 use crate::fault::RecordFault;

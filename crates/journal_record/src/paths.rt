@@ -2,7 +2,7 @@
 ghost use Rattle.std.specs.Prelude.{◌≡◌, ◌↔◌, IsTrue, Some, None, if◌then◌else◌};
 ghost use Rattle.std.specs.Str.{is_utf8};
 ghost use Rattle.base_kinds.specs.Paths.{text_cmp};
-ghost use Rattle.base_kinds.specs.Legal.{rises};
+ghost use Rattle.base_lists.specs.Rising.{rises};
 ghost use Rattle.journal_record.specs.Reading.{Gives, octets_at, text_at, key_at, keys_at, elem_at, path_at};
 
 use crate::fault::RecordFault;

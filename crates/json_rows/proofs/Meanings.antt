@@ -1,7 +1,7 @@
 -- What a value means at a path is one list of rows or one fault.
 use Rattle.std.proofs.Common.{◌≡◌, ◌⊎◌, inl, inr, List, [], Ok, Err, Some, refl, ap, IsTrue, subst}
 use Rattle.base_kinds.specs.declared.operation.Row.{Row}
-use Rattle.base_kinds.specs.Legal.{rises}
+use Rattle.base_lists.specs.Rising.{rises}
 use Rattle.base_kinds.specs.Tree.{set_rows}
 use Rattle.base_kinds.specs.Rising.{row_cmp}
 use Rattle.history_laws.proofs.Setting.{rising_sets, test_says_rising}

@@ -17,7 +17,7 @@ use Rattle.base_kinds.specs.declared.operation.Row.{Row}
 use Rattle.base_kinds.specs.declared.value.Value.{Value}
 use Rattle.base_kinds.specs.Paths.{path_cmp, same_path}
 use Rattle.base_kinds.specs.Tree.{set_rows}
-use Rattle.base_kinds.specs.Legal.{rises}
+use Rattle.base_lists.specs.Rising.{rises}
 use Rattle.base_kinds.specs.Rising.{IsRising, value_at, last_value, row_cmp}
 use Rattle.history_laws.proofs.Values.{paths_equal, own_path, value_at_sets, values_decide}
 use Rattle.history_laws.proofs.Setting.{rising_sets, test_says_rising, turned}

@@ -1,7 +1,7 @@
 // The rows that a JSON text means.
 ghost use Rattle.std.specs.Prelude.{◌≡◌, ◌≢◌, ◌-◌, [], Ok, Err, Some, None, length, take, slice_get, IfOk, IfErr, IfSome, ◌<◌, IsTrue};
 ghost use Rattle.std.specs.Option.{option_map};
-ghost use Rattle.base_kinds.specs.Legal.{rises};
+ghost use Rattle.base_lists.specs.Rising.{rises};
 ghost use Rattle.base_kinds.specs.Paths.{path_cmp};
 ghost use Rattle.base_kinds.specs.Schema.{names_of};
 ghost use Rattle.schema_core.specs.Nodes.{names_at};

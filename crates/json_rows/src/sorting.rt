@@ -2,7 +2,7 @@
 ghost use Rattle.std.specs.Prelude.{◌≡◌, [], IsTrue, IfOk, IsPermutation, IsSortedByKey};
 ghost use Rattle.std.specs.Ordering.{is_lt};
 ghost use Rattle.std.specs.List.{IsDistinct};
-ghost use Rattle.base_kinds.specs.Legal.{rises};
+ghost use Rattle.base_lists.specs.Rising.{rises};
 ghost use Rattle.base_kinds.specs.Paths.{path_cmp, same_path};
 ghost use Rattle.base_kinds.specs.Tree.{set_rows};
 

@@ -24,7 +24,8 @@ use Rattle.base_kinds.specs.declared.schema.Sort.TheVariants as sorts
 use Rattle.schema_core.specs.Nodes.{is_inner}
 use Rattle.schema_core.specs.WellFormed.{texts_differ, IsWellFormed}
 use Rattle.schema_core.proofs.WellFormedLemmas.{formed_node, no_root}
-use Rattle.base_kinds.specs.Legal.{rises, is_fit_elem, is_fit_path, is_fit_value, is_fit_row}
+use Rattle.base_kinds.specs.Legal.{is_fit_elem, is_fit_path, is_fit_value, is_fit_row}
+use Rattle.base_lists.specs.Rising.{rises}
 use Rattle.history_laws.proofs.PathOrder.{key_total}
 use Rattle.history_laws.proofs.Values.{paths_equal as is_path_same}
 use Rattle.base_kinds.specs.Rising.{row_cmp}

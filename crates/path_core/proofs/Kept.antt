@@ -2,7 +2,7 @@
 use Rattle.std.proofs.Common.{◌≡◌, ℕ, ◌++◌, ◌<◌, ◌≤◌, List, length, IsTrue}
 use Rattle.std.specs.List.{AllByRecursion, flat_map}
 use Rattle.base_kinds.specs.declared.path.Elem.{Elem}
-use Rattle.base_kinds.specs.Legal.{rises}
+use Rattle.base_lists.specs.Rising.{rises}
 use Rattle.base_kinds.specs.Texts.{escaped, key_part, elem_text}
 use Rattle.path_core.specs.declared.octets.Part.{Part}
 use Rattle.path_core.specs.PathText.{name_cmp, IsKey, AreElems}

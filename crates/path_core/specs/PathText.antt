@@ -5,7 +5,7 @@ use Rattle.std.specs.Prelude.{◌≡◌, ◌≢◌, ℕ, List, [], IsTrue, IsUtf
 use Rattle.std.specs.List.{AllByRecursion}
 use Rattle.std.specs.declared.cmp.Ordering.{Ordering}
 use Rattle.base_kinds.specs.declared.path.Elem.{Elem}
-use Rattle.base_kinds.specs.Legal.{rises}
+use Rattle.base_lists.specs.Rising.{rises}
 use Rattle.base_kinds.specs.Paths.{text_cmp}
 use Rattle.base_kinds.specs.Texts.{is_key_octet, escaped, path_text}
 

@@ -4,7 +4,7 @@ use Rattle.std.specs.declared.cmp.Ordering.{Ordering}
 use Rattle.std.specs.Ordering.{is_lt}
 use Rattle.std.specs.List.{AllByRecursion, flat_map}
 use Rattle.base_kinds.specs.declared.path.Elem.{Elem}
-use Rattle.base_kinds.specs.Legal.{rises}
+use Rattle.base_lists.specs.Rising.{rises}
 use Rattle.base_kinds.specs.Texts.{is_name_octet, is_key_octet, hex_digit, octet_text, escaped, key_part, elem_text}
 use Rattle.path_core.specs.declared.octets.Part.{Part}
 use Rattle.path_core.specs.declared.octets.Part.TheVariants.{Name, Value}

@@ -1,6 +1,6 @@
 -- The names of a node that end in a name.
 use Rattle.std.proofs.Common.{◌≡◌, ℕ, List, [], ◌∷◌, ◌++◌, refl, ap, ◌∙◌}
-use Rattle.base_kinds.specs.Valid.{parent_names, own_name}
+use Rattle.base_kinds.specs.Ancestors.{parent_names, own_name}
 
 pub parent_of_end : (names front : List (List ℕ)) (name : List ℕ) → names ≡ front ++ name ∷ [] → parent_names names ≡ front
 parent_of_end names front name is = ap parent_names is ∙ last front name

@@ -3,7 +3,8 @@ ghost use Rattle.std.specs.Prelude.{◌≡◌};
 ghost use Rattle.std.specs.List.{list_any, list_all};
 ghost use Rattle.std.specs.Str.{bytes_eq};
 ghost use Rattle.base_kinds.specs.Schema.{names_of, same_names};
-ghost use Rattle.base_kinds.specs.Valid.{has_just_keys, own_name, parent_names};
+ghost use Rattle.base_kinds.specs.Valid.{has_just_keys};
+ghost use Rattle.base_kinds.specs.Ancestors.{own_name, parent_names};
 
 use base_kinds::Elem;
 use base_lists::Text;

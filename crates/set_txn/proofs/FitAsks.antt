@@ -16,7 +16,8 @@ use Rattle.base_kinds.specs.declared.request.Span.{Span}
 use Rattle.base_kinds.specs.declared.request.Span.TheVariants as spans
 use Rattle.base_kinds.specs.declared.refusal.Refusal.{Refusal}
 use Rattle.base_kinds.specs.declared.refusal.Refusal.TheVariants.{Unsupported, MixedAction, BadId, BadDuration, BadPath, BadValue}
-use Rattle.base_kinds.specs.Legal.{rises, is_fit_path, is_fit_row, has_fit_rows, is_fit_op, AreFitOps, IsFit, is_fit_duration}
+use Rattle.base_kinds.specs.Legal.{is_fit_path, is_fit_row, has_fit_rows, is_fit_op, AreFitOps, IsFit, is_fit_duration}
+use Rattle.base_lists.specs.Rising.{rises}
 use Rattle.base_kinds.specs.Paths.{path_cmp}
 use Rattle.base_kinds.specs.Schema.{SchemaNode}
 use Rattle.base_kinds.specs.Tree.{set_rows}

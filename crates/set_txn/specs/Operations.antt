@@ -11,7 +11,8 @@ use Rattle.base_kinds.specs.declared.request.Change.{Change}
 use Rattle.base_kinds.specs.declared.request.SetAsk.{SetAsk}
 use Rattle.base_kinds.specs.declared.refusal.Refusal.{Refusal}
 use Rattle.base_kinds.specs.declared.refusal.Refusal.TheVariants.{BadPath, BadValue}
-use Rattle.base_kinds.specs.Legal.{rises, is_fit_path, is_fit_row}
+use Rattle.base_kinds.specs.Legal.{is_fit_path, is_fit_row}
+use Rattle.base_lists.specs.Rising.{rises}
 use Rattle.base_kinds.specs.Paths.{path_cmp}
 use Rattle.base_kinds.specs.Schema.{SchemaNode}
 use Rattle.base_kinds.specs.Tree.{set_rows}

@@ -3,7 +3,7 @@ use Rattle.std.proofs.Common.{◌≡◌, List, [], ◌∷◌, true≢false, ◌&
 use Rattle.std.specs.Prelude.{slice_get, unwrap_or, is_some}
 use Rattle.std.specs.Ordering.{is_lt}
 use Rattle.base_kinds.specs.declared.operation.Row.{Row}
-use Rattle.base_kinds.specs.Legal.{rises}
+use Rattle.base_lists.specs.Rising.{rises}
 use Rattle.base_kinds.specs.Rising.{row_cmp}
 
 pub two_first : (rest others : List Row) (row next : Row) → rest ≡ row ∷ others → slice_get others 0 ≡ Some next → rises row_cmp rest ≡ (is_lt (row_cmp row next) && rises row_cmp others)

@@ -1,6 +1,6 @@
 // The order of rows that a tree keeps.
 ghost use Rattle.std.specs.Prelude.{◌≡◌, ◌↔◌, IsTrue};
-ghost use Rattle.base_kinds.specs.Legal.{rises};
+ghost use Rattle.base_lists.specs.Rising.{rises};
 ghost use Rattle.base_kinds.specs.Rising.{row_cmp, IsRising};
 
 use base_kinds::Row;

@@ -1,12 +1,9 @@
 -- Steps of histories under a schema and limits, on worked examples.
 use Rattle.std.specs.Prelude.{◌≡◌, ℕ, List, [], ◌∷◌, ◌++◌, map, codes, refl, Result, Ok, Err, replicate}
-use Rattle.base_kinds.specs.declared.path.Elem.{Elem}
-use Rattle.base_kinds.specs.declared.operation.Row.{Row}
 use Rattle.base_kinds.specs.declared.operation.Op.{Op}
-use Rattle.base_kinds.specs.declared.operation.Act.TheVariants.{Delete, Replace, Update}
+use Rattle.base_kinds.specs.declared.operation.Act.TheVariants.{Delete, Replace}
 use Rattle.base_kinds.specs.declared.entry.Ask.{Ask}
 use Rattle.base_kinds.specs.declared.entry.Ask.TheVariants as asks
-use Rattle.base_kinds.specs.declared.entry.Entry.{Entry}
 use Rattle.base_kinds.specs.declared.entry.Kind.TheVariants as kinds
 use Rattle.base_kinds.specs.declared.value.Value.TheVariants as values
 use Rattle.base_kinds.specs.declared.entry.Limits.{Limits}
@@ -16,7 +13,7 @@ use Rattle.base_kinds.specs.Tree.{effect}
 use Rattle.base_kinds.specs.History.{world_of}
 use Rattle.base_kinds.specs.Rules.{rules_of}
 use Rattle.base_kinds.specs.Step.{Rules, step}
-use Rattle.base_kinds.specs.Events.{Event, Set, Get, Answer, OfSet, OfGet, event_answers, history_after_all}
+use Rattle.base_kinds.specs.Events.{Event, Set, Answer, OfSet, OfGet, event_answers, history_after_all}
 use Rattle.base_kinds.specs.worked.Samples.{plain, hostname, motd, text_row, text_update, hostname_entry, delete, update, system_schema, system_rules, port_rules, port_rows, via_row, name_row, speed_row}
 
 abbrev pub asked : ℕ → Ask → Event

@@ -1,6 +1,6 @@
 use Rattle.std.proofs.Common.{◌≡◌, ◌-◌, drop}
 use Rattle.base_kinds.specs.Paths.{path_cmp}
-use Rattle.base_kinds.specs.Legal.{rises}
+use Rattle.base_lists.specs.Rising.{rises}
 use Rattle.journal_record.proofs.operations.rows_rise.Given as goal
 
 abbrev pub invariant-loop-at : goal.invariant-loop-at

@@ -1,7 +1,7 @@
 use Rattle.std.proofs.Common.{◌≡◌, ◌∷◌, sym, ap, ◌∙◌, ◌&&◌, true, false, Some}
 use Rattle.std.specs.Prelude.{slice_get}
 use Rattle.std.specs.Ordering.{is_lt}
-use Rattle.base_kinds.specs.Legal.{rises}
+use Rattle.base_lists.specs.Rising.{rises}
 use Rattle.base_kinds.specs.Rising.{row_cmp}
 use Rattle.tree_check.proofs.Neighbours.{two_first}
 use Rattle.tree_check.proofs.rising.rise.Goals as goal

@@ -1,5 +1,5 @@
 use Rattle.std.proofs.Common.{◌≡◌, length}
-use Rattle.base_kinds.specs.Legal.{rises}
+use Rattle.base_lists.specs.Rising.{rises}
 use Rattle.base_kinds.specs.Rising.{row_cmp}
 use Rattle.tree_check.proofs.rising.rise.Given as goal
 
