@@ -1,7 +1,8 @@
-ghost use Rattle.std.specs.Prelude.{◌≡◌, ℕ, ◌^◌, ◌<◌, List};
-ghost use Rattle.h2_frame.specs.Frames.{Frame, Frames};
-ghost use Rattle.codec_bench.specs.Checksum.{mixed, checksum_of};
+ghost use Rattle.std.specs.Prelude.{◌≡◌, ℕ, ◌^◌, ◌<◌, List, fold};
+ghost use Rattle.h2_frame.specs.Frames.{Frame, FramesTo, frame_of};
+ghost use Rattle.codec_bench.specs.Frames.{mixed};
 
+use crate::checksum::added;
 use crate::codec::Report;
 use crate::draws::Draws;
 use base_lists::{Bytes, NoMemory, Seq};
@@ -58,10 +59,10 @@ fn drawn_head(draws: &mut Draws) -> Head
     }
 }
 
-// Reads the frames that stand in the octets. Where octets are frames and a rest that is none, the checksum is theirs.
+// Reads the frames that the octets are, up to an end, and adds them to the checksum.
 fn read_all(octets: &[u8], before: u64) -> u64
-    ensures { (frames : List Frame) (rest : List ℕ) → Frames MAX octets.now frames rest
-        → result ≡ checksum_of before frames }
+    ensures { (frames : List Frame) (rest : List ℕ) → FramesTo MAX octets.now frames rest
+        → result ≡ fold mixed before frames }
 {
     let mut checksum = before;
     let mut rest = octets;
@@ -73,11 +74,10 @@ fn read_all(octets: &[u8], before: u64) -> u64
 }
 
 fn mixed(before: u64, head: &Head) -> u64
-    ensures { result ≡ mixed before head.now }
+    ensures { (payload : List ℕ) → result ≡ mixed before (frame_of head.now payload) }
 {
-    let fields = u64::from(head.length)
-        + u64::from(head.kind)
-        + u64::from(head.flags)
-        + u64::from(head.stream);
-    before.wrapping_mul(31).wrapping_add(fields)
+    let checksum = added(before, u64::from(head.length));
+    let checksum = added(checksum, u64::from(head.kind));
+    let checksum = added(checksum, u64::from(head.flags));
+    added(checksum, u64::from(head.stream))
 }

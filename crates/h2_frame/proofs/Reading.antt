@@ -7,7 +7,7 @@ use Rattle.std.proofs.Common.{inl, inr}
 use Rattle.h2_frame.specs.declared.frame.Head.{Head}
 use Rattle.h2_frame.specs.declared.frame.Got.{Got}
 use Rattle.h2_frame.specs.declared.frame.Got.TheVariants as got
-use Rattle.h2_frame.specs.Frames.{Frame, frame_of, Spells, StandsFirst, IsPart, Says, stated_length}
+use Rattle.h2_frame.specs.Frames.{Frame, frame_of, Spells, StandsFirst, IsPart, IsReadAs, stated_length}
 use Rattle.h2_frame.proofs.Spelling.{alike, not_part}
 
 abbrev pub IsOctets : List ℕ → Type 0
@@ -150,7 +150,7 @@ frame_least max octets h n p =
     omega (arith, get_or-take n octets 0 0 (omega arith), get_or-take n octets 1 0 (omega arith), get_or-take n octets 2 0 (omega arith), p.allowed)
 
 -- an answer that says what holds is the only one
-pub only : (max : ℕ) (octets : List ℕ) (a b : Got) → Says max octets a → Says max octets b → a ≡ b
+pub only : (max : ℕ) (octets : List ℕ) (a b : Got) → IsReadAs max octets a → IsReadAs max octets b → a ≡ b
 only max octets (got.Frame h m) (got.Frame k n) p q =
     let t = frame_only max octets h k m n p q in
     let heads : h ≡ k = t.0 in

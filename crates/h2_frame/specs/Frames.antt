@@ -1,9 +1,10 @@
 -- Frames of HTTP/2 as octets (RFC 9113 section 4.1).
-use Rattle.std.specs.Prelude.{◌≡◌, ℕ, ◌+◌, ◌*◌, ◌^◌, ◌<◌, ◌≤◌, List, [], ◌∷◌, ◌++◌, length, take, slice_index, slice_range, All}
+use Rattle.std.specs.Prelude.{◌≡◌, ◌⊎◌, ℕ, ◌+◌, ◌*◌, ◌^◌, ◌<◌, ◌≤◌, List, [], ◌∷◌, ◌++◌, length, take, slice_index, slice_range, All}
 use Rattle.std.specs.Int.{bytes_high_first}
 use Rattle.h2_frame.specs.declared.frame.Head.{Head}
 use Rattle.h2_frame.specs.declared.frame.Got.{Got}
 use Rattle.h2_frame.specs.declared.frame.Got.TheVariants as got
+use Rattle.h2_frame.specs.ErrorCodes.{frame_size_error}
 
 -- a frame: its head, and its payload
 pub record Frame : Type 0 where
@@ -17,11 +18,16 @@ frame_of head payload = record { head = head; payload = payload }
 -- payload. Numbers have their highest octet first (RFC 9113 section 4.1).
 abbrev pub spelling_with : ℕ → Frame → List ℕ
 spelling_with reserved frame =
-    bytes_high_first 3 frame.head.length ++ frame.head.kind ∷ frame.head.flags ∷ bytes_high_first 4 (reserved * 2 ^ 31 + frame.head.stream) ++ frame.payload
+    bytes_high_first 3 frame.head.length ++ frame.head.kind ∷ frame.head.flags
+    ∷ bytes_high_first 4 (reserved * 2 ^ 31 + frame.head.stream) ++ frame.payload
 
 -- As it is sent: the reserved bit is 0 (RFC 9113 section 4.1).
 abbrev pub spelling : Frame → List ℕ
 spelling frame = spelling_with 0 frame
+
+-- the nine octets before a payload, as they are sent
+abbrev pub head_spelling : Head → List ℕ
+head_spelling head = spelling (frame_of head [])
 
 -- what the fields of a frame can hold
 pub record Fits (frame : Frame) : Type 0 where
@@ -60,15 +66,15 @@ pub record IsPart (max : ℕ) (octets : List ℕ) : Type 0 where
 abbrev pub stated_length : List ℕ → ℕ
 stated_length octets = slice_index octets 0 * 2 ^ 16 + slice_index octets 1 * 2 ^ 8 + slice_index octets 2
 
--- the code FRAME_SIZE_ERROR (RFC 9113 section 7)
-abbrev pub frame_size_error : ℕ
-frame_size_error = 6
+-- more octets of payload are stated than a frame may have
+abbrev pub IsTooLong : ℕ → List ℕ → Type 0
+IsTooLong max octets = max < stated_length octets
 
 -- what an answer of a reader of frames says
-abbrev pub Says : ℕ → List ℕ → Got → Type 0
-Says max octets (got.Frame head used) = StandsFirst max octets head used
-Says max octets got.More = IsPart max octets
-Says max octets (got.Bad code) = (code ≡ frame_size_error) × (max < stated_length octets)
+abbrev pub IsReadAs : ℕ → List ℕ → Got → Type 0
+IsReadAs max octets (got.Frame head used) = StandsFirst max octets head used
+IsReadAs max octets got.More = IsPart max octets
+IsReadAs max octets (got.Bad code) = (code ≡ frame_size_error) × IsTooLong max octets
 
 -- the first frame of the octets, of at most `max` octets of payload, and what follows it
 pub record BeginsWith (max : ℕ) (octets : List ℕ) (frame : Frame) (after : List ℕ) : Type 0 where
@@ -77,8 +83,26 @@ pub record BeginsWith (max : ℕ) (octets : List ℕ) (frame : Frame) (after : L
   pub allowed : frame.head.length ≤ max
   pub joined : octets ≡ front ++ after
 
--- The octets are these frames, each of at most `max` octets of payload, one behind the other, and then a rest
--- that is a proper prefix of such a frame.
-abbrev pub Frames : ℕ → List ℕ → List Frame → List ℕ → Type 0
-Frames max octets [] rest = (octets ≡ rest) × IsPart max rest
-Frames max octets (frame ∷ frames) rest = (after : List ℕ) × BeginsWith max octets frame after × Frames max after frames rest
+-- The octets begin with these frames, each of at most `max` octets of payload, one after the other, and this follows.
+abbrev pub LeadingFrames : ℕ → List ℕ → List Frame → List ℕ → Type 0
+LeadingFrames max octets [] after = octets ≡ after
+LeadingFrames max octets (frame ∷ frames) after =
+    (next : List ℕ) × BeginsWith max octets frame next × LeadingFrames max next frames after
+
+-- The octets are these frames, and then a rest that is a proper prefix of a frame.
+pub record Frames (max : ℕ) (octets : List ℕ) (frames : List Frame) (rest : List ℕ) : Type 0 where
+  pub leading : LeadingFrames max octets frames rest
+  pub is_part : IsPart max rest
+
+-- where no frame can be read: a proper prefix of a frame stands there, or a frame that is longer than allowed
+abbrev pub IsEnd : ℕ → List ℕ → Type 0
+IsEnd max octets = IsPart max octets ⊎ IsTooLong max octets
+
+-- The octets are these frames, and then an end in either way. All octets are so (law every_run_ends).
+pub record FramesTo (max : ℕ) (octets : List ℕ) (frames : List Frame) (rest : List ℕ) : Type 0 where
+  pub leading : LeadingFrames max octets frames rest
+  pub ends : IsEnd max rest
+
+-- each is an octet
+abbrev pub AreOctets : List ℕ → Type 0
+AreOctets octets = All (λ octet. octet < 2 ^ 8) octets

@@ -1,1 +1,3 @@
+pub mod ErrorCodes
 pub mod Frames
+pub mod Kinds

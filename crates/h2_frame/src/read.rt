@@ -1,30 +1,31 @@
 ghost use Rattle.std.specs.Prelude.{◌≡◌, ℕ, ◌+◌, ◌*◌, ◌^◌, ◌<◌, ◌≤◌, ◌%◌, length, slice_index};
 ghost use Rattle.h2_frame.specs.declared.frame.Head.{Head};
-ghost use Rattle.h2_frame.specs.Frames.{Says, StandsFirst, IsPart, stated_length, frame_size_error};
+ghost use Rattle.h2_frame.specs.ErrorCodes.{frame_size_error};
+ghost use Rattle.h2_frame.specs.Frames.{IsReadAs, StandsFirst, IsPart, IsTooLong, stated_length};
 
+use crate::codes::FRAME_SIZE_ERROR;
 use crate::frame::{Got, Head};
 
 const HEAD_OCTETS: usize = 9;
-
-const FRAME_SIZE_ERROR: u32 = 6;
 
 /// What stands first in the octets, where a frame may have at most `max` octets of payload. Takes no memory.
 ///
 /// Where fewer than three octets are there, the length is too large as soon as each length that they can begin is.
 pub fn read_frame(octets: &[u8], max: u32) -> Got
-    ensures says { Says max octets.now result }
+    ensures says { IsReadAs max octets.now result }
 
     // And each answer comes wherever what it says holds.
-    ensures frame { (head : Head) (used : ℕ) → StandsFirst max octets.now head used → result ≡ Got.Frame head used }
+    ensures frame { (head : Head) (used : ℕ)
+        → StandsFirst max octets.now head used → result ≡ Got.Frame head used }
     ensures more { IsPart max octets.now → result ≡ Got.More }
-    ensures bad { max < stated_length octets.now → result ≡ Got.Bad frame_size_error }
+    ensures bad { IsTooLong max octets.now → result ≡ Got.Bad frame_size_error }
 {
     first(octets, max)
 }
 
 #[tactic(auto, using(crate::proofs::Reading::begins, crate::proofs::Reading::stands))]
 fn first(octets: &[u8], max: u32) -> Got
-    ensures { Says max octets.now result }
+    ensures { IsReadAs max octets.now result }
 {
     let [first, second, third, kind, flags, s0, s1, s2, s3, ..] = octets else {
         return short(octets, max);
@@ -54,7 +55,7 @@ fn first(octets: &[u8], max: u32) -> Got
 #[tactic(auto, using(crate::proofs::Reading::begins))]
 fn short(octets: &[u8], max: u32) -> Got
     requires { length octets.now < 9 }
-    ensures { Says max octets.now result }
+    ensures { IsReadAs max octets.now result }
 {
     if max < least_length(octets) {
         Got::Bad(FRAME_SIZE_ERROR)

@@ -1,10 +1,10 @@
-ghost use Rattle.std.specs.Prelude.{◌≡◌, ◌^◌, ◌<◌, [], ◌++◌, ◌⊎◌, length, take, OnOk, OnErr};
-ghost use Rattle.h2_frame.specs.Frames.{spelling, frame_of, Fits};
+ghost use Rattle.std.specs.Prelude.{◌≡◌, ◌^◌, ◌<◌, ◌++◌, ◌⊎◌, length, take, OnOk, OnErr};
+ghost use Rattle.h2_frame.specs.Frames.{spelling, head_spelling, frame_of, Fits};
 
 use crate::frame::Head;
 use base_lists::{Bytes, NoMemory};
 
-/// Writes a frame behind what is there.
+/// Writes a frame after what is there.
 pub fn write_frame(head: &Head, payload: &[u8], out: &mut Bytes) -> Result<(), NoMemory>
     requires payload_length { length payload.now ≡ head.now.length }
     requires length_fits { head.now.length < 2 ^ 24 }
@@ -21,10 +21,9 @@ pub fn write_frame(head: &Head, payload: &[u8], out: &mut Bytes) -> Result<(), N
     out.extend_from_slice(payload)
 }
 
-fn head_octets(head: &Head) -> [u8; 9]
-    requires length_fits { head.now.length < 2 ^ 24 }
-    requires stream_fits { head.now.stream < 2 ^ 31 }
-    ensures { result ≡ spelling (frame_of head.now []) }
+/// The nine octets that stand before a frame's payload, the highest of each number first. Takes no memory.
+pub fn head_octets(head: &Head) -> [u8; 9]
+    ensures { result ≡ head_spelling head.now }
 {
     let [_, l0, l1, l2] = head.length.to_be_bytes();
     let [s0, s1, s2, s3] = head.stream.to_be_bytes();

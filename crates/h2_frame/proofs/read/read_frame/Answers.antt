@@ -1,5 +1,5 @@
 use Rattle.h2_frame.specs.declared.frame.Got.TheVariants as got
-use Rattle.h2_frame.specs.Frames.{frame_size_error}
+use Rattle.h2_frame.specs.ErrorCodes.{frame_size_error}
 use Rattle.std.proofs.Common.{refl}
 use Rattle.h2_frame.proofs.Reading.{only}
 use Rattle.h2_frame.proofs.read.read_frame.Goals as goal

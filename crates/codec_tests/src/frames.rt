@@ -1,7 +1,8 @@
+//! Frames of HTTP/2: what another library wrote, lengths at their limits, every front of a frame.
 ghost use Rattle.std.specs.Prelude.{◌^◌, ◌<◌};
 
-use crate::{Got, Head, read_frame, write_frame};
 use base_lists::{Bytes, NoMemory, Seq};
+use h2_frame::{Got, Head, head_octets, read_frame, write_frame};
 use std::alloc::Global;
 use std::test::Fail;
 
@@ -33,7 +34,7 @@ fn written_again(alloc: Global, octets: &[u8]) -> Result<Bytes, NoMemory> {
 // Frames that hyperframe wrote.
 #[test]
 fn frames_of_another_library(rt: HostRuntime) -> Result<(), Fail> {
-    let rows = [
+    let rows: [(&[u8], Head); 7] = [
         (
             [0, 0, 4, 8, 0, 0, 0, 0, 0, 0x24, 0x71, 0x7e, 0x9f].as_slice(),
             head(4, 8, 0, 0),
@@ -178,4 +179,9 @@ fn longest_frame_that_is_allowed(rt: HostRuntime) -> Result<(), Fail> {
     let longer = frame_of_zeros(rt.alloc(), MAX + 1)?;
     assert_eq!(rt; read_frame(longer.items(), MAX), Got::Bad(6));
     Ok(())
+}
+
+#[test]
+fn head_octets_stand_before_the_payload(rt: HostRuntime) {
+    assert_eq!(rt; head_octets(&head(8, 6, 0, 0)).as_slice(), &PING[..9]);
 }
