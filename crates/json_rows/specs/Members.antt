@@ -3,7 +3,7 @@ use Rattle.std.specs.Prelude.{ℕ, List, [], ◌∷◌, ◌++◌, Bool, true, le
 use Rattle.std.specs.List.{list_any, position_or_len, before_first, after_first}
 use Rattle.std.specs.Str.{bytes_eq}
 use Rattle.base_kinds.specs.Schema.{SchemaNode, node_of}
-use Rattle.schema_core.specs.WellFormed.{is_colon}
+use Rattle.schema_core.specs.Identifiers.{is_colon}
 use Rattle.json_rows.specs.declared.fault.RowsFault.{RowsFault}
 use Rattle.json_rows.specs.declared.fault.RowsFault.TheVariants.{NotInSchema, BadValue}
 

@@ -26,8 +26,9 @@ use Rattle.schema_core.proofs.NodeLemmas.{stands_there}
 use Rattle.json_rows.specs.Leaves.{leaf_at}
 use Rattle.json_rows.specs.Entries.{KeyList, key_read, keys_from, same_key, same_keys}
 use Rattle.json_rows.specs.Walk.{below, at_node, members_at}
-use Rattle.schema_core.specs.WellFormed.{is_list_node, is_list_sort, lacks_colon, IsWellFormed}
-use Rattle.schema_core.proofs.WellFormedLemmas.{formed_node, key_is_leaf}
+use Rattle.schema_core.specs.Identifiers.{lacks_colon}
+use Rattle.schema_core.specs.WellFormed.{is_list_node, is_list_sort, IsWellFormed}
+use Rattle.schema_core.proofs.WellFormedLemmas.{own_lacks_colon, name_lacks_colon, formed_node, key_is_leaf}
 use Rattle.json_text.specs.Laws.{IsWhole, row_ordered, in_name_order}
 use Rattle.json_text.specs.Runs.{runs, share_name, share_entry, both, same_name, same_elem}
 use Rattle.json_text.specs.Trees.{is_module, member_name, value_data, node_data, entries_data, child_of_rows, with_member, member_step, members_data}
@@ -501,8 +502,8 @@ module _ (schema : List SchemaNode) (formed : IsWellFormed schema) where
             | inl w ↦ inl (key ∙ w ∙ own_is ∙ sym name)
             | inr w ↦ inr (key ∙ w ∙ ap (λ (n : List ℕ). node.module_name ++ 58 ∷ n) (own_is ∙ sym name))
           ];
-          name_plain = ap lacks_colon (name ∙ sym own_is) ∙ (formed_node schema formed _ node found).name;
-          module_plain = (formed_node schema formed _ node found).module_name;
+          name_plain = ap lacks_colon (name ∙ sym own_is) ∙ own_lacks_colon _ (formed_node schema formed _ node found).names;
+          module_plain = name_lacks_colon _ (formed_node schema formed _ node found).module_name;
         },
       )
 
@@ -521,8 +522,8 @@ module _ (schema : List SchemaNode) (formed : IsWellFormed schema) where
       let back = node_back levels inside here all_rows row others good node there.found there.just all.1 is up keyed closed node.sort refl in
       let own_is : own_name node.names ≡ good.elem.name = ap own_name (stands_there schema (names_of here ++ good.elem.name ∷ []) node there.found).2 ∙ own_name-last (names_of here) good.elem.name in
       let found : node_of schema (names_of here ++ own_name node.names ∷ []) ≡ Some node = ap (λ (n : List ℕ). node_of schema (names_of here ++ n ∷ [])) own_is ∙ there.found in
-      let module_name = (formed_node schema formed _ node there.found).module_name in
-      let own = (formed_node schema formed _ node there.found).name in
+      let module_name = name_lacks_colon _ (formed_node schema formed _ node there.found).module_name in
+      let own = own_lacks_colon _ (formed_node schema formed _ node there.found).names in
       let child_is : child_of_rows schema (names_of here) (length here) (row ∷ others) ≡ Some node =
       ap (option_and_then (λ (elem : Elem). node_of schema (names_of here ++ elem.name ∷ []))) (first_is schema (suc levels) here row good) ∙ there.found in
       let part : Part = record {

@@ -14,7 +14,7 @@ use Rattle.base_kinds.specs.Keys.{key_text}
 use Rattle.json_rows.specs.Leaves.{leaf_at}
 use Rattle.json_rows.specs.Members.{module_in, name_in, qualified}
 use Rattle.json_rows.specs.Entries.{and_then, one_spelling, key_told, text_told, key_at, key_read}
-use Rattle.schema_core.specs.WellFormed.{lacks_colon}
+use Rattle.schema_core.specs.Identifiers.{lacks_colon}
 use Rattle.json_text.proofs.Parts.{Part, AnyPart, as_members, AllElse, Distinct, AllRead, apart, equal_texts}
 use Rattle.json_text.proofs.Spellings.{name_alone, name_behind, module_none, module_before}
 

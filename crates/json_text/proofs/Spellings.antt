@@ -9,7 +9,7 @@ use Rattle.std.proofs.Math.Seq.{drop-append-add, take-append_seam}
 use Rattle.std.proofs.lemmas.Slice.Eq.{bytes_eq-Decides}
 use Rattle.base_kinds.specs.Schema.{SchemaNode}
 use Rattle.json_rows.specs.Members.{has_module, module_in, name_in, child_at, child_named, if_of_module}
-use Rattle.schema_core.specs.WellFormed.{is_colon, lacks_colon}
+use Rattle.schema_core.specs.Identifiers.{is_colon, lacks_colon}
 
 place_none : (xs : List ℕ) → lacks_colon xs ≡ true → position_or_len is_colon xs ≡ length xs
 place_none [] e = refl

@@ -22,7 +22,8 @@ use Rattle.base_kinds.specs.Parts.{is_covered, part}
 use Rattle.base_kinds.specs.declared.schema.Sort.{Sort}
 use Rattle.base_kinds.specs.declared.schema.Sort.TheVariants as sorts
 use Rattle.schema_core.specs.Nodes.{is_inner}
-use Rattle.schema_core.specs.WellFormed.{texts_differ, IsWellFormed}
+use Rattle.schema_core.specs.Shapes.{texts_differ}
+use Rattle.schema_core.specs.WellFormed.{IsWellFormed}
 use Rattle.schema_core.proofs.WellFormedLemmas.{formed_node, no_root}
 use Rattle.base_kinds.specs.Legal.{is_fit_elem, is_fit_path, is_fit_value, is_fit_row}
 use Rattle.base_lists.specs.Rising.{rises}

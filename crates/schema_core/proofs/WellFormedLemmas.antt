@@ -1,14 +1,18 @@
 -- What the nodes of a well-formed schema have, each found by its names.
-use Rattle.std.proofs.Common.{◌≡◌, ℕ, zero, suc, List, [], ◌∷◌, ◌++◌, ◌==◌, ◌||◌, length, take, Bool, true, false, cond, Option, Some, None, refl, ap, sym, ◌∙◌, subst, arith, true≢false, bytes_eq, ◌⊎◌, inl, inr}
+use Rattle.std.proofs.Common.{◌≡◌, ℕ, zero, suc, List, [], ◌∷◌, ◌++◌, ◌==◌, ◌||◌, ◌&&◌, length, take, Bool, true, false, cond, Option, Some, None, refl, ap, sym, ◌∙◌, subst, arith, true≢false, bytes_eq, ◌⊎◌, inl, inr}
 use Rattle.std.specs.List.{AllByRecursion, list_all, list_any}
-use Rattle.std.proofs.lemmas.Bool.{and_parts}
+use Rattle.std.proofs.lemmas.Bool.{and_parts, and_from}
 use Rattle.std.proofs.lemmas.Slice.Eq.{bytes_eq-Decides}
 use Rattle.base_kinds.specs.declared.schema.Sort.{Sort}
 use Rattle.base_kinds.specs.declared.schema.Sort.TheVariants as sorts
 use Rattle.base_kinds.specs.Schema.{SchemaNode, node_of, same_names}
+use Rattle.base_kinds.specs.Ancestors.{own_name}
 use Rattle.base_kinds.specs.Valid.{if_some}
 use Rattle.schema_core.specs.Nodes.{is_inner, has_parent, AllPlaced}
-use Rattle.schema_core.specs.WellFormed.{is_leaf, has_leaf, IsWellFormedNode, IsWellFormed}
+use Rattle.plain_texts.specs.Names.{is_name}
+use Rattle.plain_texts.proofs.NameTexts.{name_lacks}
+use Rattle.schema_core.specs.Identifiers.{lacks_colon}
+use Rattle.schema_core.specs.WellFormed.{is_leaf, has_leaf, has_key_leaf, IsWellFormedNode, IsWellFormed}
 use Rattle.schema_core.proofs.NodeLemmas.{no_none, stands_there, parent_of_last}
 
 abbrev Names : Type 0
@@ -69,6 +73,28 @@ among test key (other ∷ others) all any =
       | inr w ↦ among test key others both.1 w
     ]
 
+-- ---- identifiers
+
+pub name_lacks_colon : (name : List ℕ) → is_name name ≡ true → lacks_colon name ≡ true
+name_lacks_colon name is = name_lacks 58 refl name is
+
+pub own_lacks_colon : (names : Names) → list_all is_name names ≡ true → lacks_colon (own_name names) ≡ true
+own_lacks_colon [] all = refl
+own_lacks_colon (name ∷ []) all = name_lacks_colon name (and_parts (is_name name) true all).0
+own_lacks_colon (name ∷ other ∷ others) all = own_lacks_colon (other ∷ others) (and_parts (is_name name) (list_all is_name (other ∷ others)) all).1
+
+-- ---- key leaves
+
+leaf_there : (found : Option SchemaNode) (module_name : List ℕ) → if_some found (λ node. is_leaf node.sort && bytes_eq node.module_name module_name) ≡ true → if_some found (λ node. is_leaf node.sort) ≡ true
+leaf_there None module_name is = is
+leaf_there (Some node) module_name is = (and_parts (is_leaf node.sort) (bytes_eq node.module_name module_name) is).0
+
+leaves_there : (all : List SchemaNode) (node : SchemaNode) (keys : Names) → list_all (has_key_leaf all node) keys ≡ true → list_all (λ key. has_leaf all (node.names ++ key ∷ [])) keys ≡ true
+leaves_there all node [] is = refl
+leaves_there all node (key ∷ keys) is =
+    let both = and_parts (has_key_leaf all node key) (list_all (has_key_leaf all node) keys) is in
+    and_from (has_leaf all (node.names ++ key ∷ [])) (list_all (λ k. has_leaf all (node.names ++ k ∷ [])) keys) (leaf_there (node_of all (node.names ++ key ∷ [])) node.module_name both.0) (leaves_there all node keys both.1)
+
 module _ (schema : List SchemaNode) (formed : IsWellFormed schema) where
   pub no_root : node_of schema [] ≡ None
   no_root = root_at schema (node_of schema []) refl formed.placed
@@ -93,7 +119,7 @@ module _ (schema : List SchemaNode) (formed : IsWellFormed schema) where
   pub keys_have_leaves : (names : Names) (node : SchemaNode) → node_of schema names ≡ Some node → list_all (λ key. has_leaf schema (names ++ key ∷ [])) node.keys ≡ true
   keys_have_leaves names node found =
       let own = (stands_there schema names node found).2 in
-      subst (λ (ns : Names). list_all (λ key. has_leaf schema (ns ++ key ∷ [])) node.keys ≡ true) own (formed_node names node found).key_leaves
+      subst (λ (ns : Names). list_all (λ key. has_leaf schema (ns ++ key ∷ [])) node.keys ≡ true) own (leaves_there schema node node.keys (formed_node names node found).key_leaves)
 
   pub key_is_leaf : (names : Names) (node child : SchemaNode) (key : List ℕ) → node_of schema names ≡ Some node → list_any (bytes_eq key) node.keys ≡ true → node_of schema (names ++ key ∷ []) ≡ Some child → child.sort ≡ sorts.Leaf
   key_is_leaf names node child key above any found =

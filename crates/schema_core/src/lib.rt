@@ -1,6 +1,7 @@
 //! The schema: its data nodes in the order of its text, found by their names.
 #![tactic(auto)]
 
+mod limits;
 mod names;
 mod node;
 mod schema;
@@ -8,6 +9,7 @@ mod schema;
 mod tests;
 mod wanted;
 
+pub use limits::{MOST_ELEMENTS, MOST_ENUM_TEXTS, MOST_KEYS, MOST_NAMES, MOST_NODES, MOST_PLACES};
 pub use names::{has_just_keys, has_names, own_name, parent_names};
 pub use node::{Node, NodeId};
-pub use schema::{MOST_NODES, Schema};
+pub use schema::Schema;

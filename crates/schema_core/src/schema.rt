@@ -6,6 +6,7 @@ ghost use Rattle.schema_core.specs.Nodes.{names_at, names_above, has_parent, is_
 ghost use Rattle.schema_core.specs.Index.{names_cmp, names_in, IsKept, IsBetween};
 ghost use Rattle.schema_core.specs.Wanted.{wanted_names};
 
+use crate::limits::MOST_NODES;
 use crate::node::{Node, NodeId};
 use crate::wanted::{Wanted, compare};
 use base_kinds::{Path, Shape, Sort};
@@ -13,9 +14,6 @@ use base_lists::{Copied, NoMemory, Seq, Text, Texts};
 use std::alloc::Global;
 use std::cmp::Ordering;
 use std::marker::Model;
-
-/// So many nodes at most has a schema.
-pub const MOST_NODES: u32 = 4096;
 
 /// The nodes of a schema in the order of its text. No names stand twice, and a node's parent stands before it.
 #[derive(Debug, Drop)]

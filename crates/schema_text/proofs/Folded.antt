@@ -1,10 +1,11 @@
 -- What each line keeps of what was read, the lines of a text keep.
 use Rattle.std.proofs.Common.{ℕ, ◌+◌, List, [], ◌∷◌, Bool, true, false, cond, length, Result, Ok, Err}
 use Rattle.schema_text.specs.declared.cause.Cause.{Cause}
+use Rattle.base_lists.specs.Results.{and_then}
 use Rattle.schema_text.specs.declared.cause.Cause.TheVariants.{TooLarge, Syntax}
 use Rattle.schema_text.specs.declared.cause.SchemaFault.{SchemaFault}
 use Rattle.schema_text.specs.Grammar.{line_of}
-use Rattle.schema_text.specs.Schemas.{Read, with_line, is_too_long, with_part, at_line, then_ok, read_parts}
+use Rattle.schema_text.specs.Schemas.{Read, with_line, is_too_long, with_part, at_line, read_parts}
 
 module _ (P : Read → Type 0) where
   abbrev pub Keeps : {E : Type 0} → Result Read E → Type 0
@@ -19,7 +20,7 @@ module _ (P : Read → Type 0) where
   kept_either true cause other = tt
   kept_either false cause other = tt
 
-  kept_then : (number : ℕ) (part : Result Read Cause) (next : Read → Result Read SchemaFault) → Keeps part → ((more : Read) → P more → Keeps (next more)) → Keeps (then_ok (at_line number part) next)
+  kept_then : (number : ℕ) (part : Result Read Cause) (next : Read → Result Read SchemaFault) → Keeps part → ((more : Read) → P more → Keeps (next more)) → Keeps (and_then (at_line number part) next)
   kept_then number (Ok more) next kept then = then more kept
   kept_then number (Err cause) next kept then = tt
 

@@ -1,13 +1,16 @@
 -- The schema of a text is well-formed.
-use Rattle.std.proofs.Common.{◌≡◌, ℕ, List, [], ◌∷◌, ◌++◌, Bool, true, false, not, ◌&&◌, cond, leb, length, Option, Some, None, Result, Ok, Err, is_some, refl, sym, subst, arith, bytes_eq, true≢false}
+use Rattle.std.proofs.Common.{◌≤◌, IfSome, ◌≡◌, ℕ, List, [], ◌∷◌, ◌++◌, Bool, true, false, not, ◌&&◌, cond, leb, length, Option, Some, None, Result, Ok, Err, is_some, refl, ap, ◌∙◌, sym, subst, arith, bytes_eq, true≢false}
 use Rattle.std.specs.List.{AllByRecursion, list_all}
 use Rattle.std.proofs.lemmas.Bool.{and_parts, and_from}
 use Rattle.std.proofs.lemmas.List.{length-append}
 use Rattle.base_kinds.specs.Schema.{SchemaNode, node_of}
-use Rattle.base_kinds.specs.Valid.{if_some}
-use Rattle.base_kinds.specs.Ancestors.{own_name}
+use Rattle.base_lists.specs.Results.{and_then}
+use Rattle.base_kinds.specs.Valid.{unless_none, is_leafy}
+use Rattle.plain_texts.specs.Names.{is_name}
+use Rattle.plain_texts.specs.Splits.{parts_of}
+use Rattle.schema_core.specs.Shapes.{texts_differ, is_fit_shape}
 use Rattle.schema_core.specs.Nodes.{has_parent}
-use Rattle.schema_core.specs.WellFormed.{is_leaf, is_list_node, lacks_colon, texts_differ, has_leaf, IsWellFormedNode}
+use Rattle.schema_core.specs.WellFormed.{is_leaf, is_list_node, may_have_maximum, most_names, most_keys, is_fit_maximum, has_key_leaf, has_target, IsWellFormedNode}
 use Rattle.schema_text.specs.declared.cause.Cause.{Cause}
 use Rattle.schema_text.specs.declared.cause.Cause.TheVariants.{NoParent, Twice, TooLarge, NoKey, BadRef}
 use Rattle.schema_text.specs.declared.cause.SchemaFault.{SchemaFault}
@@ -16,68 +19,133 @@ use Rattle.schema_text.specs.declared.line.Declared.TheVariants as declared
 use Rattle.schema_text.specs.declared.line.Line.{Line}
 use Rattle.schema_text.specs.declared.line.Line.TheVariants.{Skipped, Module, Node}
 use Rattle.schema_text.specs.Grammar.{line_of}
-use Rattle.schema_text.specs.Parts.{parts_of}
 use Rattle.schema_text.specs.Laws.{ReadSchemasAreWellFormed}
-use Rattle.schema_text.specs.Schemas.{Read, nothing_read, node_in, in_module, with_line, then_ok, read_parts, has_key_leaf, has_target, node_fault, or_fault, first_fault, unless_fault}
+use Rattle.schema_text.specs.Schemas.{Read, nothing_read, node_in, in_module, with_line, read_parts, node_fault, or_fault, first_fault, unless_fault}
 use Rattle.schema_text.proofs.Folded.{Keeps, kept_if, kept_parts}
-use Rattle.schema_text.proofs.LinesTold.{DeclaredTold, LineTold, line_told}
+use Rattle.schema_text.proofs.Declarations.{AreFit, IsFitDeclared, IsFitLine, line_fit}
 use Rattle.schema_text.proofs.Placed.{all_placed}
 
 -- what the line of a node says of it alone
-record IsTold (node : SchemaNode) : Type 0 where
-  name : lacks_colon (own_name node.names) ≡ true
-  module_name : lacks_colon node.module_name ≡ true
+record IsFitNode (node : SchemaNode) : Type 0 where
+  few_names : length node.names ≤ most_names
+  names : list_all is_name node.names ≡ true
+  module_name : is_name node.module_name ≡ true
   keyless : is_list_node node ≡ false → node.keys ≡ []
   keyed : is_list_node node ≡ true → node.keys ≡ [] → ⊥
+  few_keys : length node.keys ≤ most_keys
   keys_differ : texts_differ node.keys ≡ true
+  shaped : is_some node.shape ≡ is_leafy node.sort
+  shape : unless_none node.shape is_fit_shape ≡ true
+  optional : is_leaf node.sort ≡ false → node.is_mandatory ≡ false
+  unreferring : is_leaf node.sort ≡ false → node.reference ≡ None
+  unlimited : may_have_maximum node.sort ≡ false → node.maximum ≡ None
+  maximum : unless_none node.maximum is_fit_maximum ≡ true
 
-abbrev ModuleTold : Option (List ℕ) → Type 0
-ModuleTold None = Unit {0}
-ModuleTold (Some name) = lacks_colon name ≡ true
+abbrev IsFitModule : Option (List ℕ) → Type 0
+IsFitModule name = IfSome name (λ name. is_name name ≡ true)
 
 -- what the lines so far say
-record HasTold (read : Read) : Type 0 where
-  nodes : AllByRecursion IsTold read.nodes
-  module_name : ModuleTold read.module_name
+record HasFit (read : Read) : Type 0 where
+  nodes : AllByRecursion IsFitNode read.nodes
+  module_name : IsFitModule read.module_name
   lines : length read.lines ≡ length read.nodes
 
-told_in : (name : List ℕ) (names : List (List ℕ)) (node : Declared) → lacks_colon name ≡ true → lacks_colon (own_name names) ≡ true → DeclaredTold node → IsTold (node_in name names node)
-told_in name names declared.Container module_told own told = record { name = own; module_name = module_told; keyless = λ is. refl; keyed = λ is. absurd (true≢false (sym is)); keys_differ = refl }
-told_in name names (declared.List keys maximum) module_told own told = record { name = own; module_name = module_told; keyless = λ is. absurd (true≢false is); keyed = λ is. told.0; keys_differ = told.1 }
-told_in name names (declared.Leaf shape is_mandatory reference) module_told own told = record { name = own; module_name = module_told; keyless = λ is. refl; keyed = λ is. absurd (true≢false (sym is)); keys_differ = refl }
-told_in name names (declared.LeafList shape maximum) module_told own told = record { name = own; module_name = module_told; keyless = λ is. refl; keyed = λ is. absurd (true≢false (sym is)); keys_differ = refl }
+no_keys : 0 ≤ most_keys
+no_keys = omega arith
 
-one_more : (nodes : List SchemaNode) (node : SchemaNode) → AllByRecursion IsTold nodes → IsTold node → AllByRecursion IsTold (nodes ++ node ∷ [])
+fit_in : (name : List ℕ) (names : List (List ℕ)) (node : Declared) → is_name name ≡ true → AreFit is_name most_names names → IsFitDeclared node → IsFitNode (node_in name names node)
+fit_in name names declared.Container module_is path_is node_is = record {
+  few_names = path_is.few;
+  names = path_is.each;
+  module_name = module_is;
+  keyless = λ is. refl;
+  keyed = λ is. absurd (true≢false (sym is));
+  few_keys = no_keys;
+  keys_differ = refl;
+  shaped = refl;
+  shape = refl;
+  optional = λ is. refl;
+  unreferring = λ is. refl;
+  unlimited = λ is. refl;
+  maximum = refl;
+}
+fit_in name names (declared.List keys maximum) module_is path_is node_is = record {
+  few_names = path_is.few;
+  names = path_is.each;
+  module_name = module_is;
+  keyless = λ is. absurd (true≢false is);
+  keyed = λ is. node_is.0.fit.some;
+  few_keys = node_is.0.fit.few;
+  keys_differ = node_is.0.differ;
+  shaped = refl;
+  shape = refl;
+  optional = λ is. refl;
+  unreferring = λ is. refl;
+  unlimited = λ is. absurd (true≢false is);
+  maximum = node_is.1;
+}
+fit_in name names (declared.Leaf shape is_mandatory reference) module_is path_is node_is = record {
+  few_names = path_is.few;
+  names = path_is.each;
+  module_name = module_is;
+  keyless = λ is. refl;
+  keyed = λ is. absurd (true≢false (sym is));
+  few_keys = no_keys;
+  keys_differ = refl;
+  shaped = refl;
+  shape = node_is;
+  optional = λ is. absurd (true≢false is);
+  unreferring = λ is. absurd (true≢false is);
+  unlimited = λ is. refl;
+  maximum = refl;
+}
+fit_in name names (declared.LeafList shape maximum) module_is path_is node_is = record {
+  few_names = path_is.few;
+  names = path_is.each;
+  module_name = module_is;
+  keyless = λ is. refl;
+  keyed = λ is. absurd (true≢false (sym is));
+  few_keys = no_keys;
+  keys_differ = refl;
+  shaped = refl;
+  shape = node_is.0;
+  optional = λ is. refl;
+  unreferring = λ is. refl;
+  unlimited = λ is. absurd (true≢false is);
+  maximum = node_is.1;
+}
+
+one_more : (nodes : List SchemaNode) (node : SchemaNode) → AllByRecursion IsFitNode nodes → IsFitNode node → AllByRecursion IsFitNode (nodes ++ node ∷ [])
 one_more [] node all told = (told, tt)
 one_more (first ∷ others) node all told = (all.0, one_more others node all.1 told)
 
-told_more : (number : ℕ) (read : Read) (name : List ℕ) (names : List (List ℕ)) (node : Declared) → HasTold read → ModuleTold (Some name) → read.module_name ≡ Some name → IsTold (node_in name names node) → HasTold (record read { nodes = read.nodes ++ node_in name names node ∷ []; lines = read.lines ++ number ∷ [] })
-told_more number read name names node before module_told is told =
+fit_more : (number : ℕ) (read : Read) (name : List ℕ) (names : List (List ℕ)) (node : Declared) → HasFit read → read.module_name ≡ Some name → IsFitNode (node_in name names node) → HasFit (record read { nodes = read.nodes ++ node_in name names node ∷ []; lines = read.lines ++ number ∷ [] })
+fit_more number read name names node before is told =
     record {
       nodes = one_more read.nodes (node_in name names node) before.nodes told;
       module_name = before.module_name;
       lines = (let a = length-append read.lines (number ∷ []) in let b = length-append read.nodes (node_in name names node ∷ []) in let c = before.lines in omega (arith, a, b, c));
     }
 
-told_there : (number : ℕ) (read : Read) (name : List ℕ) (names : List (List ℕ)) (node : Declared) (there twice : Bool) → HasTold (record read { nodes = read.nodes ++ node_in name names node ∷ []; lines = read.lines ++ number ∷ [] }) → Keeps HasTold (cond (not there) (Err NoParent) (cond twice (Err Twice) (Ok (record read { nodes = read.nodes ++ node_in name names node ∷ []; lines = read.lines ++ number ∷ [] }))))
-told_there number read name names node false twice told = tt
-told_there number read name names node true true told = tt
-told_there number read name names node true false told = told
+fit_there : (number : ℕ) (read : Read) (name : List ℕ) (names : List (List ℕ)) (node : Declared) (there twice : Bool) → HasFit (record read { nodes = read.nodes ++ node_in name names node ∷ []; lines = read.lines ++ number ∷ [] }) → Keeps HasFit (cond (not there) (Err NoParent) (cond twice (Err Twice) (Ok (record read { nodes = read.nodes ++ node_in name names node ∷ []; lines = read.lines ++ number ∷ [] }))))
+fit_there number read name names node false twice told = tt
+fit_there number read name names node true true told = tt
+fit_there number read name names node true false told = told
 
-told_module : (number : ℕ) (read : Read) (names : List (List ℕ)) (node : Declared) (name : Option (List ℕ)) → read.module_name ≡ name → HasTold read → lacks_colon (own_name names) ≡ true → DeclaredTold node → Keeps HasTold (in_module number read names node name)
-told_module number read names node None is before own told = tt
-told_module number read names node (Some name) is before own told =
-    let module_told : lacks_colon name ≡ true = subst ModuleTold is before.module_name in
-    told_there number read name names node (has_parent read.nodes names) (is_some (node_of read.nodes names)) (told_more number read name names node before module_told is (told_in name names node module_told own told))
+fit_module : (number : ℕ) (read : Read) (names : List (List ℕ)) (node : Declared) (name : Option (List ℕ)) → read.module_name ≡ name → HasFit read → AreFit is_name most_names names → IsFitDeclared node → Keeps HasFit (in_module number read names node name)
+fit_module number read names node None is before own told = tt
+fit_module number read names node (Some name) is before own told =
+    let module_told : is_name name ≡ true = subst IsFitModule is before.module_name in
+    fit_there number read name names node (has_parent read.nodes names) (is_some (node_of read.nodes names)) (fit_more number read name names node before is (fit_in name names node module_told own told))
 
-told_line : (number : ℕ) (read : Read) (line : Option Line) → LineTold line → HasTold read → Keeps HasTold (with_line number read line)
-told_line number read None told before = tt
-told_line number read (Some Skipped) told before = before
-told_line number read (Some (Module name)) told before = record { nodes = before.nodes; module_name = told; lines = before.lines }
-told_line number read (Some (Node names node)) told before = kept_if HasTold (leb 4096 (length read.nodes)) TooLarge (in_module number read names node read.module_name) (told_module number read names node read.module_name refl before told.0 told.1)
+fit_line : (number : ℕ) (read : Read) (line : Option Line) → IsFitLine line → HasFit read → Keeps HasFit (with_line number read line)
+fit_line number read None told before = tt
+fit_line number read (Some Skipped) told before = before
+fit_line number read (Some (Module name)) told before = record { nodes = before.nodes; module_name = told; lines = before.lines }
+fit_line number read (Some (Node names node)) told before = kept_if HasFit (leb 4096 (length read.nodes)) TooLarge (in_module number read names node read.module_name) (fit_module number read names node read.module_name refl before told.0 told.1)
 
-none_told : HasTold nothing_read
-none_told = record { nodes = tt; module_name = tt; lines = refl }
+none_fit : HasFit nothing_read
+none_fit = record { nodes = tt; module_name = tt; lines = refl }
 
 -- ---- keys, once every line was taken
 
@@ -85,37 +153,50 @@ no_fault : (line : ℕ) (fault : Option Cause) (others : Option SchemaFault) →
 no_fault line None others is = (refl, is)
 no_fault line (Some cause) others is = absurd (cc)
 
-keys_hold : (keyed targeted : Bool) → cond (not keyed) (Some NoKey) (cond (not targeted) (Some BadRef) None) ≡ None → keyed ≡ true
-keys_hold true targeted is = refl
-keys_hold false targeted is = absurd (cc)
+both_hold : (keyed targeted : Bool) → cond (not keyed) (Some NoKey) (cond (not targeted) (Some BadRef) None) ≡ None → (keyed ≡ true) × (targeted ≡ true)
+both_hold true true is = (refl, refl)
+both_hold true false is = absurd (cc)
+both_hold false targeted is = absurd (cc)
 
--- each node has its key leaves
-abbrev HasKeys : List SchemaNode → SchemaNode → Type 0
-HasKeys all node = list_all (has_key_leaf all node) node.keys ≡ true
+-- each node has its key leaves, and the leaf that it refers to
+record IsSettled (all : List SchemaNode) (node : SchemaNode) : Type 0 where
+  keys : list_all (has_key_leaf all node) node.keys ≡ true
+  reference : has_target all node.shape node.reference ≡ true
 
-keys_there : (all nodes : List SchemaNode) (lines : List ℕ) → length lines ≡ length nodes → first_fault all nodes lines ≡ None → AllByRecursion (HasKeys all) nodes
-keys_there all [] lines long none = tt
-keys_there all (node ∷ nodes) [] long none = absurd (omega arith)
-keys_there all (node ∷ nodes) (line ∷ lines) long none =
+settled_at : (all : List SchemaNode) (node : SchemaNode) → node_fault all node ≡ None → IsSettled all node
+settled_at all node none =
+    let both = both_hold (list_all (has_key_leaf all node) node.keys) (has_target all node.shape node.reference) none in
+    record { keys = both.0; reference = both.1 }
+
+all_settled : (all nodes : List SchemaNode) (lines : List ℕ) → length lines ≡ length nodes → first_fault all nodes lines ≡ None → AllByRecursion (IsSettled all) nodes
+all_settled all [] lines long none = tt
+all_settled all (node ∷ nodes) [] long none = absurd (omega arith)
+all_settled all (node ∷ nodes) (line ∷ lines) long none =
     let both = no_fault line (node_fault all node) (first_fault all nodes lines) none in
-    (keys_hold (list_all (has_key_leaf all node) node.keys) (has_target all node.shape node.reference) both.0, keys_there all nodes lines (omega arith) both.1)
+    (settled_at all node both.0, all_settled all nodes lines (omega arith) both.1)
 
-leaf_there : (found : Option SchemaNode) (module_name : List ℕ) → if_some found (λ node. is_leaf node.sort && bytes_eq node.module_name module_name) ≡ true → if_some found (λ node. is_leaf node.sort) ≡ true
-leaf_there None module_name is = is
-leaf_there (Some node) module_name is = (and_parts (is_leaf node.sort) (bytes_eq node.module_name module_name) is).0
+formed_at : (all : List SchemaNode) (node : SchemaNode) → IsFitNode node → IsSettled all node → IsWellFormedNode all node
+formed_at all node fit settled = record {
+  few_names = fit.few_names;
+  names = fit.names;
+  module_name = fit.module_name;
+  keyless = fit.keyless;
+  keyed = fit.keyed;
+  few_keys = fit.few_keys;
+  keys_differ = fit.keys_differ;
+  key_leaves = settled.keys;
+  shaped = fit.shaped;
+  shape = fit.shape;
+  optional = fit.optional;
+  unreferring = fit.unreferring;
+  reference = settled.reference;
+  unlimited = fit.unlimited;
+  maximum = fit.maximum;
+}
 
-leaves_there : (all : List SchemaNode) (node : SchemaNode) (keys : List (List ℕ)) → list_all (has_key_leaf all node) keys ≡ true → list_all (λ key. has_leaf all (node.names ++ key ∷ [])) keys ≡ true
-leaves_there all node [] is = refl
-leaves_there all node (key ∷ keys) is =
-    let both = and_parts (has_key_leaf all node key) (list_all (has_key_leaf all node) keys) is in
-    and_from (has_leaf all (node.names ++ key ∷ [])) (list_all (λ k. has_leaf all (node.names ++ k ∷ [])) keys) (leaf_there (node_of all (node.names ++ key ∷ [])) node.module_name both.0) (leaves_there all node keys both.1)
-
-formed_nodes : (all nodes : List SchemaNode) → AllByRecursion IsTold nodes → AllByRecursion (HasKeys all) nodes → AllByRecursion (IsWellFormedNode all) nodes
-formed_nodes all [] told keyed = tt
-formed_nodes all (node ∷ nodes) told keyed = (
-  record { name = told.0.name; module_name = told.0.module_name; keyless = told.0.keyless; keyed = told.0.keyed; keys_differ = told.0.keys_differ; key_leaves = leaves_there all node node.keys keyed.0 },
-  formed_nodes all nodes told.1 keyed.1,
-)
+formed_nodes : (all nodes : List SchemaNode) → AllByRecursion IsFitNode nodes → AllByRecursion (IsSettled all) nodes → AllByRecursion (IsWellFormedNode all) nodes
+formed_nodes all [] fit settled = tt
+formed_nodes all (node ∷ nodes) fit settled = (formed_at all node fit.0 settled.0, formed_nodes all nodes fit.1 settled.1)
 
 -- ---- the whole text
 
@@ -123,15 +204,15 @@ abbrev NodesFormed : Result (List SchemaNode) SchemaFault → Type 0
 NodesFormed (Ok nodes) = AllByRecursion (IsWellFormedNode nodes) nodes
 NodesFormed (Err fault) = Unit {0}
 
-settled : (read : Read) (fault : Option SchemaFault) → first_fault read.nodes read.nodes read.lines ≡ fault → HasTold read → NodesFormed (unless_fault read.nodes fault)
-settled read None none told = formed_nodes read.nodes read.nodes told.nodes (keys_there read.nodes read.nodes read.lines told.lines none)
+settled : (read : Read) (fault : Option SchemaFault) → first_fault read.nodes read.nodes read.lines ≡ fault → HasFit read → NodesFormed (unless_fault read.nodes fault)
+settled read None none told = formed_nodes read.nodes read.nodes told.nodes (all_settled read.nodes read.nodes read.lines told.lines none)
 settled read (Some fault) is told = tt
 
-whole : (read : Result Read SchemaFault) → Keeps HasTold read → NodesFormed (then_ok read (λ read. unless_fault read.nodes (first_fault read.nodes read.nodes read.lines)))
+whole : (read : Result Read SchemaFault) → Keeps HasFit read → NodesFormed (and_then read (λ read. unless_fault read.nodes (first_fault read.nodes read.nodes read.lines)))
 whole (Ok read) told = settled read (first_fault read.nodes read.nodes read.lines) refl told
 whole (Err fault) told = tt
 
 pub well_formed : ReadSchemasAreWellFormed
 well_formed text schema is =
-    let lines = kept_parts HasTold (λ number read octets. told_line number read (line_of octets) (line_told octets)) 1 0 nothing_read (parts_of 10 text) none_told in
+    let lines = kept_parts HasFit (λ number read octets. fit_line number read (line_of octets) (line_fit octets)) 1 0 nothing_read (parts_of 10 text) none_fit in
     record { placed = all_placed text schema is; nodes = subst NodesFormed is (whole (read_parts 1 0 nothing_read (parts_of 10 text)) lines) }

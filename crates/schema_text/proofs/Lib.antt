@@ -1,10 +1,8 @@
-pub mod Cuts
+pub mod Declarations
 pub mod Enums
 pub mod Faults
 pub mod Folded
 pub mod Formed
-pub mod Growth
-pub mod LinesTold
 pub mod Placed
 pub mod Taken
 pub mod Utf8

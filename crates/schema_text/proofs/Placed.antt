@@ -1,8 +1,10 @@
 -- The nodes of a schema text have their parents before them, and no names stand twice.
 use Rattle.std.proofs.Common.{◌≡◌, ℕ, List, [], ◌∷◌, ◌++◌, Bool, true, false, not, cond, leb, length, Option, Some, None, Result, Ok, Err, is_some, refl, ap, ◌∙◌, subst}
 use Rattle.base_kinds.specs.Schema.{SchemaNode, node_of}
+use Rattle.plain_texts.specs.Splits.{parts_of}
 use Rattle.schema_core.specs.Nodes.{has_parent, AllPlaced}
 use Rattle.schema_core.proofs.NodeLemmas.{placed_more}
+use Rattle.base_lists.specs.Results.{and_then}
 use Rattle.schema_text.specs.declared.cause.Cause.TheVariants.{NoParent, Twice, TooLarge}
 use Rattle.schema_text.specs.declared.cause.SchemaFault.{SchemaFault}
 use Rattle.schema_text.specs.declared.line.Declared.{Declared}
@@ -10,8 +12,7 @@ use Rattle.schema_text.specs.declared.line.Declared.TheVariants as declared
 use Rattle.schema_text.specs.declared.line.Line.{Line}
 use Rattle.schema_text.specs.declared.line.Line.TheVariants.{Skipped, Module, Node}
 use Rattle.schema_text.specs.Grammar.{line_of}
-use Rattle.schema_text.specs.Parts.{parts_of}
-use Rattle.schema_text.specs.Schemas.{Read, nothing_read, node_in, in_module, with_line, then_ok, read_parts, first_fault, unless_fault, schema_of}
+use Rattle.schema_text.specs.Schemas.{Read, nothing_read, node_in, in_module, with_line, read_parts, first_fault, unless_fault, schema_of}
 use Rattle.schema_text.proofs.Folded.{Keeps, kept_if, kept_parts}
 
 abbrev HasPlaces : Read → Type 0
@@ -49,7 +50,7 @@ kept_settled : (nodes : List SchemaNode) (fault : Option SchemaFault) → AllPla
 kept_settled nodes None placed = placed
 kept_settled nodes (Some fault) placed = tt
 
-kept_whole : (read : Result Read SchemaFault) → KeepsRead read → KeepsNodes (then_ok read (λ read. unless_fault read.nodes (first_fault read.nodes read.nodes read.lines)))
+kept_whole : (read : Result Read SchemaFault) → KeepsRead read → KeepsNodes (and_then read (λ read. unless_fault read.nodes (first_fault read.nodes read.nodes read.lines)))
 kept_whole (Ok read) kept = kept_settled read.nodes (first_fault read.nodes read.nodes read.lines) kept
 kept_whole (Err fault) kept = tt
 

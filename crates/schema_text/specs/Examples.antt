@@ -1,5 +1,7 @@
 -- The grammar and the meaning on worked examples.
 use Rattle.std.specs.Prelude.{◌≡◌, [], ◌∷◌, ◌++◌, codes, refl, true, Some, None, Ok, Err}
+use Rattle.std.specs.Fmt.{digits}
+use Rattle.plain_texts.specs.Numbers.{natural_of}
 use Rattle.base_kinds.specs.declared.schema.Shape.TheVariants as shapes
 use Rattle.schema_text.specs.declared.cause.Cause.TheVariants.{Syntax, NoModule, NoParent, Twice, NoKey, BadRef}
 use Rattle.schema_text.specs.declared.line.Declared.TheVariants as declared
@@ -21,9 +23,11 @@ no_keys : keys_of (codes "k,k") ∷ keys_of (codes "k,") ∷ [] ≡ None ∷ Non
 no_keys = refl
 
 numbers : number_up_to 65536 (codes "65536") ∷ number_up_to 65536 (codes "65537") ∷ number_up_to 65536 (codes "0") ∷ number_up_to 65536 (codes "01") ∷ [] ≡ Some 65536 ∷ None ∷ None ∷ None ∷ []
+unfolding natural_of digits
 numbers = refl
 
 shapes_read : shape_of (codes "int64") ∷ shape_of (codes "dec18") ∷ shape_of (codes "dec19") ∷ shape_of (codes "enum(a|b:1)") ∷ shape_of (codes "enum(a|)") ∷ [] ≡ Some (shapes.Int 64) ∷ Some (shapes.Dec 18) ∷ None ∷ Some (shapes.Enum (codes "a" ∷ codes "b:1" ∷ [])) ∷ None ∷ []
+unfolding natural_of digits
 shapes_read = refl
 
 comment : line_of (codes "# a  b") ≡ Some Skipped
@@ -33,6 +37,7 @@ module_named : line_of (codes "module m") ≡ Some (Module (codes "m"))
 module_named = refl
 
 list_line_read : line_of (codes "list /a k max 2") ≡ Some (Node (codes "a" ∷ []) (declared.List (codes "k" ∷ []) (Some 2)))
+unfolding natural_of digits
 list_line_read = refl
 
 leaf_line_read : line_of (codes "leaf /a string mandatory ref /b") ≡ Some (Node (codes "a" ∷ []) (declared.Leaf shapes.Text true (Some (codes "b" ∷ []))))

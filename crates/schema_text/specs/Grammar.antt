@@ -1,15 +1,17 @@
 -- Which octets are a line of a schema, and what it says, by its fields, with one space between two of them. The line feed
 -- at its end isn't among the octets.
 use Rattle.std.specs.Prelude.{ℕ, List, [], ◌∷◌, true, false, ◌==◌, codes, Option, Some, None, if◌then◌else◌}
-use Rattle.std.specs.Option.{option_map}
+use Rattle.std.specs.Option.{option_map, option_and_then}
 use Rattle.std.specs.Str.{bytes_eq}
 use Rattle.base_kinds.specs.declared.schema.Shape.{Shape}
 use Rattle.schema_text.specs.declared.line.Declared.{Declared}
 use Rattle.schema_text.specs.declared.line.Declared.TheVariants as declared
 use Rattle.schema_text.specs.declared.line.Line.{Line}
 use Rattle.schema_text.specs.declared.line.Line.TheVariants.{Skipped, Module, Node}
-use Rattle.schema_text.specs.Parts.{parts_of}
-use Rattle.schema_text.specs.Words.{then_some, is_name, path_of, keys_of, number_up_to, shape_of}
+use Rattle.plain_texts.specs.Names.{is_name}
+use Rattle.plain_texts.specs.Splits.{parts_of}
+use Rattle.schema_core.specs.WellFormed.{most_elements}
+use Rattle.schema_text.specs.Words.{path_of, keys_of, number_up_to, shape_of}
 
 -- `module NAME`
 abbrev pub module_line : List (List ℕ) → Option Line
@@ -24,12 +26,13 @@ container_line _ = None
 -- nothing, or `max N` with N from 1 to 65,536
 abbrev pub limit_of : List (List ℕ) → Option (Option ℕ)
 limit_of [] = Some None
-limit_of (word ∷ number ∷ []) = if bytes_eq word (codes "max") then option_map (λ most. Some most) (number_up_to 65536 number) else None
+limit_of (word ∷ number ∷ []) = if bytes_eq word (codes "max") then option_map (λ most. Some most) (number_up_to most_elements number) else None
 limit_of _ = None
 
 -- `list PATH KEY,KEY`, which `max N` may follow
 abbrev pub list_line : List (List ℕ) → Option Line
-list_line (path ∷ keys ∷ marks) = then_some (path_of path) (λ names. then_some (keys_of keys) (λ keys. option_map (λ maximum. Node names (declared.List keys maximum)) (limit_of marks)))
+list_line (path ∷ keys ∷ marks) =
+    option_and_then (λ names. option_and_then (λ keys. option_map (λ maximum. Node names (declared.List keys maximum)) (limit_of marks)) (keys_of keys)) (path_of path)
 list_line _ = None
 
 -- nothing, or `ref PATH`
@@ -47,12 +50,14 @@ leaf_of shape (word ∷ marks) =
 
 -- `leaf PATH SHAPE`, which `mandatory` and then `ref PATH` may follow
 abbrev pub leaf_line : List (List ℕ) → Option Line
-leaf_line (path ∷ shape ∷ marks) = then_some (path_of path) (λ names. then_some (shape_of shape) (λ shape. option_map (λ leaf. Node names leaf) (leaf_of shape marks)))
+leaf_line (path ∷ shape ∷ marks) =
+    option_and_then (λ names. option_and_then (λ shape. option_map (λ leaf. Node names leaf) (leaf_of shape marks)) (shape_of shape)) (path_of path)
 leaf_line _ = None
 
 -- `leaf-list PATH SHAPE`, which `max N` may follow
 abbrev pub leaf_list_line : List (List ℕ) → Option Line
-leaf_list_line (path ∷ shape ∷ marks) = then_some (path_of path) (λ names. then_some (shape_of shape) (λ shape. option_map (λ maximum. Node names (declared.LeafList shape maximum)) (limit_of marks)))
+leaf_list_line (path ∷ shape ∷ marks) =
+    option_and_then (λ names. option_and_then (λ shape. option_map (λ maximum. Node names (declared.LeafList shape maximum)) (limit_of marks)) (shape_of shape)) (path_of path)
 leaf_list_line _ = None
 
 -- the first field says what the others are

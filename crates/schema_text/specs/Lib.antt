@@ -3,6 +3,5 @@ pub mod Examples
 pub mod Grammar
 pub mod Kinds
 pub mod Laws
-pub mod Parts
 pub mod Schemas
 pub mod Words

@@ -1,14 +1,12 @@
 -- What a schema text means: its nodes in the order of its lines, or the first fault and its line.
 use Rattle.std.specs.Prelude.{◌≡◌, ℕ, ◌+◌, List, [], ◌∷◌, ◌++◌, Bool, true, false, not, ◌&&◌, ◌||◌, ◌==◌, nat_le, nat_lt, length, Option, Some, None, Result, Ok, Err, is_some, if◌then◌else◌}
 use Rattle.std.specs.List.{list_all}
-use Rattle.std.specs.Str.{bytes_eq}
-use Rattle.base_kinds.specs.Schema.{SchemaNode, node_of, same_names}
-use Rattle.base_kinds.specs.Valid.{if_some}
-use Rattle.base_kinds.specs.declared.schema.Shape.{Shape}
-use Rattle.base_kinds.specs.declared.schema.Shape.TheVariants as shapes
+use Rattle.base_lists.specs.Results.{and_then}
+use Rattle.base_kinds.specs.Schema.{SchemaNode, node_of}
 use Rattle.base_kinds.specs.declared.schema.Sort.TheVariants as sorts
+use Rattle.plain_texts.specs.Splits.{parts_of}
 use Rattle.schema_core.specs.Nodes.{has_parent}
-use Rattle.schema_core.specs.WellFormed.{is_leaf}
+use Rattle.schema_core.specs.WellFormed.{has_key_leaf, has_target}
 use Rattle.schema_text.specs.declared.cause.Cause.{Cause}
 use Rattle.schema_text.specs.declared.cause.Cause.TheVariants.{Syntax, NoModule, NoParent, Twice, TooLarge, NoKey, BadRef}
 use Rattle.schema_text.specs.declared.cause.SchemaFault.{SchemaFault}
@@ -18,7 +16,6 @@ use Rattle.schema_text.specs.declared.line.Declared.{Declared}
 use Rattle.schema_text.specs.declared.line.Declared.TheVariants as declared
 use Rattle.schema_text.specs.declared.line.Line.{Line}
 use Rattle.schema_text.specs.declared.line.Line.TheVariants.{Skipped, Module, Node}
-use Rattle.schema_text.specs.Parts.{parts_of}
 use Rattle.schema_text.specs.Grammar.{line_of}
 
 -- What stands before a line: the nodes so far, the line of each, and the module of those that follow, where one was named.
@@ -76,39 +73,10 @@ abbrev pub at_line : {A : Type 0} → ℕ → Result A Cause → Result A Schema
 at_line number (Err cause) = Err (record { line = number; cause = cause })
 at_line number (Ok value) = Ok value
 
-abbrev pub then_ok : {A B : Type 0} → Result A SchemaFault → (A → Result B SchemaFault) → Result B SchemaFault
-then_ok (Err fault) next = Err fault
-then_ok (Ok value) next = next value
-
 -- the parts from this line on: the first line that can't be taken decides
 abbrev pub read_parts : ℕ → ℕ → Read → List (List ℕ) → Result Read SchemaFault
 read_parts number place read [] = Ok read
-read_parts number place read (part ∷ parts) = then_ok (at_line number (with_part number place read part parts)) (λ more. read_parts (number + 1) (place + length part + 1) more parts)
-
--- the key has a leaf of its list, in the list's module
-abbrev pub has_key_leaf : List SchemaNode → SchemaNode → List ℕ → Bool
-has_key_leaf nodes entries key = if_some (node_of nodes (entries.names ++ key ∷ [])) (λ node. is_leaf node.sort && bytes_eq node.module_name entries.module_name)
-
--- equal shapes: those of enums have the same texts in the same order
-abbrev pub same_shape : Shape → Shape → Bool
-same_shape shapes.Bool shapes.Bool = true
-same_shape (shapes.Int width) (shapes.Int other) = width == other
-same_shape (shapes.Uint width) (shapes.Uint other) = width == other
-same_shape (shapes.Dec places) (shapes.Dec other) = places == other
-same_shape shapes.Text shapes.Text = true
-same_shape shapes.Bin shapes.Bin = true
-same_shape (shapes.Enum texts) (shapes.Enum others) = same_names texts others
-same_shape _ _ = false
-
-abbrev pub same_shapes : Option Shape → Option Shape → Bool
-same_shapes None None = true
-same_shapes (Some shape) (Some other) = same_shape shape other
-same_shapes _ _ = false
-
--- a leaf with no reference, or one with a leaf of equal shape at the names that it refers to, before it or behind it
-abbrev pub has_target : List SchemaNode → Option Shape → Option (List (List ℕ)) → Bool
-has_target nodes shape None = true
-has_target nodes shape (Some names) = if_some (node_of nodes names) (λ node. is_leaf node.sort && same_shapes shape node.shape)
+read_parts number place read (part ∷ parts) = and_then (at_line number (with_part number place read part parts)) (λ more. read_parts (number + 1) (place + length part + 1) more parts)
 
 abbrev pub node_fault : List SchemaNode → SchemaNode → Option Cause
 node_fault nodes node =
@@ -132,7 +100,7 @@ unless_fault nodes (Some fault) = Err fault
 
 -- keys and references count only where every line could be taken
 abbrev pub schema_of : List ℕ → Result (List SchemaNode) SchemaFault
-schema_of text = then_ok (read_parts 1 0 nothing_read (parts_of 10 text)) (λ read. unless_fault read.nodes (first_fault read.nodes read.nodes read.lines))
+schema_of text = and_then (read_parts 1 0 nothing_read (parts_of 10 text)) (λ read. unless_fault read.nodes (first_fault read.nodes read.nodes read.lines))
 
 -- the error tells this fault; want of memory tells nothing
 abbrev pub Tells : {A : Type 0} → SchemaError → Result A SchemaFault → Type 0

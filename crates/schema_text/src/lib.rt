@@ -7,7 +7,6 @@ mod line;
 mod lines;
 mod numbers;
 mod octets;
-mod parts;
 mod reading;
 mod settling;
 mod shapes;

@@ -3,12 +3,13 @@ ghost use Rattle.std.specs.Prelude.{◌≡◌, ◌∷◌, IfOk};
 ghost use Rattle.schema_text.specs.Grammar.{module_line, container_line, limit_of, list_line, reference_of, leaf_of, leaf_line, leaf_list_line, said, line_of};
 
 use crate::line::{Declared, Line};
-use crate::numbers::read_number;
-use crate::octets::{is_name, is_word, text_of};
-use crate::parts::Parts;
+use crate::numbers::number_up_to;
+use crate::octets::is_word;
 use crate::shapes::read_shape;
 use crate::texts::{read_keys, read_path};
 use base_kinds::{NoMemory, Shape, Texts};
+use plain_texts::{Parts, name_text};
+use schema_core::MOST_ELEMENTS;
 use std::alloc::Global;
 
 /// `NAME` of a module.
@@ -21,10 +22,9 @@ fn read_module(alloc: Global, mut fields: Parts) -> Result<Option<Line>, NoMemor
     if !fields.is_empty() {
         return Ok(None);
     }
-    if !is_name(name) {
+    let Some(name) = name_text(alloc, name)? else {
         return Ok(None);
-    }
-    let name = text_of(alloc, name)?;
+    };
     Ok(Some(Line::Module(name)))
 }
 
@@ -55,7 +55,7 @@ fn read_limit(mut fields: Parts) -> Option<Option<u32>>
     if !fields.is_empty() || !is_word(word, b"max") {
         return None;
     }
-    let most = read_number(number, 65_536)?;
+    let most = number_up_to(MOST_ELEMENTS, number)?;
     Some(Some(most))
 }
 

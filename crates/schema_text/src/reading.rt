@@ -1,14 +1,14 @@
 // The lines of a schema text, taken one after the other.
 ghost use Rattle.std.specs.Prelude.{◌≡◌, ◌+◌, ◌≤◌, ◌^◌, length, IfOk, IfErr, OnOk};
 ghost use Rattle.schema_text.specs.Grammar.{line_of};
-ghost use Rattle.schema_text.specs.Parts.{parts_of};
-ghost use Rattle.schema_text.specs.Schemas.{nothing_read, node_in as node_declared, with_node, with_line, is_too_long as too_long, ended_line, last_part, at_line, read_parts, Tells};
+ghost use Rattle.plain_texts.specs.Splits.{parts_of};
+ghost use Rattle.schema_text.specs.Schemas.{nothing_read, node_in, with_node, with_line, is_too_long, ended_line, last_part, at_line, read_parts, Tells};
 
 use crate::cause::{Cause, SchemaError, SchemaFault};
 use crate::line::{Declared, Line};
 use crate::lines::read_line;
-use crate::parts::Parts;
 use base_kinds::{Copied, Text, Texts};
+use plain_texts::Parts;
 use schema_core::{MOST_NODES, Node, Schema};
 use std::alloc::Global;
 use std::marker::Model;
@@ -36,7 +36,7 @@ fn fault(line: u32, cause: Cause) -> SchemaError
 }
 
 fn node_in(alloc: Global, module_name: Text, names: Texts, node: Declared) -> Node
-    ensures { result ≡ node_declared module_name names node }
+    ensures { result ≡ node_in module_name names node }
 {
     match node {
         Declared::Container => Node::container(alloc, module_name, names),
@@ -54,7 +54,7 @@ fn node_in(alloc: Global, module_name: Text, names: Texts, node: Declared) -> No
 fn is_too_long(line: &[u8], place: usize, feeds: usize) -> bool
     requires before { place ≤ 1048576 }
     requires most { feeds ≤ 1 }
-    ensures { result ≡ too_long line.now place feeds }
+    ensures { result ≡ is_too_long line.now place feeds }
 {
     line.len() > 1024 || place + line.len() + feeds > 1_048_576
 }

@@ -2,9 +2,10 @@
 ghost use Rattle.std.specs.Prelude.{◌≡◌, ◌<◌, ℕ, Some, length, slice_get, IfOk, IfErr};
 ghost use Rattle.std.specs.List.{list_all};
 ghost use Rattle.std.specs.Option.{option_map, option_copied};
-ghost use Rattle.base_kinds.specs.Schema.{same_names as names_equal};
-ghost use Rattle.schema_core.specs.WellFormed.{is_leaf as leaf_sort, IsWellFormed};
-ghost use Rattle.schema_text.specs.Schemas.{has_key_leaf as key_leaf_there, same_shape as shapes_equal, same_shapes as both_shapes_equal, has_target as target_there, node_fault as fault_of_node, first_fault as fault_of_nodes, schema_of, Tells};
+ghost use Rattle.base_kinds.specs.Schema.{same_names};
+ghost use Rattle.schema_core.specs.Shapes.{same_shape, same_shapes};
+ghost use Rattle.schema_core.specs.WellFormed.{is_leaf, has_key_leaf, has_target, IsWellFormed};
+ghost use Rattle.schema_text.specs.Schemas.{node_fault, first_fault, schema_of, Tells};
 
 use crate::cause::{Cause, SchemaError, SchemaFault};
 use crate::reading::{Reading, read_lines};
@@ -13,7 +14,7 @@ use schema_core::{Node, NodeId, Schema};
 use std::alloc::Global;
 
 fn is_leaf(sort: Sort) -> bool
-    ensures { result ≡ leaf_sort sort }
+    ensures { result ≡ is_leaf sort }
 {
     match sort {
         Sort::Leaf => true,
@@ -24,7 +25,7 @@ fn is_leaf(sort: Sort) -> bool
 /// Whether the key has a leaf of its list, in the list's module.
 fn has_key_leaf(schema: &Schema, id: NodeId, list: &Node, key: &Text) -> bool
     requires { slice_get schema.now id.0 ≡ Some list.now }
-    ensures { result ≡ key_leaf_there schema.now list.now key.now }
+    ensures { result ≡ has_key_leaf schema.now list.now key.now }
 {
     match schema.child_of(Some(id), key.octets()) {
         None => false,
@@ -37,7 +38,7 @@ fn has_key_leaf(schema: &Schema, id: NodeId, list: &Node, key: &Text) -> bool
 
 fn has_key_leaves(schema: &Schema, id: NodeId, list: &Node, keys: &[Text]) -> bool
     requires { slice_get schema.now id.0 ≡ Some list.now }
-    ensures { result ≡ list_all (key_leaf_there schema.now list.now) keys.now }
+    ensures { result ≡ list_all (has_key_leaf schema.now list.now) keys.now }
 {
     match keys.split_first() {
         None => true,
@@ -48,7 +49,7 @@ fn has_key_leaves(schema: &Schema, id: NodeId, list: &Node, keys: &[Text]) -> bo
 }
 
 fn same_names(names: &[Text], others: &[Text]) -> bool
-    ensures { result ≡ names_equal names.now others.now }
+    ensures { result ≡ same_names names.now others.now }
 {
     match (names.split_first(), others.split_first()) {
         (None, None) => true,
@@ -60,7 +61,7 @@ fn same_names(names: &[Text], others: &[Text]) -> bool
 }
 
 fn same_shape(shape: &Shape, other: &Shape) -> bool
-    ensures { result ≡ shapes_equal shape.now other.now }
+    ensures { result ≡ same_shape shape.now other.now }
 {
     match (shape, other) {
         (Shape::Bool, Shape::Bool) => true,
@@ -75,7 +76,7 @@ fn same_shape(shape: &Shape, other: &Shape) -> bool
 }
 
 fn same_shapes(shape: Option<&Shape>, other: Option<&Shape>) -> bool
-    ensures { result ≡ both_shapes_equal (option_copied shape.entry) (option_copied other.entry) }
+    ensures { result ≡ same_shapes (option_copied shape.entry) (option_copied other.entry) }
 {
     match (shape, other) {
         (None, None) => true,
@@ -86,7 +87,7 @@ fn same_shapes(shape: Option<&Shape>, other: Option<&Shape>) -> bool
 
 /// Whether the node refers to nothing, or to a leaf of an equal shape.
 fn has_target(schema: &Schema, node: &Node) -> bool
-    ensures { result ≡ target_there schema.now node.now.shape node.now.reference }
+    ensures { result ≡ has_target schema.now node.now.shape node.now.reference }
 {
     let Some(names) = node.reference() else {
         return true;
@@ -102,7 +103,7 @@ fn has_target(schema: &Schema, node: &Node) -> bool
 
 fn node_fault(schema: &Schema, id: NodeId) -> Option<Cause>
     requires { id.0 < length schema.now }
-    ensures { option_map (fault_of_node schema.now) (slice_get schema.now id.0) ≡ Some result }
+    ensures { option_map (node_fault schema.now) (slice_get schema.now id.0) ≡ Some result }
 {
     let node = schema.node(id);
     if !has_key_leaves(schema, id, node, node.keys().items()) {
@@ -116,7 +117,7 @@ fn node_fault(schema: &Schema, id: NodeId) -> Option<Cause>
 
 /// The fault of the first node, in the order of the lines, that lacks a key or the leaf that it refers to.
 fn first_fault(schema: &Schema, lines: &[u32]) -> Option<SchemaFault>
-    ensures { result ≡ fault_of_nodes schema.now schema.now lines.now }
+    ensures { result ≡ first_fault schema.now schema.now lines.now }
 {
     for number in 0..schema.nodes() {
         let Some(line) = lines.get(number as usize) else {

@@ -1,15 +1,16 @@
 // The shapes of leaves.
 ghost use Rattle.std.specs.Prelude.{◌≡◌, IfOk};
-ghost use Rattle.schema_text.specs.Words.{word_shape as shape_of_word, integer_shape as shape_of_integer, decimal_shape as shape_of_decimal, enum_shape as shape_of_enum, shape_of};
+ghost use Rattle.schema_text.specs.Words.{word_shape, integer_shape, decimal_shape, enum_shape, shape_of};
 
-use crate::numbers::read_number;
+use crate::numbers::number_up_to;
 use crate::octets::{after, before, is_word};
 use crate::texts::read_enum_texts;
 use base_kinds::{NoMemory, Shape};
+use schema_core::MOST_PLACES;
 use std::alloc::Global;
 
 fn word_shape(field: &[u8]) -> Option<Shape>
-    ensures { result ≡ shape_of_word field.now }
+    ensures { result ≡ word_shape field.now }
 {
     if is_word(field, b"bool") {
         return Some(Shape::Bool);
@@ -24,7 +25,7 @@ fn word_shape(field: &[u8]) -> Option<Shape>
 }
 
 fn integer_shape(field: &[u8]) -> Option<Shape>
-    ensures { result ≡ shape_of_integer field.now }
+    ensures { result ≡ integer_shape field.now }
 {
     if is_word(field, b"int8") {
         return Some(Shape::Int(8));
@@ -55,16 +56,16 @@ fn integer_shape(field: &[u8]) -> Option<Shape>
 
 /// `dec` and a number from 1 to 18.
 fn decimal_shape(field: &[u8]) -> Option<Shape>
-    ensures { result ≡ shape_of_decimal field.now }
+    ensures { result ≡ decimal_shape field.now }
 {
     let digits = after(field, b"dec")?;
-    let places = read_number(digits, 18)?;
+    let places = number_up_to(MOST_PLACES, digits)?;
     Some(Shape::Dec(places as u8))
 }
 
 /// `enum(`, 1 to 256 texts and `)`.
 fn enum_shape(alloc: Global, field: &[u8]) -> Result<Option<Shape>, NoMemory>
-    ensures { IfOk result (λ shape. shape ≡ shape_of_enum field.now) }
+    ensures { IfOk result (λ shape. shape ≡ enum_shape field.now) }
 {
     let Some(opened) = after(field, b"enum(") else {
         return Ok(None);

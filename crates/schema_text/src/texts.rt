@@ -1,14 +1,16 @@
 // Lists of texts: the names of a path, the names of keys, the texts of an enum.
 ghost use Rattle.std.specs.Prelude.{◌≡◌, IfOk};
 ghost use Rattle.std.specs.List.{list_any};
+ghost use Rattle.std.specs.Option.{option_and_then};
 ghost use Rattle.std.specs.Str.{bytes_eq};
-ghost use Rattle.schema_core.specs.WellFormed.{texts_differ};
-ghost use Rattle.schema_text.specs.Words.{then_some, some_parts, distinct, path_of, keys_of, enum_texts};
+ghost use Rattle.schema_core.specs.Shapes.{texts_differ};
+ghost use Rattle.schema_text.specs.Words.{some_parts, distinct, path_of, keys_of, enum_texts};
 ghost use Rattle.schema_text.specs.Kinds.{passes};
 
-use crate::octets::{is_enum_text, is_name, text_of};
-use crate::parts::Parts;
+use crate::octets::is_enum_text;
 use base_kinds::{NoMemory, Seq, Text, Texts};
+use plain_texts::{Parts, is_name, text_of};
+use schema_core::{MOST_ENUM_TEXTS, MOST_KEYS, MOST_NAMES};
 use std::alloc::Global;
 
 #[derive(Clone, Copy)]
@@ -74,7 +76,7 @@ fn read_distinct(
     word: Word,
     most: usize,
 ) -> Result<Option<Texts>, NoMemory>
-    ensures { IfOk result (λ texts. texts ≡ then_some (some_parts (passes word) most parts.entry) distinct) }
+    ensures { IfOk result (λ texts. texts ≡ option_and_then distinct (some_parts (passes word) most parts.entry)) }
 {
     let Some(texts) = read_texts(alloc, parts, word, most)? else {
         return Ok(None);
@@ -96,19 +98,24 @@ pub(crate) fn read_path(alloc: Global, octets: &[u8]) -> Result<Option<Texts>, N
     if !front.is_empty() {
         return Ok(None);
     }
-    read_texts(alloc, names, Word::Name, 32)
+    read_texts(alloc, names, Word::Name, MOST_NAMES)
 }
 
 /// 1 to 8 distinct names with a comma between two of them.
 pub(crate) fn read_keys(alloc: Global, octets: &[u8]) -> Result<Option<Texts>, NoMemory>
     ensures { IfOk result (λ keys. keys ≡ keys_of octets.now) }
 {
-    read_distinct(alloc, Parts::of(octets, b','), Word::Name, 8)
+    read_distinct(alloc, Parts::of(octets, b','), Word::Name, MOST_KEYS)
 }
 
 /// 1 to 256 distinct texts of an enum with `|` between two of them.
 pub(crate) fn read_enum_texts(alloc: Global, octets: &[u8]) -> Result<Option<Texts>, NoMemory>
     ensures { IfOk result (λ texts. texts ≡ enum_texts octets.now) }
 {
-    read_distinct(alloc, Parts::of(octets, b'|'), Word::EnumText, 256)
+    read_distinct(
+        alloc,
+        Parts::of(octets, b'|'),
+        Word::EnumText,
+        MOST_ENUM_TEXTS,
+    )
 }

@@ -1,5 +1,5 @@
 use Rattle.std.proofs.Common.{◌≡◌, ◌≤◌, ◌+◌, length}
-use Rattle.schema_text.specs.Parts.{parts_of}
+use Rattle.plain_texts.specs.Splits.{parts_of}
 use Rattle.schema_text.specs.Schemas.{nothing_read, read_parts}
 use Rattle.schema_text.proofs.reading.read_lines.Given as goal
 

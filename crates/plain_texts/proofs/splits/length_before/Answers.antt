@@ -4,7 +4,7 @@ use Rattle.std.proofs.lemmas.Iterator.{YieldsList-from_slice}
 use Rattle.std.proofs.lemmas.Iterator.Search.{position_from_yields_List}
 use Rattle.std.proofs.lemmas.List.Sums.{prefix_len-le-length}
 use Rattle.std.proofs.lemmas.Bool.{ltb-false}
-use Rattle.schema_text.proofs.parts.length_before.Goals as goal
+use Rattle.plain_texts.proofs.splits.length_before.Goals as goal
 
 place : (n len : ℕ) → n ≤ len → (below : Bool) → ltb n len ≡ below → unwrap_or (cond below (Some n) None) len ≡ n
 place n len most true is = refl

@@ -1,13 +1,13 @@
 // A text cut at a separator, part by part.
 ghost use Rattle.std.specs.Prelude.{◌≡◌, ◌∷◌, ◌==◌, ◌↔◌, [], not, IsTrue, MatchOption};
 ghost use Rattle.std.specs.List.{prefix_len};
-ghost use Rattle.schema_text.specs.Parts.{parts_of};
+ghost use Rattle.plain_texts.specs.Splits.{parts_of, IsCut};
 
 use std::marker::Model;
 
-/// The parts of a text that are still to come.
+/// The parts of a text that are still to come. Contracts see the list of them.
 #[derive(Drop)]
-pub(crate) struct Parts<'a> {
+pub struct Parts<'a> {
     left: Option<&'a [u8]>,
     separator: u8,
 }
@@ -15,7 +15,7 @@ pub(crate) struct Parts<'a> {
 impl<'a> Model for Parts<'a> {
     ghost use Rattle.std.specs.Prelude.{List, ℕ};
     ghost use Rattle.std.specs.Option.{option_map};
-    ghost use Rattle.schema_text.specs.Parts.{parts_left};
+    ghost use Rattle.plain_texts.specs.Splits.{parts_left};
 
     ghost Value = { List (List ℕ) };
 
@@ -23,7 +23,8 @@ impl<'a> Model for Parts<'a> {
 }
 
 impl<'a> Parts<'a> {
-    pub(crate) fn of(octets: &'a [u8], separator: u8) -> Parts<'a>
+    /// The parts between the separators: a text without one is one part, and parts may be empty.
+    pub fn of(octets: &'a [u8], separator: u8) -> Parts<'a>
         ensures { result ≡ parts_of separator octets.now }
     {
         Parts {
@@ -33,11 +34,12 @@ impl<'a> Parts<'a> {
     }
 
     /// Takes the next part off.
-    pub(crate) fn next(&mut self) -> Option<&'a [u8]>
-        ensures { MatchOption result ((self.old ≡ []) × (self.new ≡ [])) (λ part. self.old ≡ part.now ∷ self.new) }
+    pub fn next(&mut self) -> Option<&'a [u8]>
+        ensures { MatchOption result ((self.old ≡ []) × (self.new ≡ []))
+            (λ part. self.old ≡ part.now ∷ self.new) }
     {
         let octets = self.left?;
-        let (part, rest) = octets.split_at(length_before(octets, self.separator));
+        let (part, rest) = cut_before(octets, self.separator);
         let Some((_, others)) = rest.split_first() else {
             self.left = None;
             return Some(part);
@@ -46,7 +48,7 @@ impl<'a> Parts<'a> {
         Some(part)
     }
 
-    pub(crate) fn is_empty(&self) -> bool
+    pub fn is_empty(&self) -> bool
         ensures { IsTrue result ↔ (self.now ≡ []) }
     {
         match self.left {
@@ -54,6 +56,13 @@ impl<'a> Parts<'a> {
             Some(_) => false,
         }
     }
+}
+
+/// What stands before the first separator, and what is left from there on.
+pub fn cut_before(octets: &[u8], separator: u8) -> (&[u8], &[u8])
+    ensures { IsCut separator octets.now result.0.now result.1.now }
+{
+    octets.split_at(length_before(octets, separator))
 }
 
 fn length_before(octets: &[u8], separator: u8) -> usize

@@ -1,0 +1,13 @@
+//! What the texts of schemas, scripts and logs have in common: names, a text cut at a separator, and numbers in decimal.
+//!
+//! The grammar of a NAME is `specs/Names`, a cut is `specs/Splits`, a number is `specs/Numbers`. `is_name`, `Parts`,
+//! `cut_before`, `natural_of` and `put_number` are these definitions as functions over octets.
+#![tactic(auto)]
+
+mod names;
+mod numbers;
+mod splits;
+
+pub use names::{is_in_name, is_name, name_text, text_of};
+pub use numbers::{natural_of, put_number, put_number_line};
+pub use splits::{Parts, cut_before};
