@@ -5,7 +5,8 @@ use Rattle.base_kinds.specs.declared.path.Elem.{Elem}
 -- the fronts of a path that end in an element, each with that element, where this much stands before them
 abbrev pub path_steps_from : List Elem → List Elem → List (List Elem × Elem)
 path_steps_from front [] = []
-path_steps_from front (elem ∷ elems) = (front ++ elem ∷ [], elem) ∷ path_steps_from (front ++ elem ∷ []) elems
+path_steps_from front (elem ∷ elems) =
+    (front ++ elem ∷ [], elem) ∷ path_steps_from (front ++ elem ∷ []) elems
 
 abbrev pub path_steps : List Elem → List (List Elem × Elem)
 path_steps path = path_steps_from [] path

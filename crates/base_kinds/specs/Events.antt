@@ -38,7 +38,8 @@ set_answer rules h reading author (Ok ask) = step rules h reading author ask
 set_answer rules h reading author (Err refusal) = Err refusal
 
 abbrev pub history_after_set : Rules → List Entry → ℕ → ℕ → Result Ask Refusal → List Entry
-history_after_set rules h reading author (Ok ask) = with_answer (after_expiry h reading) (step rules h reading author ask)
+history_after_set rules h reading author (Ok ask) =
+    with_answer (after_expiry h reading) (step rules h reading author ask)
 history_after_set rules h reading author (Err refusal) = h
 
 -- ---- Get
@@ -55,23 +56,28 @@ is_empty_part rows pattern = nat_lt (length (part (pattern ∷ []) rows)) 1
 
 -- a pattern that covers no row is refused (gNMI 3.3.4)
 abbrev pub view_or_not_found : List Entry → List (List Elem) → Result View Refusal
-view_or_not_found h patterns = if list_any (is_empty_part (world_of h).tree) patterns then Err NotFound else Ok (view_of h patterns)
+view_or_not_found h patterns =
+    if list_any (is_empty_part (world_of h).tree) patterns then Err NotFound else Ok (view_of h patterns)
 
 -- a path with too many elements is refused at once; any other ones are read behind the event of the clock
 abbrev pub get_answer : List Entry → ℕ → List (List Elem) → Result View Refusal
-get_answer h reading patterns = if list_any is_long patterns then Err BadPath else view_or_not_found (after_expiry h reading) patterns
+get_answer h reading patterns =
+    if list_any is_long patterns then Err BadPath else view_or_not_found (after_expiry h reading) patterns
 
 abbrev pub history_after_get : List Entry → ℕ → List (List Elem) → List Entry
-history_after_get h reading patterns = if list_any is_long patterns then h else after_expiry h reading
+history_after_get h reading patterns =
+    if list_any is_long patterns then h else after_expiry h reading
 
 -- ---- events
 
 abbrev pub request_answer : Rules → List Entry → ℕ → ℕ → Request → Answer
-request_answer rules h reading author (Set resolved) = OfSet (set_answer rules h reading author resolved)
+request_answer rules h reading author (Set resolved) =
+    OfSet (set_answer rules h reading author resolved)
 request_answer rules h reading author (Get patterns) = OfGet (get_answer h reading patterns)
 
 abbrev pub history_after_request : Rules → List Entry → ℕ → ℕ → Request → List Entry
-history_after_request rules h reading author (Set resolved) = history_after_set rules h reading author resolved
+history_after_request rules h reading author (Set resolved) =
+    history_after_set rules h reading author resolved
 history_after_request rules h reading author (Get patterns) = history_after_get h reading patterns
 
 abbrev pub event_answer : Rules → List Entry → Event → Answer
@@ -83,8 +89,10 @@ history_after rules h event = history_after_request rules h event.reading event.
 -- the answers to events that come one after another, and the history behind them all
 abbrev pub event_answers : Rules → List Entry → List Event → List Answer
 event_answers rules h [] = []
-event_answers rules h (event ∷ events) = event_answer rules h event ∷ event_answers rules (history_after rules h event) events
+event_answers rules h (event ∷ events) =
+    event_answer rules h event ∷ event_answers rules (history_after rules h event) events
 
 abbrev pub history_after_all : Rules → List Entry → List Event → List Entry
 history_after_all rules h [] = h
-history_after_all rules h (event ∷ events) = history_after_all rules (history_after rules h event) events
+history_after_all rules h (event ∷ events) =
+    history_after_all rules (history_after rules h event) events

@@ -9,7 +9,9 @@ use Rattle.base_kinds.specs.Tree.{effect}
 -- numbers go on from this one, and stamps rise above this one
 abbrev pub IsNumberedFrom : ℕ → ℕ → List Entry → Type 0
 IsNumberedFrom number stamp [] = Unit {0}
-IsNumberedFrom number stamp (entry ∷ entries) = (entry.number ≡ number) × (stamp < entry.stamp) × IsNumberedFrom (number + 1) entry.stamp entries
+IsNumberedFrom number stamp (entry ∷ entries) =
+    (entry.number ≡ number) × (stamp < entry.stamp) ×
+    IsNumberedFrom (number + 1) entry.stamp entries
 
 -- numbers count from 1, and stamps rise from 1 on
 abbrev pub IsHistory : List Entry → Type 0
@@ -51,12 +53,14 @@ extended deadline (Some trial) = Some (record trial { deadline = deadline })
 -- the state after an entry of this kind
 abbrev pub world_after : Kind → World → World
 world_after (kinds.Apply ops) world = record { tree = effect ops world.tree; trial = None }
-world_after (kinds.Trial id ops deadline) world = record { tree = effect ops world.tree; trial = Some (record { id = id; before = world.tree; deadline = deadline }) }
+world_after (kinds.Trial id ops deadline) world =
+    record { tree = effect ops world.tree; trial = Some (record { id = id; before = world.tree; deadline = deadline }) }
 world_after kinds.Confirm world = record { tree = world.tree; trial = None }
 world_after kinds.Cancel world = record { tree = tree_before world.tree world.trial; trial = None }
 world_after kinds.Expire world = record { tree = tree_before world.tree world.trial; trial = None }
 world_after kinds.Restart world = record { tree = tree_before world.tree world.trial; trial = None }
-world_after (kinds.Extend deadline) world = record { tree = world.tree; trial = extended deadline world.trial }
+world_after (kinds.Extend deadline) world =
+    record { tree = world.tree; trial = extended deadline world.trial }
 
 -- the state after these entries, from this state on
 abbrev pub world_from : World → List Entry → World

@@ -52,7 +52,9 @@ has_fit_rows Update rows = true
 
 -- the rows of an operation rise by path
 abbrev pub is_fit_op : Op → Bool
-is_fit_op op = is_fit_path op.path && has_fit_rows op.act op.rows && list_all is_fit_row op.rows && rises (λ a b. path_cmp a.path b.path) op.rows
+is_fit_op op =
+    is_fit_path op.path && has_fit_rows op.act op.rows && list_all is_fit_row op.rows
+    && rises (λ a b. path_cmp a.path b.path) op.rows
 
 abbrev pub AreFitOps : List Op → Type 0
 AreFitOps ops = IsTrue (list_all is_fit_op ops)
@@ -101,7 +103,8 @@ Gives rules h entry = IsExpiry h entry ⊎ IsAnswer rules h entry
 -- each further entry is given over the entries before it
 abbrev pub GivenInTurn : Rules → List Entry → List Entry → Type 0
 GivenInTurn rules h [] = Unit {0}
-GivenInTurn rules h (entry ∷ entries) = Gives rules h entry × GivenInTurn rules (h ++ entry ∷ []) entries
+GivenInTurn rules h (entry ∷ entries) =
+    Gives rules h entry × GivenInTurn rules (h ++ entry ∷ []) entries
 
 -- The history is the base and entries that were given in turn. The base is the history that an opening gave, its
 -- Restart included: that entry answers no ask, and an earlier run may have had another schema.

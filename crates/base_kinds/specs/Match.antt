@@ -16,11 +16,15 @@ prefixes (elem ∷ elems) = [] ∷ map (λ front. elem ∷ front) (prefixes elem
 
 -- the pattern's key has the value `*`, or stands in the element with its value
 abbrev pub key_matches : Elem → List ℕ × List ℕ → Bool
-key_matches elem key = bytes_eq key.1 (codes "*") || list_any (λ other. bytes_eq key.0 other.0 && bytes_eq key.1 other.1) elem.keys
+key_matches elem key =
+    bytes_eq key.1 (codes "*")
+    || list_any (λ other. bytes_eq key.0 other.0 && bytes_eq key.1 other.1) elem.keys
 
 -- the pattern's name is `*` or the element's, and so is each key that the pattern names
 abbrev pub elem_matches : Elem → Elem → Bool
-elem_matches pattern elem = (bytes_eq pattern.name (codes "*") || bytes_eq pattern.name elem.name) && list_all (key_matches elem) pattern.keys
+elem_matches pattern elem =
+    (bytes_eq pattern.name (codes "*") || bytes_eq pattern.name elem.name)
+    && list_all (key_matches elem) pattern.keys
 
 -- the first element matches, and the rest passes the test
 abbrev pub first_matches : Elem → (List Elem → Bool) → List Elem → Bool

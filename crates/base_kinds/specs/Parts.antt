@@ -16,7 +16,8 @@ part patterns rows = filter (λ row. is_covered patterns row.path) rows
 -- the first line that covers the path is in the group: a line is a pattern and the number of its group
 abbrev pub is_in_group : List (List Elem × ℕ) → ℕ → List Elem → Bool
 is_in_group [] group path = false
-is_in_group (line ∷ lines) group path = if covers line.0 path then line.1 == group else is_in_group lines group path
+is_in_group (line ∷ lines) group path =
+    if covers line.0 path then line.1 == group else is_in_group lines group path
 
 -- the rows of a group: each row belongs to the first line that covers it
 abbrev pub own : List (List Elem × ℕ) → ℕ → List Row → List Row

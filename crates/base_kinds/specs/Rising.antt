@@ -26,12 +26,14 @@ value_at path (row ∷ rows) = if same_path row.path path then Some row.value el
 -- the value of the last of these rows that has the path, or else this one
 abbrev pub last_value : List Elem → List Row → Option Value → Option Value
 last_value path [] old = old
-last_value path (row ∷ rows) old = last_value path rows (if same_path row.path path then Some row.value else old)
+last_value path (row ∷ rows) old =
+    last_value path rows (if same_path row.path path then Some row.value else old)
 
 -- what an operation leaves at a path where this stood
 abbrev pub value_after : Act → Op → List Elem → Option Value → Option Value
 value_after Delete op path old = if covers op.path path then None else old
-value_after Replace op path old = last_value path op.rows (if covers op.path path then None else old)
+value_after Replace op path old =
+    last_value path op.rows (if covers op.path path then None else old)
 value_after Update op path old = last_value path op.rows old
 
 -- what operations leave there, one after another

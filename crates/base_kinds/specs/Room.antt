@@ -35,8 +35,10 @@ CanClose limits h (Some trial) = HasRoom limits h 1 closing_octets
 -- the room that an ask needs whose entry's record has so many octets
 abbrev pub HasRoomFor : Limits → List Entry → ℕ → Ask → Type 0
 HasRoomFor limits h octets (asks.Apply ops) = HasRoom limits h 1 (octets + gate_octets)
-HasRoomFor limits h octets (asks.Trial id ops duration) = HasRoom limits h 2 (octets + (gate_octets + closing_octets))
-HasRoomFor limits h octets (asks.Extend id duration) = HasRoom limits h 2 (octets + (gate_octets + closing_octets))
+HasRoomFor limits h octets (asks.Trial id ops duration) =
+    HasRoom limits h 2 (octets + (gate_octets + closing_octets))
+HasRoomFor limits h octets (asks.Extend id duration) =
+    HasRoom limits h 2 (octets + (gate_octets + closing_octets))
 HasRoomFor limits h octets (asks.Confirm id) = Unit {0}
 HasRoomFor limits h octets (asks.Cancel id) = Unit {0}
 

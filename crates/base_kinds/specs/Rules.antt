@@ -14,7 +14,9 @@ size_of h = empty_log_octets + sum_by (λ entry. gate_octets + record_octets ent
 
 -- the log has room for so many further entries and octets
 abbrev pub limited : Limits → List Entry → ℕ → ℕ → Bool
-limited limits h entries octets = nat_le (length h + entries) limits.entries && nat_le (size_of h + octets) limits.octets
+limited limits h entries octets =
+    nat_le (length h + entries) limits.entries && nat_le (size_of h + octets) limits.octets
 
 abbrev pub rules_of : List SchemaNode → Limits → Rules
-rules_of schema limits = record { valid = valid schema; fits = fits; record_octets = record_octets; has_room = limited limits }
+rules_of schema limits =
+    record { valid = valid schema; fits = fits; record_octets = record_octets; has_room = limited limits }

@@ -6,16 +6,23 @@ use Rattle.base_kinds.specs.declared.path.Elem.{Elem}
 use Rattle.base_kinds.specs.declared.schema.Shape.{Shape}
 use Rattle.base_kinds.specs.declared.schema.Sort.{Sort}
 
--- A node: the names from the root to it, its sort, the shape of a leaf or a leaf-list, the names of a list's keys, its
--- module, whether a leaf is mandatory, the names of the leaf that it refers to, and how many entries or values it may have.
+-- A node, in the words of RFC 7950 in brackets.
 pub record SchemaNode : Type 0 where
+  -- the names from the root to it
   pub names : List (List ℕ)
+  -- container, list, leaf or leaf-list (4.2.2)
   pub sort : Sort
+  -- the type of a leaf or a leaf-list (4.2.4, 9)
   pub shape : Option Shape
+  -- the names of a list's keys (key, 7.8.2)
   pub keys : List (List ℕ)
+  -- the name of its module (7.1)
   pub module_name : List ℕ
+  -- a leaf has to be there wherever its parent is (mandatory, 7.6.5)
   pub is_mandatory : Bool
+  -- the names of the leaf whose values it takes (leafref, 9.9)
   pub reference : Option (List (List ℕ))
+  -- how many entries or values it may have (max-elements, 7.7.6)
   pub maximum : Option ℕ
 
 -- the names of a path's elements
@@ -28,7 +35,8 @@ same_names = pointwise bytes_eq
 -- the node with these names
 abbrev pub node_of : List SchemaNode → List (List ℕ) → Option SchemaNode
 node_of [] names = None
-node_of (node ∷ nodes) names = if same_names node.names names then Some node else node_of nodes names
+node_of (node ∷ nodes) names =
+    if same_names node.names names then Some node else node_of nodes names
 
 -- the node of a path
 abbrev pub node_at : List SchemaNode → List Elem → Option SchemaNode

@@ -37,7 +37,8 @@ new_stamp h now = max (clamped_reading now) (stamp_of h + 1)
 
 -- the entry that comes next
 abbrev pub next_entry : List Entry → ℕ → ℕ → Kind → Entry
-next_entry h stamp author kind = record { number = length h + 1; author = author; stamp = stamp; kind = kind }
+next_entry h stamp author kind =
+    record { number = length h + 1; author = author; stamp = stamp; kind = kind }
 
 -- the open trial has come to its deadline
 abbrev pub is_past : Option OpenTrial → ℕ → Bool
@@ -49,7 +50,8 @@ is_due h now = is_past (world_of h).trial (time_at h now)
 
 -- a trial that is due expires before anything else
 abbrev pub after_expiry : List Entry → ℕ → List Entry
-after_expiry h now = if is_due h now then h ++ next_entry h (new_stamp h now) 0 kinds.Expire ∷ [] else h
+after_expiry h now =
+    if is_due h now then h ++ next_entry h (new_stamp h now) 0 kinds.Expire ∷ [] else h
 
 abbrev pub is_open : Option OpenTrial → Bool
 is_open None = false
@@ -69,7 +71,8 @@ kind_of_ask stamp (asks.Cancel id) = kinds.Cancel
 kind_of_ask stamp (asks.Extend id duration) = kinds.Extend (stamp + duration)
 
 -- The cases in which operations are refused, in this order.
-abbrev pub refusal_cases_of_ops : Rules → List Entry → World → List Op → ℕ → ℕ → List (Bool × Refusal)
+abbrev pub refusal_cases_of_ops : Rules → List Entry → World → List Op → ℕ → ℕ →
+    List (Bool × Refusal)
 refusal_cases_of_ops rules h world ops entries octets =
     (is_open world.trial, TrialOpen)
     ∷ (not (rules.valid (effect ops world.tree)), TreeInvalid)
@@ -77,13 +80,16 @@ refusal_cases_of_ops rules h world ops entries octets =
     ∷ (not (rules.has_room h entries octets), LogFull) ∷ []
 
 abbrev pub refusal_cases_of_trial : World → List ℕ → List (Bool × Refusal) → List (Bool × Refusal)
-refusal_cases_of_trial world id others = (not (is_open world.trial), NoTrial) ∷ (is_other world.trial id, WrongId) ∷ others
+refusal_cases_of_trial world id others =
+    (not (is_open world.trial), NoTrial) ∷ (is_other world.trial id, WrongId) ∷ others
 
 -- The cases in which the ask is refused, whose entry's record has so many octets. A trial that is open behind the entry can
 -- still be closed: there is room for that entry too.
 abbrev pub refusal_cases : Rules → List Entry → World → Ask → ℕ → List (Bool × Refusal)
-refusal_cases rules h world (asks.Apply ops) octets = refusal_cases_of_ops rules h world ops 1 (octets + gate_octets)
-refusal_cases rules h world (asks.Trial id ops duration) octets = refusal_cases_of_ops rules h world ops 2 (octets + (gate_octets + closing_octets))
+refusal_cases rules h world (asks.Apply ops) octets =
+    refusal_cases_of_ops rules h world ops 1 (octets + gate_octets)
+refusal_cases rules h world (asks.Trial id ops duration) octets =
+    refusal_cases_of_ops rules h world ops 2 (octets + (gate_octets + closing_octets))
 refusal_cases rules h world (asks.Confirm id) octets = refusal_cases_of_trial world id []
 refusal_cases rules h world (asks.Cancel id) octets = refusal_cases_of_trial world id []
 refusal_cases rules h world (asks.Extend id duration) octets =

@@ -29,7 +29,9 @@ escaped test octets = flat_map (octet_text test) octets
 
 -- letters, digits, `_`, `.`, `-` and `*`
 abbrev pub is_name_octet : ℕ → Bool
-is_name_octet octet = is_within 65 90 octet || is_within 97 122 octet || is_within 48 57 octet || octet == 95 || octet == 46 || octet == 45 || octet == 42
+is_name_octet octet =
+    is_within 65 90 octet || is_within 97 122 octet || is_within 48 57 octet || octet == 95
+    || octet == 46 || octet == 45 || octet == 42
 
 -- from `!` to `~`, but neither `\` nor `]`
 abbrev pub is_key_octet : ℕ → Bool
@@ -75,9 +77,10 @@ abbrev pub fraction : List ℕ → List ℕ
 fraction [] = 48 ∷ []
 fraction (digit ∷ digits) = digit ∷ without_last_zeros digits
 
--- a number divided by 10 to the so-manieth
+-- the number divided by 10 to the power of `places`
 abbrev pub scaled_text : ℕ → ℕ → List ℕ
-scaled_text number places = decimal (number / 10 ^ places) ++ (46 ∷ fraction (last_digits places number))
+scaled_text number places =
+    decimal (number / 10 ^ places) ++ (46 ∷ fraction (last_digits places number))
 
 -- a decimal64 (RFC 7950 9.3): a `-` where it is negative, the whole part, `.`, and the fraction
 abbrev pub dec_text : ℤ → ℕ → List ℕ

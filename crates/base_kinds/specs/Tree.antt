@@ -20,7 +20,8 @@ placed Greater row first others set = row ∷ first ∷ others
 -- the tree with the row's value at the row's path
 abbrev pub set_row : Row → List Row → List Row
 set_row row [] = row ∷ []
-set_row row (first ∷ others) = placed (path_cmp first.path row.path) row first others (set_row row others)
+set_row row (first ∷ others) =
+    placed (path_cmp first.path row.path) row first others (set_row row others)
 
 -- each row is set, in order
 abbrev pub set_rows : List Row → List Row → List Row
@@ -57,4 +58,5 @@ with_act act ops = filter (λ op. is_act act op.act) ops
 
 -- the deletes, then the replaces, then the updates, each in list order (gNMI 3.4.3)
 abbrev pub effect : List Op → List Row → List Row
-effect ops tree = in_turn (with_act Update ops) (in_turn (with_act Replace ops) (in_turn (with_act Delete ops) tree))
+effect ops tree =
+    in_turn (with_act Update ops) (in_turn (with_act Replace ops) (in_turn (with_act Delete ops) tree))

@@ -34,13 +34,17 @@ is_leafy sorts.LeafList = true
 is_leafy _ = false
 
 abbrev pub has_just_keys : Elem → List (List ℕ) → Bool
-has_just_keys elem keys = length elem.keys == length keys && list_all (λ key. list_any (λ pair. bytes_eq key pair.0) elem.keys) keys
+has_just_keys elem keys =
+    length elem.keys == length keys
+    && list_all (λ key. list_any (λ pair. bytes_eq key pair.0) elem.keys) keys
 
 abbrev pub step_has_node : List SchemaNode → List Elem × Elem → Bool
 step_has_node schema step = if_some (node_at schema step.0) (λ node. has_just_keys step.1 node.keys)
 
 abbrev pub row_has_nodes : List SchemaNode → Row → Bool
-row_has_nodes schema row = if_some (node_at schema row.path) (λ node. is_leafy node.sort) && list_all (step_has_node schema) (path_steps row.path)
+row_has_nodes schema row =
+    if_some (node_at schema row.path) (λ node. is_leafy node.sort)
+    && list_all (step_has_node schema) (path_steps row.path)
 
 abbrev pub nodes_exist : List SchemaNode → List Row → Bool
 nodes_exist schema rows = list_all (row_has_nodes schema) rows
@@ -48,21 +52,25 @@ nodes_exist schema rows = list_all (row_has_nodes schema) rows
 -- 2: each value has its node's shape; a leaf-list has a list of such values, no two of them equal
 abbrev pub has_type : Sort → Shape → Value → Bool
 has_type sorts.Leaf shape value = has_shape shape value
-has_type sorts.LeafList shape value = is_list value && list_all (has_shape shape) (values_in value) && all_differ (values_in value)
+has_type sorts.LeafList shape value =
+    is_list value && list_all (has_shape shape) (values_in value) && all_differ (values_in value)
 has_type _ shape value = false
 
 abbrev pub row_has_type : List SchemaNode → Row → Bool
-row_has_type schema row = if_some (node_at schema row.path) (λ node. if_some node.shape (λ shape. has_type node.sort shape row.value))
+row_has_type schema row =
+    if_some (node_at schema row.path) (λ node. if_some node.shape (λ shape. has_type node.sort shape row.value))
 
 abbrev pub types_hold : List SchemaNode → List Row → Bool
 types_hold schema rows = list_all (row_has_type schema) rows
 
 -- 3: each element with keys has its key leaves as rows, and their key texts are the keys
 abbrev pub has_key_leaf : List Row → List Elem → List ℕ × List ℕ → Bool
-has_key_leaf rows instance key = list_any (λ row. same_path row.path (child instance key.0) && bytes_eq (key_text row.value) key.1) rows
+has_key_leaf rows instance key =
+    list_any (λ row. same_path row.path (child instance key.0) && bytes_eq (key_text row.value) key.1) rows
 
 abbrev pub row_has_keys : List Row → Row → Bool
-row_has_keys rows row = list_all (λ step. list_all (has_key_leaf rows step.0) step.1.keys) (path_steps row.path)
+row_has_keys rows row =
+    list_all (λ step. list_all (has_key_leaf rows step.0) step.1.keys) (path_steps row.path)
 
 abbrev pub keys_hold : List Row → Bool
 keys_hold rows = list_all (row_has_keys rows) rows
@@ -73,20 +81,26 @@ has_row rows path = list_any (λ row. same_path row.path path) rows
 
 -- the leaf stands below the instance, if that is one of the leaf's parent
 abbrev pub stands_below : List Row → List (List ℕ) → List Elem → Bool
-stands_below rows names instance = not (same_names (names_of instance) (parent_names names)) || has_row rows (child instance (own_name names))
+stands_below rows names instance =
+    not (same_names (names_of instance) (parent_names names))
+    || has_row rows (child instance (own_name names))
 
 abbrev pub node_is_present : List Row → SchemaNode → Bool
-node_is_present rows node = not node.is_mandatory || list_all (λ row. list_all (stands_below rows node.names) (ancestors row.path)) rows
+node_is_present rows node =
+    not node.is_mandatory
+    || list_all (λ row. list_all (stands_below rows node.names) (ancestors row.path)) rows
 
 abbrev pub mandatory_present : List SchemaNode → List Row → Bool
 mandatory_present schema rows = list_all (node_is_present rows) schema
 
 -- 5: the value of a leaf that refers to another one is the value of some row of that leaf
 abbrev pub refers : List Row → Value → List (List ℕ) → Bool
-refers rows value names = list_any (λ row. same_names (names_of row.path) names && same_scalar row.value value) rows
+refers rows value names =
+    list_any (λ row. same_names (names_of row.path) names && same_scalar row.value value) rows
 
 abbrev pub row_resolves : List SchemaNode → List Row → Row → Bool
-row_resolves schema rows row = if_some (node_at schema row.path) (λ node. unless_none node.reference (refers rows row.value))
+row_resolves schema rows row =
+    if_some (node_at schema row.path) (λ node. unless_none node.reference (refers rows row.value))
 
 abbrev pub leafrefs_resolve : List SchemaNode → List Row → Bool
 leafrefs_resolve schema rows = list_all (row_resolves schema rows) rows
@@ -94,18 +108,22 @@ leafrefs_resolve schema rows = list_all (row_resolves schema rows) rows
 -- 6: no list has more entries in one instance of its parent, and no leaf-list more values, than its maximum
 abbrev pub each_once : List (List Elem) → List (List Elem)
 each_once [] = []
-each_once (path ∷ paths) = if list_any (same_path path) paths then each_once paths else path ∷ each_once paths
+each_once (path ∷ paths) =
+    if list_any (same_path path) paths then each_once paths else path ∷ each_once paths
 
 -- the entries of the lists with these names: the instances that some row stands below
 abbrev pub entries_of : List Row → List (List ℕ) → List (List Elem)
-entries_of rows names = each_once (filter (λ instance. same_names (names_of instance) names) (flat_map (λ row. ancestors row.path) rows))
+entries_of rows names =
+    each_once (filter (λ instance. same_names (names_of instance) names) (flat_map (λ row. ancestors row.path) rows))
 
 -- so many of the paths at most have the same path above them
 abbrev pub few_beside : ℕ → List (List Elem) → Bool
-few_beside most paths = list_all (λ path. nat_le (length (filter (λ other. same_path (parent_of other) (parent_of path)) paths)) most) paths
+few_beside most paths =
+    list_all (λ path. nat_le (length (filter (λ other. same_path (parent_of other) (parent_of path)) paths)) most) paths
 
 abbrev pub few_values : ℕ → List Row → List (List ℕ) → Bool
-few_values most rows names = list_all (λ row. not (same_names (names_of row.path) names) || nat_le (length (values_in row.value)) most) rows
+few_values most rows names =
+    list_all (λ row. not (same_names (names_of row.path) names) || nat_le (length (values_in row.value)) most) rows
 
 abbrev pub is_in_maximum : Sort → List (List ℕ) → List Row → ℕ → Bool
 is_in_maximum sorts.List names rows most = few_beside most (entries_of rows names)
@@ -120,7 +138,10 @@ max_elements_hold schema rows = list_all (node_in_maximum rows) schema
 
 -- the six rules
 abbrev pub valid : List SchemaNode → List Row → Bool
-valid schema rows = nodes_exist schema rows && types_hold schema rows && keys_hold rows && mandatory_present schema rows && leafrefs_resolve schema rows && max_elements_hold schema rows
+valid schema rows =
+    nodes_exist schema rows && types_hold schema rows && keys_hold rows
+    && mandatory_present schema rows && leafrefs_resolve schema rows
+    && max_elements_hold schema rows
 
 -- the same as facts
 pub record IsValid (schema : List SchemaNode) (rows : List Row) : Type 0 where

@@ -1,3 +1,4 @@
+pub mod Fits
 pub mod Matches
 pub mod Samples
 pub mod Steps

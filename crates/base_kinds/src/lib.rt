@@ -15,10 +15,6 @@ mod record;
 mod refusal;
 mod request;
 mod schema;
-#[cfg(test)]
-mod size_tests;
-#[cfg(test)]
-mod tests;
 mod tree;
 mod value;
 

@@ -6,7 +6,9 @@ use Rattle.base_kinds.specs.Rising.{IsRising}
 
 -- one more entry changes the state by what its kind says
 abbrev pub StateAfterOne : Type 0
-StateAfterOne = (h : List Entry) (entry : Entry) → world_of (h ++ entry ∷ []) ≡ world_after entry.kind (world_of h)
+StateAfterOne =
+    (h : List Entry) (entry : Entry) →
+    world_of (h ++ entry ∷ []) ≡ world_after entry.kind (world_of h)
 
 -- and so do more entries, one after another
 abbrev pub StateAfterMore : Type 0
@@ -18,7 +20,9 @@ StampAfterOne = (h : List Entry) (entry : Entry) → stamp_of (h ++ entry ∷ []
 
 -- an entry with the next number and a later stamp goes on with a history
 abbrev pub NextGoesOn : Type 0
-NextGoesOn = (h : List Entry) (entry : Entry) → IsHistory h → entry.number ≡ length h + 1 → stamp_of h < entry.stamp → IsHistory (h ++ entry ∷ [])
+NextGoesOn =
+    (h : List Entry) (entry : Entry) → IsHistory h → entry.number ≡ length h + 1 →
+    stamp_of h < entry.stamp → IsHistory (h ++ entry ∷ [])
 
 -- a front of a history is one
 abbrev pub FrontsAreHistories : Type 0
@@ -30,4 +34,5 @@ TreesRise = (h : List Entry) → IsRising (world_of h).tree
 
 -- and so do those of the tree before an open trial
 abbrev pub TreesBeforeRise : Type 0
-TreesBeforeRise = (h : List Entry) (trial : OpenTrial) → (world_of h).trial ≡ Some trial → IsRising trial.before
+TreesBeforeRise =
+    (h : List Entry) (trial : OpenTrial) → (world_of h).trial ≡ Some trial → IsRising trial.before

@@ -25,12 +25,21 @@ NoRowsAreSound = (schema : List SchemaNode) → IsSound schema []
 
 -- accepted operations make a sound tree, whatever the tree before was
 abbrev pub AcceptedTreesAreSound : Type 0
-AcceptedTreesAreSound = (schema : List SchemaNode) (limits : Limits) (h : List Entry) (now author : ℕ) (ask : Ask) (entry : Entry) (ops : List Op) → AsksOperations ops ask → judge (rules_of schema limits) h now author ask ≡ Ok entry → IsSound schema (effect ops (world_of h).tree)
+AcceptedTreesAreSound =
+    (schema : List SchemaNode) (limits : Limits) (h : List Entry) (now author : ℕ) (ask : Ask) (entry : Entry) (ops : List Op) →
+    AsksOperations ops ask → judge (rules_of schema limits) h now author ask ≡ Ok entry →
+    IsSound schema (effect ops (world_of h).tree)
 
 -- each given entry keeps the trees sound, that before an open trial too
 abbrev pub GivenKeepsSound : Type 0
-GivenKeepsSound = (schema : List SchemaNode) (limits : Limits) (h : List Entry) (entry : Entry) → HasSoundTrees schema (world_of h) → Gives (rules_of schema limits) h entry → HasSoundTrees schema (world_of (h ++ entry ∷ []))
+GivenKeepsSound =
+    (schema : List SchemaNode) (limits : Limits) (h : List Entry) (entry : Entry) →
+    HasSoundTrees schema (world_of h) → Gives (rules_of schema limits) h entry →
+    HasSoundTrees schema (world_of (h ++ entry ∷ []))
 
 -- and so the trees of every legal history are sound
 abbrev pub LegalTreesAreSound : Type 0
-LegalTreesAreSound = (schema : List SchemaNode) (limits : Limits) (base h : List Entry) → HasSoundTrees schema (world_of base) → IsLegal (rules_of schema limits) base h → HasSoundTrees schema (world_of h)
+LegalTreesAreSound =
+    (schema : List SchemaNode) (limits : Limits) (base h : List Entry) →
+    HasSoundTrees schema (world_of base) → IsLegal (rules_of schema limits) base h →
+    HasSoundTrees schema (world_of h)

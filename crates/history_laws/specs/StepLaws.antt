@@ -16,23 +16,35 @@ ClockKeepsHistory = (h : List Entry) (now : ℕ) → IsHistory h → IsHistory (
 
 -- and so does an ask behind it
 abbrev pub EventKeepsHistory : Type 0
-EventKeepsHistory = (rules : Rules) (h : List Entry) (event : Event) → IsHistory h → IsHistory (history_after rules h event)
+EventKeepsHistory =
+    (rules : Rules) (h : List Entry) (event : Event) → IsHistory h →
+    IsHistory (history_after rules h event)
 
 -- whatever is asked, entry numbers count from 1 and stamps rise
 abbrev pub EventsKeepHistory : Type 0
-EventsKeepHistory = (rules : Rules) (h : List Entry) (events : List Event) → IsHistory h → IsHistory (history_after_all rules h events)
+EventsKeepHistory =
+    (rules : Rules) (h : List Entry) (events : List Event) → IsHistory h →
+    IsHistory (history_after_all rules h events)
 
 -- and no stamp gets far behind the year 2100
 abbrev pub EventsKeepBound : Type 0
-EventsKeepBound = (rules : Rules) (h : List Entry) (events : List Event) → IsHistory h → AreBounded h → AreBounded (history_after_all rules h events)
+EventsKeepBound =
+    (rules : Rules) (h : List Entry) (events : List Event) → IsHistory h → AreBounded h →
+    AreBounded (history_after_all rules h events)
 
 -- an accepted ask adds its entry behind the clock's event
 abbrev pub AcceptedAddsOne : Type 0
-AcceptedAddsOne = (rules : Rules) (h : List Entry) (now author : ℕ) (ask : Ask) (entry : Entry) → step rules h now author ask ≡ Ok entry → history_after_set rules h now author (Ok ask) ≡ after_expiry h now ++ entry ∷ []
+AcceptedAddsOne =
+    (rules : Rules) (h : List Entry) (now author : ℕ) (ask : Ask) (entry : Entry) →
+    step rules h now author ask ≡ Ok entry →
+    history_after_set rules h now author (Ok ask) ≡ after_expiry h now ++ entry ∷ []
 
 -- a refused ask leaves the history as it was, but for the clock's event
 abbrev pub RefusedAddsNone : Type 0
-RefusedAddsNone = (rules : Rules) (h : List Entry) (now author : ℕ) (ask : Ask) (refusal : Refusal) → step rules h now author ask ≡ Err refusal → history_after_set rules h now author (Ok ask) ≡ after_expiry h now
+RefusedAddsNone =
+    (rules : Rules) (h : List Entry) (now author : ℕ) (ask : Ask) (refusal : Refusal) →
+    step rules h now author ask ≡ Err refusal →
+    history_after_set rules h now author (Ok ask) ≡ after_expiry h now
 
 -- why an ask may be refused over a history
 abbrev pub is_refusal_of_judge : Refusal → Bool
@@ -46,28 +58,44 @@ is_refusal_of_judge _ = false
 
 -- there is no other refusal
 abbrev pub RefusedForSix : Type 0
-RefusedForSix = (rules : Rules) (h : List Entry) (now author : ℕ) (ask : Ask) (refusal : Refusal) → judge rules h now author ask ≡ Err refusal → IsTrue (is_refusal_of_judge refusal)
+RefusedForSix =
+    (rules : Rules) (h : List Entry) (now author : ℕ) (ask : Ask) (refusal : Refusal) →
+    judge rules h now author ask ≡ Err refusal → IsTrue (is_refusal_of_judge refusal)
 
 -- so want of memory is never among them
 abbrev pub JudgedWithoutMemory : Type 0
-JudgedWithoutMemory = (rules : Rules) (h : List Entry) (now author : ℕ) (ask : Ask) → judge rules h now author ask ≢ Err NoMemory
+JudgedWithoutMemory =
+    (rules : Rules) (h : List Entry) (now author : ℕ) (ask : Ask) →
+    judge rules h now author ask ≢ Err NoMemory
 
 -- an accepted ask is the entry that comes next, with the ask's author and content and the new stamp
 abbrev pub AcceptedIsNext : Type 0
-AcceptedIsNext = (rules : Rules) (h : List Entry) (now author : ℕ) (ask : Ask) (entry : Entry) → judge rules h now author ask ≡ Ok entry → entry ≡ next_entry h (new_stamp h now) author (kind_of_ask (new_stamp h now) ask)
+AcceptedIsNext =
+    (rules : Rules) (h : List Entry) (now author : ℕ) (ask : Ask) (entry : Entry) →
+    judge rules h now author ask ≡ Ok entry →
+    entry ≡ next_entry h (new_stamp h now) author (kind_of_ask (new_stamp h now) ask)
 
 -- its stamp is above the last one
 abbrev pub AcceptedIsAbove : Type 0
-AcceptedIsAbove = (rules : Rules) (h : List Entry) (now author : ℕ) (ask : Ask) (entry : Entry) → judge rules h now author ask ≡ Ok entry → stamp_of h < entry.stamp
+AcceptedIsAbove =
+    (rules : Rules) (h : List Entry) (now author : ℕ) (ask : Ask) (entry : Entry) →
+    judge rules h now author ask ≡ Ok entry → stamp_of h < entry.stamp
 
 -- where the last stamp is bounded, its own is
 abbrev pub AcceptedIsBounded : Type 0
-AcceptedIsBounded = (rules : Rules) (h : List Entry) (now author : ℕ) (ask : Ask) (entry : Entry) → stamp_of h ≤ latest_reading + length h → judge rules h now author ask ≡ Ok entry → IsBounded entry
+AcceptedIsBounded =
+    (rules : Rules) (h : List Entry) (now author : ℕ) (ask : Ask) (entry : Entry) →
+    stamp_of h ≤ latest_reading + length h → judge rules h now author ask ≡ Ok entry →
+    IsBounded entry
 
 -- the same is judged at the stamp that a new entry would get
 abbrev pub JudgedByStamp : Type 0
-JudgedByStamp = (rules : Rules) (h : List Entry) (now author : ℕ) (ask : Ask) → judge rules h (new_stamp h now) author ask ≡ judge rules h now author ask
+JudgedByStamp =
+    (rules : Rules) (h : List Entry) (now author : ℕ) (ask : Ask) →
+    judge rules h (new_stamp h now) author ask ≡ judge rules h now author ask
 
 -- and so an accepted ask is accepted at its entry's own stamp
 abbrev pub AcceptedAtOwnStamp : Type 0
-AcceptedAtOwnStamp = (rules : Rules) (h : List Entry) (now author : ℕ) (ask : Ask) (entry : Entry) → judge rules h now author ask ≡ Ok entry → judge rules h entry.stamp entry.author ask ≡ Ok entry
+AcceptedAtOwnStamp =
+    (rules : Rules) (h : List Entry) (now author : ℕ) (ask : Ask) (entry : Entry) →
+    judge rules h now author ask ≡ Ok entry → judge rules h entry.stamp entry.author ask ≡ Ok entry

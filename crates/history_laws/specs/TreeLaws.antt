@@ -32,27 +32,41 @@ SetsValue = (row : Row) (tree : List Row) → value_at row.path (set_row row tre
 
 -- and at every other path stands what stood there
 abbrev pub KeepsOtherValues : Type 0
-KeepsOtherValues = (path : List Elem) (row : Row) (tree : List Row) → (row.path ≡ path → ⊥) → value_at path (set_row row tree) ≡ value_at path tree
+KeepsOtherValues =
+    (path : List Elem) (row : Row) (tree : List Row) → (row.path ≡ path → ⊥) →
+    value_at path (set_row row tree) ≡ value_at path tree
 
 -- after rows are set, the value of the last one of a path stands there, or what stood there
 abbrev pub SetsLastValues : Type 0
-SetsLastValues = (path : List Elem) (rows tree : List Row) → value_at path (set_rows rows tree) ≡ last_value path rows (value_at path tree)
+SetsLastValues =
+    (path : List Elem) (rows tree : List Row) →
+    value_at path (set_rows rows tree) ≡ last_value path rows (value_at path tree)
 
 -- a delete leaves exactly the rows that its pattern doesn't cover
 abbrev pub KeepsUncovered : Type 0
-KeepsUncovered = (pattern : List Elem) (tree : List Row) (row : Row) → Contains (uncovered pattern tree) row ↔ (Contains tree row × (covers pattern row.path ≡ false))
+KeepsUncovered =
+    (pattern : List Elem) (tree : List Row) (row : Row) →
+    Contains (uncovered pattern tree) row ↔ (Contains tree row × (covers pattern row.path ≡ false))
 
 -- and so no value at a path that it covers, and the old value elsewhere
 abbrev pub DeletesValues : Type 0
-DeletesValues = (pattern path : List Elem) (tree : List Row) → value_at path (uncovered pattern tree) ≡ (if covers pattern path then None else value_at path tree)
+DeletesValues =
+    (pattern path : List Elem) (tree : List Row) →
+    value_at path (uncovered pattern tree) ≡
+    (if covers pattern path then None else value_at path tree)
 
 -- what an operation leaves at a path is decided by what stood there
 abbrev pub OperationsSetValues : Type 0
-OperationsSetValues = (path : List Elem) (op : Op) (tree : List Row) → value_at path (op_effect op tree) ≡ value_after op.act op path (value_at path tree)
+OperationsSetValues =
+    (path : List Elem) (op : Op) (tree : List Row) →
+    value_at path (op_effect op tree) ≡ value_after op.act op path (value_at path tree)
 
 -- and so is what a whole Set leaves, by its deletes, then its replaces, then its updates
 abbrev pub EffectsSetValues : Type 0
-EffectsSetValues = (path : List Elem) (ops : List Op) (tree : List Row) → value_at path (effect ops tree) ≡ values_after (with_act Update ops) path (values_after (with_act Replace ops) path (values_after (with_act Delete ops) path (value_at path tree)))
+EffectsSetValues =
+    (path : List Elem) (ops : List Op) (tree : List Row) →
+    value_at path (effect ops tree) ≡
+    values_after (with_act Update ops) path (values_after (with_act Replace ops) path (values_after (with_act Delete ops) path (value_at path tree)))
 
 -- the test of neighbours says that rows rise
 abbrev pub TestSaysRising : Type 0
@@ -60,4 +74,6 @@ TestSaysRising = (rows : List Row) → IsTrue (rises row_cmp rows) ↔ IsRising 
 
 -- trees with the same values are the same
 abbrev pub ValuesDecide : Type 0
-ValuesDecide = (a b : List Row) → IsRising a → IsRising b → ((path : List Elem) → value_at path a ≡ value_at path b) → a ≡ b
+ValuesDecide =
+    (a b : List Row) → IsRising a → IsRising b →
+    ((path : List Elem) → value_at path a ≡ value_at path b) → a ≡ b

@@ -11,6 +11,8 @@ mod compared;
 #[cfg(test)]
 mod generator;
 #[cfg(test)]
+mod kinds;
+#[cfg(test)]
 mod model;
 #[cfg(test)]
 mod rules;

@@ -25,7 +25,8 @@ abbrev one_key : List ℕ → Elem
 one_key value = record { name = codes "l"; keys = (codes "k", value) ∷ [] }
 
 abbrev two_keys : List ℕ → List ℕ → Elem
-two_keys first second = record { name = codes "l"; keys = (codes "j", first) ∷ (codes "k", second) ∷ [] }
+two_keys first second =
+    record { name = codes "l"; keys = (codes "j", first) ∷ (codes "k", second) ∷ [] }
 
 abbrev x : List ℕ
 x = codes "x"

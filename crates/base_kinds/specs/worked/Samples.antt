@@ -40,7 +40,8 @@ abbrev pub hostname_set : Ask
 hostname_set = asks.Apply (text_update hostname (codes "r1") ∷ [])
 
 abbrev pub hostname_entry : Entry
-hostname_entry = record { number = 1; author = 1; stamp = 1000; kind = kinds.Apply (text_update hostname (codes "r1") ∷ []) }
+hostname_entry =
+    record { number = 1; author = 1; stamp = 1000; kind = kinds.Apply (text_update hostname (codes "r1") ∷ []) }
 
 abbrev pub hostname_tree : List Row
 hostname_tree = text_row hostname (codes "r1") ∷ []
@@ -53,7 +54,8 @@ update path rows = record { act = Update; path = path; rows = rows }
 
 -- a node without keys or marks
 abbrev pub bare_node : List (List ℕ) → Sort → Option Shape → SchemaNode
-bare_node names sort shape = record { names = names; sort = sort; shape = shape; keys = []; module_name = codes "m"; is_mandatory = false; reference = None; maximum = None }
+bare_node names sort shape =
+    record { names = names; sort = sort; shape = shape; keys = []; module_name = codes "m"; is_mandatory = false; reference = None; maximum = None }
 
 abbrev pub system_names : List (List ℕ)
 system_names = codes "system" ∷ codes "config" ∷ []
@@ -70,10 +72,20 @@ system_schema =
 -- A list of at most two interfaces with a mandatory leaf, a leaf that refers to their names, and a leaf-list of at most two.
 abbrev pub port_schema : List SchemaNode
 port_schema =
-    record (bare_node (codes "port" ∷ []) sorts.List None) { keys = codes "name" ∷ []; maximum = Some 2 }
+    record (bare_node (codes "port" ∷ []) sorts.List None) {
+      keys =
+          codes "name" ∷ [];
+      maximum = Some 2;
+    }
     ∷ bare_node (codes "port" ∷ codes "name" ∷ []) sorts.Leaf (Some shapes.Text)
-    ∷ record (bare_node (codes "port" ∷ codes "speed" ∷ []) sorts.Leaf (Some (shapes.Uint 8))) { is_mandatory = true }
-    ∷ record (bare_node (codes "via" ∷ []) sorts.Leaf (Some shapes.Text)) { reference = Some (codes "port" ∷ codes "name" ∷ []) }
+    ∷ record (bare_node (codes "port" ∷ codes "speed" ∷ []) sorts.Leaf (Some (shapes.Uint 8))) {
+      is_mandatory =
+          true;
+    }
+    ∷ record (bare_node (codes "via" ∷ []) sorts.Leaf (Some shapes.Text)) {
+      reference =
+          Some (codes "port" ∷ codes "name" ∷ []);
+    }
     ∷ record (bare_node (codes "tags" ∷ []) sorts.LeafList (Some shapes.Text)) { maximum = Some 2 }
     ∷ []
 

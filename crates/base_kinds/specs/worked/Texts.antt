@@ -10,7 +10,12 @@ use Rattle.base_kinds.specs.worked.Samples.{plain}
 root_text : path_text [] ≡ codes "/"
 root_text = refl
 
-key_text : path_text (record { name = codes "interface"; keys = (codes "name", codes "eth 0/1]") ∷ [] } ∷ plain (codes "mtu") ∷ []) ≡ codes "/interface[name=eth\\200/1\\5d]/mtu"
+key_text : path_text (record {
+  name =
+      codes "interface";
+  keys = (codes "name", codes "eth 0/1]") ∷ [];
+} ∷ plain (codes "mtu")
+    ∷ []) ≡ codes "/interface[name=eth\\200/1\\5d]/mtu"
 key_text = refl
 
 -- decimals
@@ -38,7 +43,8 @@ number_text : value_text (values.Uint 18446744073709551615) ≡ codes "184467440
 unfolding digits
 number_text = refl
 
-list_text : value_text (values.List (values.Text (codes "x") ∷ values.Bool true ∷ [])) ≡ codes "[\"x\",true]"
+list_text : value_text (values.List (values.Text (codes "x") ∷ values.Bool true ∷ [])) ≡
+    codes "[\"x\",true]"
 unfolding Rattle.base_kinds.specs.declared.value.Value.TheBlock.hidden-the_row-Value-0 denote.Hole.Carrier.hidden
 list_text = refl
 

@@ -1,6 +1,6 @@
-use crate::{
-    Act, Bytes, Copied, Elem, Keys, NoMemory, Op, Path, Refusal, Row, Rows, Same, Text, Value,
-    Values, first_set_is_entry_one,
+use base_kinds::{
+    Act, Bytes, Copied, Elem, Entry, Keys, Kind, NoMemory, Op, Ops, Path, Refusal, Row, Rows, Same,
+    Text, Value, Values, default_limits, first_set_is_entry_one, validity_is_six_rules,
 };
 use std::alloc::Global;
 use std::process::Abort;
@@ -170,40 +170,71 @@ fn paths_rise_element_by_element_and_a_front_comes_first(rt: HostRuntime) -> Res
     Ok(())
 }
 
+/// Each refusal with its number, its gRPC code and its text.
+const REFUSALS: [(Refusal, u8, u8, &str); 21] = [
+    (Refusal::BadMessage, 1, 13, "bad message"),
+    (Refusal::TooLarge, 2, 8, "too large"),
+    (Refusal::Compressed, 3, 12, "compressed message"),
+    (Refusal::NoMethod, 4, 12, "no such method"),
+    (Refusal::BadPath, 5, 3, "bad path"),
+    (Refusal::NotInSchema, 6, 3, "not in schema"),
+    (Refusal::BadValue, 7, 3, "bad value"),
+    (Refusal::NotFound, 8, 5, "not found"),
+    (Refusal::Unsupported, 9, 12, "unsupported"),
+    (Refusal::TrialOpen, 10, 9, "trial open"),
+    (Refusal::NoTrial, 11, 9, "no trial"),
+    (Refusal::WrongId, 12, 3, "wrong id"),
+    (Refusal::BadDuration, 13, 3, "bad duration"),
+    (Refusal::MixedAction, 14, 3, "mixed action"),
+    (Refusal::BadId, 15, 3, "bad id"),
+    (Refusal::TreeInvalid, 16, 3, "tree invalid"),
+    (Refusal::TreeFull, 17, 8, "tree full"),
+    (Refusal::LogFull, 18, 8, "log full"),
+    (Refusal::DiskFault, 19, 14, "disk fault"),
+    (Refusal::BadSubscribe, 21, 3, "bad subscribe"),
+    (Refusal::NoMemory, 22, 10, "no memory"),
+];
+
 #[test]
 fn each_refusal_has_its_number_its_code_and_its_text(rt: HostRuntime) {
-    let table = [
-        (Refusal::BadMessage, 1, 13, "bad message"),
-        (Refusal::TooLarge, 2, 8, "too large"),
-        (Refusal::Compressed, 3, 12, "compressed message"),
-        (Refusal::NoMethod, 4, 12, "no such method"),
-        (Refusal::BadPath, 5, 3, "bad path"),
-        (Refusal::NotInSchema, 6, 3, "not in schema"),
-        (Refusal::BadValue, 7, 3, "bad value"),
-        (Refusal::NotFound, 8, 5, "not found"),
-        (Refusal::Unsupported, 9, 12, "unsupported"),
-        (Refusal::TrialOpen, 10, 9, "trial open"),
-        (Refusal::NoTrial, 11, 9, "no trial"),
-        (Refusal::WrongId, 12, 3, "wrong id"),
-        (Refusal::BadDuration, 13, 3, "bad duration"),
-        (Refusal::MixedAction, 14, 3, "mixed action"),
-        (Refusal::BadId, 15, 3, "bad id"),
-        (Refusal::TreeInvalid, 16, 3, "tree invalid"),
-        (Refusal::TreeFull, 17, 8, "tree full"),
-        (Refusal::LogFull, 18, 8, "log full"),
-        (Refusal::DiskFault, 19, 14, "disk fault"),
-        (Refusal::BadSubscribe, 21, 3, "bad subscribe"),
-        (Refusal::NoMemory, 22, 10, "no memory"),
-    ];
-    for (refusal, number, code, text) in table {
-        assert_eq!(rt;
-            (refusal.number(), refusal.code()),
-            (number, code),
-            "{refusal:?}"
-        );
+    for (refusal, number, code, text) in REFUSALS.iter().copied() {
+        assert_eq!(rt; (refusal.number(), refusal.code()), (number, code), "{refusal:?}");
         assert_eq!(rt; refusal.text(), text.as_bytes(), "{refusal:?}");
         assert_eq!(rt; refusal.is_memory(), number == 22, "{refusal:?}");
     }
     assert_eq!(rt; Refusal::from(NoMemory), Refusal::NoMemory);
     first_set_is_entry_one();
+    validity_is_six_rules();
+}
+
+#[test]
+fn record_of_the_first_set_has_109_octets(rt: HostRuntime) -> Result<(), Fail> {
+    let alloc = rt.alloc();
+    let hostname = ["system", "config", "hostname"];
+    let mut rows = Rows::empty(alloc);
+    rows.push(Row {
+        path: path_of(&rt, alloc, &hostname),
+        value: Value::Text(text_of(&rt, alloc, "r1")),
+    })?;
+    let mut ops = Ops::empty(alloc);
+    ops.push(Op {
+        act: Act::Update,
+        path: path_of(&rt, alloc, &hostname),
+        rows,
+    })?;
+    let entry = Entry {
+        number: 1,
+        author: 1,
+        stamp: 1000,
+        kind: Kind::Apply(ops),
+    };
+    assert_eq!(rt; entry.record_octets(), 109);
+    Ok(())
+}
+
+#[test]
+fn default_limits_are_in_range(rt: HostRuntime) {
+    let limits = default_limits();
+    assert_eq!(rt; (limits.entries, limits.octets), (65_536, 268_435_456));
+    assert!(rt; limits.in_range());
 }
