@@ -7,12 +7,14 @@ use Rattle.base_kinds.specs.Tree.{effect}
 use Rattle.base_kinds.specs.Rising.{IsRising}
 use Rattle.history_laws.proofs.Effects.{rising_effect}
 use Rattle.history_laws.proofs.States.{rising_world}
-use Rattle.commit_core.specs.Cores.{IsKept}
-use Rattle.commit_core.specs.Logs.{LogView}
+use Rattle.base_kinds.specs.declared.entry.Limits.{Limits}
+use Rattle.base_kinds.specs.Schema.{SchemaNode}
+use Rattle.commit_core.specs.inner.StandsFor.{Staging, StandsFor}
+use Rattle.commit_core.specs.inner.LogView.{LogView}
 
 -- it stands for a history
-pub kept_rises : (log : LogView) (stamp octets : ℕ) (tree : List Row) (staged : Option (List Row)) → IsKept log stamp octets tree staged → IsRising tree
-kept_rises log stamp octets tree staged kept = subst (λ (world : World). IsRising world.tree) kept.world (rising_world log.items)
+pub stands_rises : (schema : List SchemaNode) (limits : Limits) (log : LogView) (stamp octets : ℕ) (tree : List Row) (staged : Option Staging) → StandsFor schema limits log stamp octets tree staged → IsRising tree
+stands_rises schema limits log stamp octets tree staged stands = subst (λ (world : World). IsRising world.tree) stands.world (rising_world log.items)
 
 -- and operations keep it so
 pub changed_rises : (ops : List Op) (old new : List Row) → IsRising old → new ≡ effect ops old → IsRising new

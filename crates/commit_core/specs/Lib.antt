@@ -1,2 +1,2 @@
-pub mod Cores
-pub mod Logs
+pub mod CoreView
+pub mod inner

@@ -14,13 +14,16 @@ impl Model for Log {
     ghost use Rattle.std.specs.Prelude.{◌-◌, vec_len, vec_capacity};
     ghost use Rattle.std.specs.Coded.{codes};
     ghost use Rattle.base_kinds.specs.contracts.value.Value as value;
-    ghost use Rattle.commit_core.specs.Logs.{LogView};
+    ghost use Rattle.commit_core.specs.inner.LogView.{LogView};
 
     ghost Value = { LogView };
 
     ghost coded = { Prim.hlevel (codes, value.the_row.coded) };
 
-    ghost view = { λ log. record { items = log.stored.items; room = vec_capacity log.stored - vec_len log.stored } };
+    ghost view = { λ log. record {
+      items = log.stored.items;
+      room = vec_capacity log.stored - vec_len log.stored;
+    } };
 }
 
 impl Log {

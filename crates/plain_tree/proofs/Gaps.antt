@@ -9,7 +9,7 @@ use Rattle.base_kinds.specs.declared.operation.Row.{Row}
 use Rattle.base_kinds.specs.Paths.{path_cmp}
 use Rattle.base_kinds.specs.Rising.{row_cmp, IsRising}
 use Rattle.history_laws.proofs.PathOrder.{path_total}
-use Rattle.plain_tree.specs.Places.{IsGap}
+use Rattle.plain_tree.specs.inner.Places.{IsGap}
 
 pub whole : (row : Row) (rows : List Row) → IsGap row rows 0 (length rows)
 whole row rows = record { ordered = omega arith; inside = omega arith; below = λ place short. absurd (omega arith); above = λ short. absurd (omega arith) }

@@ -13,7 +13,7 @@ use Rattle.base_kinds.specs.Tree.{set_row, placed}
 use Rattle.base_kinds.specs.Rising.{row_cmp, IsRising}
 use Rattle.history_laws.proofs.PathOrder.{exact_paths}
 use Rattle.history_laws.proofs.Setting.{rising_set}
-use Rattle.plain_tree.specs.Places.{IsGap}
+use Rattle.plain_tree.specs.inner.Places.{IsGap}
 
 -- setting a row in a list of which the first is this one
 by_order : (row first : Row) (others : List Row) (order : Ordering) → path_cmp first.path row.path ≡ order → set_row row (first ∷ others) ≡ placed order row first others (set_row row others)

@@ -4,7 +4,7 @@ ghost use Rattle.base_kinds.specs.Paths.{path_cmp};
 ghost use Rattle.base_kinds.specs.Parts.{is_covered, part};
 ghost use Rattle.base_kinds.specs.Tree.{set_row, set_rows, uncovered};
 ghost use Rattle.base_kinds.specs.Rising.{IsRising};
-ghost use Rattle.plain_tree.specs.Places.{IsGap};
+ghost use Rattle.plain_tree.specs.inner.Places.{IsGap};
 
 use base_kinds::{Copied, NoMemory, Path, Paths, Row};
 use path_core::{cmp_paths, covers};
@@ -81,7 +81,8 @@ fn put_row(alloc: Global, tree: &mut Vec<Row>, row: &Row) -> Result<(), NoMemory
 fn place_of(rows: &[Row], row: &Row) -> Result<usize, usize>
     requires { IsRising rows.now }
     ensures inside { IfOk result (λ place. place < length rows.now) }
-    ensures there { IfOk result (λ place. path_cmp (slice_index_or rows.now place row.now).path row.now.path ≡ Ordering.Equal) }
+    ensures there { IfOk result (λ place.
+        path_cmp (slice_index_or rows.now place row.now).path row.now.path ≡ Ordering.Equal) }
     ensures gap { IfErr result (λ gap. IsGap row.now rows.now gap gap) }
 {
     let (mut low, mut high) = (0, rows.len());

@@ -12,7 +12,7 @@ use Rattle.base_kinds.specs.History.{World, world_after, world_from, world_of, e
 use Rattle.base_kinds.specs.Step.{step, judge, Rules, after_expiry, first_refusal, refusal_cases, is_past, time_at, next_entry, new_stamp, kind_of_ask, with_answer}
 use Rattle.base_kinds.specs.declared.path.Elem.{Elem}
 use Rattle.base_kinds.specs.Schema.{SchemaNode}
-use Rattle.commit_core.specs.Cores.{OpensNoTrial}
+use Rattle.commit_core.specs.CoreView.{OpensNoTrial}
 use Rattle.set_txn.specs.Operations.{ops_told}
 use Rattle.set_txn.specs.Resolving.{resolved}
 use Rattle.set_txn.specs.Results.{then_ok}

@@ -16,7 +16,7 @@ use Rattle.base_kinds.specs.Paths.{path_cmp, elem_cmp}
 use Rattle.base_kinds.specs.Schema.{names_of, same_names}
 use Rattle.base_kinds.specs.Ancestors.{ancestors, ancestors_from, parent_of}
 use Rattle.base_kinds.specs.Rising.{IsRising}
-use Rattle.tree_check.specs.Entries.{is_below, entry_of, entries_along}
+use Rattle.tree_check.specs.inner.ListEntries.{is_below, entry_of, entries_along}
 
 -- ---- which instances a row stands below
 

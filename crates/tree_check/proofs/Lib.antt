@@ -1,4 +1,3 @@
 pub mod Fronts
 pub mod Runs
 pub mod Nodes
-pub mod Neighbours

@@ -16,7 +16,7 @@ use Rattle.base_kinds.specs.Valid.{each_once, entries_of, few_beside}
 use Rattle.base_kinds.specs.Ancestors.{parent_of}
 use Rattle.base_kinds.specs.Rising.{IsRising}
 use Rattle.history_laws.proofs.PathOrder.{path_total, exact_paths}
-use Rattle.tree_check.specs.Entries.{entry_of, count_after, few_behind, entries_along}
+use Rattle.tree_check.specs.inner.ListEntries.{entry_of, count_after, few_behind, entries_along}
 use Rattle.tree_check.proofs.Fronts.{Leads, AreInOrder, in_order, come_up}
 
 -- ---- paths that are the same, or apart

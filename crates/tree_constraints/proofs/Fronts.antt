@@ -3,7 +3,7 @@ use Rattle.std.proofs.Common.{◌≡◌, ℕ, ◌+◌, ◌<◌, length, take, dr
 use Rattle.std.proofs.lemmas.List.{drop_more, take_more, take-append-drop, append-nil, append_assoc}
 use Rattle.base_kinds.specs.declared.path.Elem.{Elem}
 use Rattle.base_kinds.specs.Valid.{has_key_leaf, node_is_present, mandatory_present}
-use Rattle.base_kinds.specs.Ancestors.{path_steps, path_steps_from, parent_names, own_name}
+use Rattle.base_kinds.specs.Ancestors.{path_steps, path_steps_from}
 use Rattle.base_kinds.specs.Schema.{SchemaNode}
 use Rattle.base_kinds.specs.declared.operation.Row.{Row}
 use Rattle.std.specs.Prelude.{slice_get}
@@ -41,26 +41,6 @@ steps_seen rows last path seen passed same =
 
     front : list_all test (path_steps_from [] (take seen path)) ≡ true
     front = ap (λ elems. list_all test (path_steps_from [] elems)) (sym same) ∙ both_true (list_all test (path_steps_from [] (take seen last))) (list_all test (path_steps_from (take seen last) (drop seen last))) (sym (cut last) ∙ passed)
-
--- the names of the parent and the own name, where the names end in a name
-pub parent_of_end : (names front : List (List ℕ)) (name : List ℕ) → names ≡ front ++ name ∷ [] → parent_names names ≡ front
-parent_of_end names front name is = ap parent_names is ∙ last front name
-  where
-    last : (front : List (List ℕ)) (name : List ℕ) → parent_names (front ++ name ∷ []) ≡ front
-    last [] name = refl
-    last (a ∷ []) name = refl
-    last (a ∷ b ∷ front) name = ap (λ rest. a ∷ rest) (last (b ∷ front) name)
-
-pub parent_of_none : (names : List (List ℕ)) → names ≡ [] → parent_names names ≡ []
-parent_of_none names is = ap parent_names is
-
-pub own_of_end : (names front : List (List ℕ)) (name : List ℕ) → names ≡ front ++ name ∷ [] → own_name names ≡ name
-own_of_end names front name is = ap own_name is ∙ last front name
-  where
-    last : (front : List (List ℕ)) (name : List ℕ) → own_name (front ++ name ∷ []) ≡ name
-    last [] name = refl
-    last (a ∷ []) name = refl
-    last (a ∷ b ∷ front) name = last (b ∷ front) name
 
 -- ---- nodes one after another
 

@@ -1,4 +1,4 @@
 pub mod Fronts
 pub mod Instances
 pub mod Leaves
-pub mod Telling
+pub mod Targets

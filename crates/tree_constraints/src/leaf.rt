@@ -13,7 +13,8 @@ use std::cmp::Ordering;
 /// the number of rows says.
 pub fn find_leaf<'a>(rows: &'a [Row], instance: &[Elem], name: &[u8]) -> Option<&'a Row>
     requires { IsRising rows.now }
-    ensures { option_copied result ≡ find (λ row. same_path row.path (child instance.now name.now)) rows.now }
+    ensures { option_copied result
+        ≡ find (λ row. same_path row.path (child instance.now name.now)) rows.now }
 {
     match rows.binary_search_by(|row| compare_child(row.path.items(), instance, name)) {
         Ok(place) => Some(&rows[place]),

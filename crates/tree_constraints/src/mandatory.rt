@@ -1,29 +1,28 @@
-// A mandatory leaf stands wherever some row is below the instance of its parent (RFC 7950 7.6.5).
-ghost use Rattle.std.specs.Prelude.{◌≡◌, ◌<◌, length, take, true, IsTrue, IfOk};
+// Rule 4, mandatory: a mandatory leaf is present wherever some row is below the instance of its parent
+// (RFC 7950 7.6.5).
+ghost use Rattle.std.specs.Prelude.{◌≡◌, ◌<◌, length, take, true, IsTrue};
 ghost use Rattle.std.specs.List.{list_all};
 ghost use Rattle.base_kinds.specs.Rising.{IsRising};
-ghost use Rattle.base_kinds.specs.Schema.{names_of, same_names};
 ghost use Rattle.base_kinds.specs.Valid.{has_row, stands_below, node_is_present, mandatory_present};
-ghost use Rattle.base_kinds.specs.Ancestors.{child, ancestors, parent_names, own_name};
+ghost use Rattle.base_kinds.specs.Ancestors.{child, ancestors, parent_names};
 
 use crate::leaf::find_leaf;
-use crate::seen::shared;
-use base_kinds::{Elem, NoMemory, Row, Text};
-use schema_core::{Node, NodeId, Schema};
-use std::alloc::Global;
+use crate::shared_prefix::shared_prefix_len;
+use base_kinds::{Elem, Row, Text};
+use schema_core::{Node, NodeId, Schema, has_names, own_name, parent_names};
 
 /// Whether each mandatory leaf stands wherever some row is below the instance of its parent. Takes no memory.
 #[tactic(auto, using(crate::proofs::Fronts::one_fails, crate::proofs::Fronts::one_passes))]
-pub fn mandatory_present(_alloc: Global, schema: &Schema, rows: &[Row]) -> Result<bool, NoMemory>
+pub fn mandatory_present(schema: &Schema, rows: &[Row]) -> bool
     requires { IsRising rows.now }
-    ensures { IfOk result (λ is. is ≡ mandatory_present schema.now rows.now) }
+    ensures { result ≡ mandatory_present schema.now rows.now }
 {
     for number in 0..schema.nodes() {
         if !node_is_present(rows, schema.node(NodeId(number))) {
-            return Ok(false);
+            return false;
         }
     }
-    Ok(true)
+    true
 }
 
 fn node_is_present(rows: &[Row], node: &Node) -> bool
@@ -36,7 +35,8 @@ fn node_is_present(rows: &[Row], node: &Node) -> bool
 /// Whether the leaf with these names stands below each instance of its parent.
 fn stands_everywhere(rows: &[Row], names: &[Text]) -> bool
     requires { IsRising rows.now }
-    ensures { result ≡ list_all (λ row. list_all (stands_below rows.now names.now) (ancestors row.path)) rows.now }
+    ensures { result ≡ list_all
+        (λ row. list_all (stands_below rows.now names.now) (ancestors row.path)) rows.now }
 {
     let mut last: &[Elem] = &[];
     for row in rows {
@@ -66,7 +66,8 @@ fn stands_in_front(rows: &[Row], names: &[Text], last: &[Elem], path: &[Elem]) -
     requires rising { IsRising rows.now }
     requires passed { list_all (stands_below rows.now names.now) (ancestors last.now) ≡ true }
     requires longer { length (parent_names names.now) < length path.now }
-    ensures { result ≡ stands_below rows.now names.now (take (length (parent_names names.now)) path.now) }
+    ensures { let instance = take (length (parent_names names.now)) path.now in
+        result ≡ stands_below rows.now names.now instance }
 {
     let above = parent_names(names);
     let instance = &path[..above.len()];
@@ -82,29 +83,7 @@ fn is_below_both(last: &[Elem], path: &[Elem], depth: usize) -> bool
     ensures longer { IsTrue result → depth < length last.now }
     ensures same { IsTrue result → take depth last.now ≡ take depth path.now }
 {
-    depth < last.len() && depth <= shared(last, path)
-}
-
-/// The names of the node's parent.
-#[tactic(auto, using(crate::proofs::Fronts::parent_of_end, crate::proofs::Fronts::parent_of_none))]
-fn parent_names(names: &[Text]) -> &[Text]
-    ensures { result.now ≡ parent_names names.now }
-{
-    match names.split_last() {
-        None => names,
-        Some((_, above)) => above,
-    }
-}
-
-/// The name of the node itself.
-#[tactic(auto, using(crate::proofs::Fronts::own_of_end))]
-fn own_name(names: &[Text]) -> &[u8]
-    ensures { result.now ≡ own_name names.now }
-{
-    match names.split_last() {
-        None => &[],
-        Some((name, _)) => name.octets(),
-    }
+    depth < last.len() && depth <= shared_prefix_len(last, path)
 }
 
 fn has_leaf(rows: &[Row], instance: &[Elem], name: &[u8]) -> bool
@@ -112,17 +91,4 @@ fn has_leaf(rows: &[Row], instance: &[Elem], name: &[u8]) -> bool
     ensures { result ≡ has_row rows.now (child instance.now name.now) }
 {
     find_leaf(rows, instance, name).is_some()
-}
-
-/// Whether the path's elements have these names.
-fn has_names(path: &[Elem], names: &[Text]) -> bool
-    ensures { result ≡ same_names (names_of path.now) names.now }
-{
-    match (path.split_first(), names.split_first()) {
-        (None, None) => true,
-        (Some((elem, elems)), Some((name, others))) => {
-            elem.name.octets() == name.octets() && has_names(elems, others)
-        }
-        _ => false,
-    }
 }

@@ -1,4 +1,4 @@
-ghost use Rattle.commit_core.specs.Cores.{OpensNoTrial};
+ghost use Rattle.commit_core.specs.CoreView.{OpensNoTrial};
 
 use crate::builders::{path_of, schema_of, text_of};
 use base_kinds::{Act, Ask, Limits, Op, Ops, Path, Paths, Refusal, Row, Rows, Same, Text, Value};
@@ -138,6 +138,9 @@ fn stamps_follow_the_clock_and_rise(rt: HostRuntime) {
     assert_eq!(rt; core.entries().len(), 11);
 }
 
+/// Values of a number of 16 bits, with the refusal of each.
+const NUMBERS: &[(u64, Option<Refusal>)] = &[(65_535, None), (65_536, Some(Refusal::TreeInvalid))];
+
 #[test]
 fn what_is_let_go_or_refused_leaves_nothing(rt: HostRuntime) {
     let alloc = rt.alloc();
@@ -165,7 +168,7 @@ fn what_is_let_go_or_refused_leaves_nothing(rt: HostRuntime) {
         refused(&mut core, alloc, unfit),
         Some(Refusal::TreeInvalid)
     );
-    for (mtu, refusal) in [(65_535, None), (65_536, Some(Refusal::TreeInvalid))] {
+    for (mtu, refusal) in NUMBERS.iter().copied() {
         let ask = set_of(&rt, alloc, "mtu", Value::Uint(mtu));
         assert_eq!(rt; refused(&mut core, alloc, ask), refusal, "{mtu}");
     }
@@ -201,17 +204,19 @@ fn deletes_come_before_updates(rt: HostRuntime) {
     assert!(rt; is_just(&rt, &core, alloc, 1002, "motd", "new"));
 }
 
+/// How many octets the hostname has under these limits, with the refusal of the Set.
+const SIZES: &[(Limits, u32, Option<Refusal>)] = &[
+    (ROOMY, 316_644, None),
+    (ROOMY, 316_645, Some(Refusal::TreeFull)),
+    (NARROW, 3_971, None),
+    (NARROW, 3_972, Some(Refusal::LogFull)),
+    (NARROW, 316_645, Some(Refusal::TreeFull)),
+];
+
 #[test]
 fn trees_and_logs_have_limits(rt: HostRuntime) {
     let alloc = rt.alloc();
-    let table = [
-        (ROOMY, 316_644, None),
-        (ROOMY, 316_645, Some(Refusal::TreeFull)),
-        (NARROW, 3_971, None),
-        (NARROW, 3_972, Some(Refusal::LogFull)),
-        (NARROW, 316_645, Some(Refusal::TreeFull)),
-    ];
-    for (limits, size, refusal) in table.iter().copied() {
+    for (limits, size, refusal) in SIZES.iter().copied() {
         let mut core = core_of(&rt, alloc, limits);
         let ask = set_long(&rt, alloc, size);
         assert_eq!(rt; refused(&mut core, alloc, ask), refusal, "{size} octets");

@@ -1,5 +1,8 @@
-//! Tests of trees and of the history over them: the plain model, trees compared with it over operations that a fixed
-//! generator makes, validity and the core.
+//! Tests of trees and of the history over them: the reference model, trees compared with it over operations that a fixed
+//! generator makes, the six rules of validity, and the core.
+//!
+//! Start at the tables: of the reference model in model.rt, of whole trees in validity.rt, of three rules by themselves in
+//! rules.rt, and of the core in commits.rt.
 #![tactic(auto)]
 
 #[cfg(test)]

@@ -6,7 +6,7 @@ use std::alloc::Global;
 use std::cmp::Ordering;
 use std::process::Abort;
 use tree_check::are_rising;
-use tree_constraints::{keys_hold, leafrefs_resolve, mandatory_present, find_leaf};
+use tree_constraints::{find_leaf, keys_hold, leafrefs_resolve, mandatory_present};
 
 /// A node on each line: its names, what it is, and the names of its keys or of the leaf that it refers to.
 const NODES: [(&str, &str, &str); 17] = [
@@ -192,31 +192,30 @@ fn mandatory_leaves_stand(rt: HostRuntime) {
     for (line, wanted) in STANDING.iter().copied() {
         let rows = rows_of(&rt, alloc, line);
         assert!(rt; are_rising(rows.items()), "{line}");
-        let found = mandatory_present(alloc, &schema, rows.items()).expect(&rt, "memory");
+        let found = mandatory_present(&schema, rows.items());
         assert_eq!(rt; found, wanted, "{line}");
     }
 }
 
+/// A mandatory leaf below the root, and another leaf.
+const ROOT_NODES: [(&str, &str, &str); 2] = [("host", "mandatory", ""), ("motd", "leaf", "")];
+
+/// Rows on each line, with the answer whether the leaf stands.
+const ROOT_STANDING: &[(&str, bool)] = &[
+    ("", true),
+    ("host=x", true),
+    ("motd=x", false),
+    ("host=x motd=x", true),
+];
+
 #[test]
 fn a_mandatory_leaf_of_the_root_stands_in_every_tree_with_rows(rt: HostRuntime) {
     let alloc = rt.alloc();
-    let schema = schema_of(
-        &rt,
-        alloc,
-        &[("host", "mandatory", ""), ("motd", "leaf", "")],
-    );
-    for (line, wanted) in [
-        ("", true),
-        ("host=x", true),
-        ("motd=x", false),
-        ("host=x motd=x", true),
-    ]
-    .iter()
-    .copied()
-    {
+    let schema = schema_of(&rt, alloc, &ROOT_NODES);
+    for (line, wanted) in ROOT_STANDING.iter().copied() {
         let rows = rows_of(&rt, alloc, line);
         assert!(rt; are_rising(rows.items()), "{line}");
-        let found = mandatory_present(alloc, &schema, rows.items()).expect(&rt, "memory");
+        let found = mandatory_present(&schema, rows.items());
         assert_eq!(rt; found, wanted, "{line}");
     }
 }

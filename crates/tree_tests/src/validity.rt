@@ -208,16 +208,18 @@ fn heavy(rt: &impl Abort, alloc: Global, octets: usize, name: Value) -> Rows {
     rows
 }
 
+/// How many octets the blob has, whether the name is one, and what the tree is.
+const WEIGHTS: &[(usize, bool, Result<(), CheckFault>)] = &[
+    (949_891, true, Ok(())),
+    (949_892, true, Err(CheckFault::TreeFull)),
+    (949_892, false, Err(CheckFault::TreeInvalid)),
+];
+
 #[test]
 fn a_tree_is_full_where_it_is_valid_and_too_heavy(rt: HostRuntime) {
     let alloc = rt.alloc();
     let schema = schema_of(&rt, alloc, SCHEMA);
-    let table = [
-        (949_891, true, Ok(())),
-        (949_892, true, Err(CheckFault::TreeFull)),
-        (949_892, false, Err(CheckFault::TreeInvalid)),
-    ];
-    for (octets, is_valid, wanted) in table.iter().copied() {
+    for (octets, is_valid, wanted) in WEIGHTS.iter().copied() {
         let name = if is_valid {
             Value::Text(text_of(&rt, alloc, ""))
         } else {
@@ -248,19 +250,21 @@ fn words(rt: &impl Abort, alloc: Global, count: u32, is_twice: bool) -> Rows {
     rows
 }
 
+/// How many words there are, whether one comes twice, and what the tree is.
+const WORDS: &[(u32, bool, Result<(), CheckFault>)] = &[
+    (16, false, Ok(())),
+    (17, false, Ok(())),
+    (100, false, Ok(())),
+    (100, true, Err(CheckFault::TreeInvalid)),
+    (400, false, Ok(())),
+    (400, true, Err(CheckFault::TreeInvalid)),
+];
+
 #[test]
 fn of_many_values_no_two_are_equal(rt: HostRuntime) {
     let alloc = rt.alloc();
     let schema = schema_of(&rt, alloc, SCHEMA);
-    let table = [
-        (16, false, Ok(())),
-        (17, false, Ok(())),
-        (100, false, Ok(())),
-        (100, true, Err(CheckFault::TreeInvalid)),
-        (400, false, Ok(())),
-        (400, true, Err(CheckFault::TreeInvalid)),
-    ];
-    for (count, is_twice, wanted) in table.iter().copied() {
+    for (count, is_twice, wanted) in WORDS.iter().copied() {
         let rows = words(&rt, alloc, count, is_twice);
         assert_eq!(rt;
             answer(&rt, alloc, &schema, &rows, "words"),
@@ -270,33 +274,37 @@ fn of_many_values_no_two_are_equal(rt: HostRuntime) {
     }
 }
 
+/// Rows, and whether each is above the one before it.
+const ORDERS: &[(&str, bool)] = &[
+    ("", true),
+    ("/a 1", true),
+    ("/a 1;/b 1", true),
+    ("/a 1;/a/b 1;/aa 1", true),
+    ("/a 1;/a 2", false),
+    ("/b 1;/a 1", false),
+    ("/a 1;/c 1;/b 1", false),
+];
+
 #[test]
 fn rows_rise_one_above_the_other(rt: HostRuntime) {
     let alloc = rt.alloc();
-    let table = [
-        ("", true),
-        ("/a 1", true),
-        ("/a 1;/b 1", true),
-        ("/a 1;/a/b 1;/aa 1", true),
-        ("/a 1;/a 2", false),
-        ("/b 1;/a 1", false),
-        ("/a 1;/c 1;/b 1", false),
-    ];
-    for (lines, is_rising) in table.iter().copied() {
+    for (lines, is_rising) in ORDERS.iter().copied() {
         let rows = rows_of(&rt, alloc, lines);
         assert_eq!(rt; are_rising(rows.items()), is_rising, "{lines}");
     }
 }
 
+/// What each fault prints.
+const PRINTED: &[(CheckFault, &str)] = &[
+    (CheckFault::TreeInvalid, "tree invalid"),
+    (CheckFault::TreeFull, "tree full"),
+    (CheckFault::NoMemory, "no memory"),
+];
+
 #[test]
 fn faults_print_as_they_are_called(rt: HostRuntime) -> Result<(), Fail> {
     let alloc = rt.alloc();
-    let table = [
-        (CheckFault::TreeInvalid, "tree invalid"),
-        (CheckFault::TreeFull, "tree full"),
-        (CheckFault::NoMemory, "no memory"),
-    ];
-    for (fault, printed) in table.iter().copied() {
+    for (fault, printed) in PRINTED.iter().copied() {
         assert_eq!(rt; format!(in alloc; "{fault}")?.as_str(), printed);
     }
     Ok(())

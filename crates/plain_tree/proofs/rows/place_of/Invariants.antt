@@ -1,5 +1,5 @@
 use Rattle.std.proofs.Common.{◌-◌}
-use Rattle.plain_tree.specs.Places.{IsGap}
+use Rattle.plain_tree.specs.inner.Places.{IsGap}
 use Rattle.plain_tree.proofs.rows.place_of.Given as goal
 
 abbrev pub invariant-loop-low : goal.invariant-loop-low

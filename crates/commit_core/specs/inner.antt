@@ -1,0 +1,3 @@
+pub mod LogView
+pub mod StandsFor
+pub mod TreeRefusal

@@ -1,5 +1,0 @@
-use Rattle.std.proofs.Common.{length}
-use Rattle.tree_check.proofs.within.+has_names.Given as goal
-
-abbrev pub decreases-has_names : goal.decreases-has_names
-decreases-has_names l = length l.path.now
