@@ -1,18 +1,18 @@
-ghost use Rattle.std.specs.Prelude.{◌≡◌, true, OnOk, OnErr};
-ghost use Rattle.memory_disks.specs.Armings.{fails_too, stops_too};
+ghost use Rattle.std.specs.Prelude.{◌≡◌, IfSome, OnOk, OnErr};
+ghost use Rattle.disk_model.specs.Arming.{with_failure, with_stop};
+ghost use Rattle.disk_model.specs.Calls.{armed_with, starved};
 ghost use Rattle.commit_journal.specs.Ledgers.{LedgerView};
 
 use crate::ledger::Ledger;
-use base_lists::NoMemory;
-use memory_disks::{Armed, Fill};
+use base_kinds::{Fill, NoMemory};
+use disk_model::Armed;
 
 impl<D: Armed> Ledger<D> {
     /// Lets the disk fail in the call after this many, counted once all failures have hit that wait already.
     pub fn fail_after(&mut self, passes: u64) -> Result<(), NoMemory>
-        ensures ok { OnOk result (D.arming self.new.disk ≡ fails_too passes (D.arming self.old.disk)) }
-        ensures err { OnErr result (D.arming self.new.disk ≡ D.arming self.old.disk) }
-        ensures fed { OnOk result (D.is_starved self.new.disk ≡ D.is_starved self.old.disk) }
-        ensures starved { OnErr result (D.is_starved self.new.disk ≡ true) }
+        ensures ok { OnOk result
+            (D.fuse self.new.disk ≡ armed_with (with_failure passes) (D.fuse self.old.disk)) }
+        ensures err { OnErr result (D.fuse self.new.disk ≡ starved (D.fuse self.old.disk)) }
         ensures told { D.told self.new.disk ≡ D.told self.old.disk }
         ensures faults { D.faults self.new.disk ≡ D.faults self.old.disk }
         ensures same { self.new ≡ record self.old { disk = self.new.disk } }
@@ -22,10 +22,9 @@ impl<D: Armed> Ledger<D> {
 
     /// Lets the disk stop in the call after this many, counted once all stops have hit that wait already.
     pub fn stop_after(&mut self, passes: u64, fill: Fill) -> Result<(), NoMemory>
-        ensures ok { OnOk result (D.arming self.new.disk ≡ stops_too passes fill (D.arming self.old.disk)) }
-        ensures err { OnErr result (D.arming self.new.disk ≡ D.arming self.old.disk) }
-        ensures fed { OnOk result (D.is_starved self.new.disk ≡ D.is_starved self.old.disk) }
-        ensures starved { OnErr result (D.is_starved self.new.disk ≡ true) }
+        ensures ok { OnOk result
+            (D.fuse self.new.disk ≡ armed_with (with_stop passes fill) (D.fuse self.old.disk)) }
+        ensures err { OnErr result (D.fuse self.new.disk ≡ starved (D.fuse self.old.disk)) }
         ensures told { D.told self.new.disk ≡ D.told self.old.disk }
         ensures faults { D.faults self.new.disk ≡ D.faults self.old.disk }
         ensures same { self.new ≡ record self.old { disk = self.new.disk } }
@@ -34,13 +33,13 @@ impl<D: Armed> Ledger<D> {
     }
 
     pub fn stopped(&self) -> bool
-        ensures { result ≡ (D.arming self.now.disk).stopped }
+        ensures { IfSome (D.fuse self.now.disk).arming (λ arming. result ≡ arming.stopped) }
     {
         self.disk.stopped()
     }
 
     pub fn starved(&self) -> bool
-        ensures { result ≡ D.is_starved self.now.disk }
+        ensures { result ≡ (D.fuse self.now.disk).starved }
     {
         self.disk.starved()
     }

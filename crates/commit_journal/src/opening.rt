@@ -5,7 +5,8 @@ ghost use Rattle.commit_journal.specs.Openings.{Opens, OpensOn, FindsAll, HasSyn
 use crate::ledger::Ledger;
 use base_kinds::{Entries, Entry};
 use base_lists::Remembered;
-use disk_model::{Disk, ReadFault, read_whole};
+use disk_model::{Disk, read_whole};
+use edge_traits::ReadFault;
 use journal_format::{Journal, JournalFault, read_journal};
 use std::alloc::Global;
 
@@ -71,7 +72,7 @@ impl<D: Disk> Ledger<D> {
         };
         match read_whole(alloc, &mut disk) {
             Ok(octets) => open(alloc, disk, octets.items()),
-            Err(ReadFault::DiskFault) => Opening::DiskFault(disk),
+            Err(ReadFault::Failed) => Opening::DiskFault(disk),
             Err(ReadFault::NoMemory) => Opening::NoMemory(disk),
         }
     }

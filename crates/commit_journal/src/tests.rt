@@ -3,7 +3,8 @@ ghost use Rattle.base_kinds.specs.Limits.{AreInRange};
 
 use super::*;
 use base_kinds::{Entry, Kind, Limits, NoMemory, Seq};
-use memory_disks::{Armed, Fill, FuseDisk, MemDisk};
+use disk_model::Armed;
+use memory_disks::{Fill, FuseDisk, MemDisk};
 use std::alloc::Global;
 use std::test::Fail;
 

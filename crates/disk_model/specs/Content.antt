@@ -15,6 +15,10 @@ abbrev pub Tells : Option Content → (Content → Type 0) → Type 0
 Tells None fact = Unit {0}
 Tells (Some content) fact = fact content
 
+-- what a read gives is one of the images
+abbrev pub SeesImage : Option Content → Type 0
+SeesImage told = Tells told (λ content. IsImage content.kept content.seen)
+
 -- a step from what a disk told to what it tells, where it tells
 abbrev pub Moved : Option Content → Option Content → (Content → Content → Type 0) → Type 0
 Moved None None step = Unit {0}

@@ -1,6 +1,7 @@
 ghost use Rattle.std.specs.Prelude.{◌≡◌, ◌≤◌, ℕ, List, Option, length, take, IfOk, OnOk, OnErr};
 ghost use Rattle.edge_traits.specs.Faults.{HasCause};
-ghost use Rattle.disk_model.specs.Content.{Content, Moved, Tells, ReadsAt, Changes, Wrote};
+ghost use Rattle.disk_model.specs.Calls.{Fuse, CallEnds, FillsBuffer};
+ghost use Rattle.disk_model.specs.Content.{Content, Moved, Tells, SeesImage, ReadsAt, Changes, Wrote};
 ghost use Rattle.disk_model.specs.Images.{synced, touched};
 
 use edge_traits::Failed;
@@ -13,36 +14,57 @@ pub trait Disk {
     /// How often it has failed.
     ghost faults: { Self → ℕ };
 
+    /// What makes its calls fail.
+    ghost fuse: { Self → Fuse };
+
     fn len(&mut self) -> Result<u64, Failed>
         ensures length { IfOk result (λ n. Tells (told self.old) (λ c. n ≡ length c.seen)) }
         ensures keeps { told self.new ≡ told self.old }
+        ensures image { SeesImage (told self.old) }
+        ensures call { CallEnds (fuse self.old) (fuse self.new) result }
         ensures cause { HasCause (faults self.old) (faults self.new) result };
 
     /// Reads octets from a place on, at least one below the end.
     fn read(&mut self, place: u64, into: &mut [u8]) -> Result<usize, Failed>
         ensures bound { IfOk result (λ n. n ≤ length into.new) }
         ensures octets { IfOk result (λ n. Tells (told self.old) (λ c. ReadsAt c.seen place n into.new)) }
+        ensures fills { IfOk result (λ n. FillsBuffer (fuse self.old) (told self.old) place (length into.old) n) }
         ensures keeps { told self.new ≡ told self.old }
+        ensures image { SeesImage (told self.old) }
+        ensures call { CallEnds (fuse self.old) (fuse self.new) result }
         ensures cause { HasCause (faults self.old) (faults self.new) result };
 
     /// Writes a piece, which may begin past the end.
-    /// A write that fails counts as made for what a stop may leave.
+    /// A write that fails changes nothing that a read gives, but counts as made for what a stop may leave.
     fn write_at(&mut self, place: u64, piece: &[u8]) -> Result<(), Failed>
-        ensures images { Moved (told self.old) (told self.new) (λ old new. Changes (touched place (length piece.now) old.kept) old new) }
-        ensures written { OnOk result (Moved (told self.old) (told self.new) (λ old new. Wrote place piece.now old.seen new.seen)) }
+        ensures written { OnOk result (Moved (told self.old) (told self.new)
+            (λ old new. Wrote place piece.now old.seen new.seen)) }
+        ensures stays { OnErr result (Moved (told self.old) (told self.new) (λ old new. new.seen ≡ old.seen)) }
+        ensures images { Moved (told self.old) (told self.new)
+            (λ old new. Changes (touched place (length piece.now) old.kept) old new) }
+        ensures image { SeesImage (told self.old) }
+        ensures call { CallEnds (fuse self.old) (fuse self.new) result }
         ensures cause { HasCause (faults self.old) (faults self.new) result };
 
     /// Cuts off what is past a length. A length past the end changes nothing.
-    /// A cut that fails counts as made for what a stop may leave.
+    /// A cut that fails changes nothing that a read gives, but counts as made for what a stop may leave.
     fn cut(&mut self, length: u64) -> Result<(), Failed>
-        ensures images { Moved (told self.old) (told self.new) (λ old new. Changes (take length old.kept) old new) }
-        ensures cut { OnOk result (Moved (told self.old) (told self.new) (λ old new. new.seen ≡ take length old.seen)) }
+        ensures cut { OnOk result (Moved (told self.old) (told self.new)
+            (λ old new. new.seen ≡ take length old.seen)) }
+        ensures stays { OnErr result (Moved (told self.old) (told self.new) (λ old new. new.seen ≡ old.seen)) }
+        ensures images { Moved (told self.old) (told self.new)
+            (λ old new. Changes (take length old.kept) old new) }
+        ensures image { SeesImage (told self.old) }
+        ensures call { CallEnds (fuse self.old) (fuse self.new) result }
         ensures cause { HasCause (faults self.old) (faults self.new) result };
 
     /// After it a stop leaves what a read gives. A sync that fails changes nothing.
     fn sync(&mut self) -> Result<(), Failed>
-        ensures images { OnOk result (Moved (told self.old) (told self.new) (λ old new. Changes (synced old.seen) old new)) }
         ensures seen { OnOk result (Moved (told self.old) (told self.new) (λ old new. new.seen ≡ old.seen)) }
+        ensures images { OnOk result (Moved (told self.old) (told self.new)
+            (λ old new. Changes (synced old.seen) old new)) }
         ensures keeps { OnErr result (told self.new ≡ told self.old) }
+        ensures image { SeesImage (told self.old) }
+        ensures call { CallEnds (fuse self.old) (fuse self.new) result }
         ensures cause { HasCause (faults self.old) (faults self.new) result };
 }

@@ -1,5 +1,5 @@
 // A file as a disk, which tells nothing of its content.
-ghost use Rattle.std.specs.Prelude.{◌≤◌, None};
+ghost use Rattle.std.specs.Prelude.{◌≤◌, None, false};
 ghost use Rattle.edge_traits.specs.Faults.{Rose};
 
 use super::*;
@@ -28,6 +28,8 @@ impl Disk for FileDisk {
     ghost told = { λ d. None };
 
     ghost faults = { λ d. d.faults };
+
+    ghost fuse = { λ d. record { arming = None; starved = false } };
 
     fn len(&mut self) -> Result<u64, Failed> {
         match self.file.metadata() {

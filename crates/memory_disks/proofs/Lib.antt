@@ -2,6 +2,5 @@ pub mod Examples
 pub mod Free
 pub mod Fused
 pub mod Laid
-pub mod Machine
 pub mod Stopping
 pub mod Views

@@ -1,19 +1,21 @@
 -- What the calls of a disk that stops do to what it tells, and to its count of faults.
-use Rattle.std.proofs.Common.{◌≡◌, inl, inr, ℕ, ◌-◌, ◌^◌, ◌≤◌, List, length, take, true, false, Result, Ok, Err, refl, ap, subst, sym, ◌∙◌, arith}
+use Rattle.std.proofs.Common.{◌≡◌, inl, inr, ℕ, ◌+◌, List, length, take, true, false, Result, Ok, Err, refl, ap, subst, sym, ◌∙◌, arith}
 use Rattle.edge_traits.specs.Faults.{HasCause}
 use Rattle.disk_model.specs.Content.{Content, Changes}
 use Rattle.disk_model.specs.Images.{IsImage, touched, synced}
 use Rattle.disk_model.proofs.Images.{image_of_touched, image_of_front, image_of_cut, image_of_written, image_self}
-use Rattle.memory_disks.specs.declared.arming.Way.{Way}
-use Rattle.memory_disks.specs.declared.arming.Way.TheVariants.{Passes, Fails, Stops}
-use Rattle.memory_disks.specs.Calls.{counted, wrote, write_failed, cut_to, cut_failed, synced_now}
+use Rattle.disk_model.specs.Arming.{Arming, AllPass, outcome_of, arming_after, arming_after_calls}
+use Rattle.disk_model.specs.Calls.{Fuse, CallsPassed, CallFailed, CallEnds}
+use Rattle.disk_model.specs.declared.outcome.Outcome.{Outcome}
+use Rattle.disk_model.specs.declared.outcome.Outcome.TheVariants.{Passes, Fails, Stops}
+use Rattle.memory_disks.specs.Calls.{wrote, write_failed, cut_to, cut_failed, synced_now}
 use Rattle.memory_disks.specs.Octets.{laid}
-use Rattle.memory_disks.specs.Stops.{FuseView, called, WriteGives, CutGives, synced_by}
+use Rattle.memory_disks.specs.Fuses.{FuseView, fuse_of, called, WriteGives, CutGives, synced_by}
 use Rattle.memory_disks.proofs.Laid.{wrote_laid}
 
-pub failed_cause : {T E : Type 0} (e : E) (before now : ℕ) → before ≤ 2 ^ 64 - 1 → now ≡ counted before → HasCause {T = T} before now (Err e)
-failed_cause e before now bound is = record {
-  later = omega (arith, bound, is);
+pub failed_cause : {T E : Type 0} (e : E) (before now : ℕ) → now ≡ before + 1 → HasCause {T = T} before now (Err e)
+failed_cause e before now is = record {
+  later = omega (arith, is);
   failed = omega (arith, is);
   quiet = tt;
 }
@@ -54,7 +56,7 @@ synced_changes old mid new start is =
     let content : new.content ≡ synced_now old.content = ap (λ v. v.content) is ∙ ap (λ v. synced_now v.content) start in
     subst (λ c. Changes (synced old.content.seen) old.content c) (sym content) record { kept = refl; past = refl; seen = image_self old.content.seen }
 
-write_images_by : {E : Type 0} (way : Way) (place : ℕ) (piece : List ℕ) (result : Result Unit E) (old new : FuseView) → WriteGives way place piece result old new → IsImage old.content.kept old.content.seen → Changes (touched place (length piece) old.content.kept) old.content new.content
+write_images_by : {E : Type 0} (way : Outcome) (place : ℕ) (piece : List ℕ) (result : Result Unit E) (old new : FuseView) → WriteGives way place piece result old new → IsImage old.content.kept old.content.seen → Changes (touched place (length piece) old.content.kept) old.content new.content
 write_images_by Passes place piece (Ok v) old new gives image = wrote_changes place piece old.content new.content (ap (λ v. v.content) gives) image
 write_images_by Passes place piece (Err e) old new gives image = write_failed_changes place piece old.content new.content (ap (λ v. v.content) gives) image
 write_images_by Fails place piece result old new gives image = write_failed_changes place piece old.content new.content (ap (λ v. v.content) gives.1) image
@@ -63,39 +65,39 @@ write_images_by (Stops fill) place piece result old new gives image = elim gives
   | inr not_made ↦ write_failed_changes place piece old.content new.content (ap (λ v. v.content) not_made) image
 ]
 
-pub write_images : {E : Type 0} (way : Way) (place : ℕ) (piece : List ℕ) (result : Result Unit E) (old mid new : FuseView) → mid ≡ called old → WriteGives way place piece result mid new → IsImage old.content.kept old.content.seen → Changes (touched place (length piece) old.content.kept) old.content new.content
+pub write_images : {E : Type 0} (way : Outcome) (place : ℕ) (piece : List ℕ) (result : Result Unit E) (old mid new : FuseView) → mid ≡ called old → WriteGives way place piece result mid new → IsImage old.content.kept old.content.seen → Changes (touched place (length piece) old.content.kept) old.content new.content
 write_images way place piece result old mid new start gives image = write_images_by way place piece result (called old) new (subst (λ m. WriteGives way place piece result m new) start gives) image
 
-write_cause_by : {E : Type 0} (way : Way) (place : ℕ) (piece : List ℕ) (result : Result Unit E) (old new : FuseView) → WriteGives way place piece result old new → old.faults ≤ 2 ^ 64 - 1 → HasCause old.faults new.faults result
-write_cause_by Passes place piece (Ok v) old new gives bound = passed_cause v old.faults new.faults (ap (λ v. v.faults) gives)
-write_cause_by Passes place piece (Err e) old new gives bound = failed_cause e old.faults new.faults bound (ap (λ v. v.faults) gives)
-write_cause_by Fails place piece (Ok v) old new gives bound = let wrong : false ≡ true = gives.0 in absurd (cc)
-write_cause_by Fails place piece (Err e) old new gives bound = failed_cause e old.faults new.faults bound (ap (λ v. v.faults) gives.1)
-write_cause_by (Stops fill) place piece (Ok v) old new gives bound = let wrong : false ≡ true = gives.0 in absurd (cc)
-write_cause_by (Stops fill) place piece (Err e) old new gives bound = elim gives.1 [
-  | inl made ↦ failed_cause e old.faults new.faults bound (ap (λ v. v.faults) made)
-  | inr not_made ↦ failed_cause e old.faults new.faults bound (ap (λ v. v.faults) not_made)
+write_cause_by : {E : Type 0} (way : Outcome) (place : ℕ) (piece : List ℕ) (result : Result Unit E) (old new : FuseView) → WriteGives way place piece result old new → HasCause old.faults new.faults result
+write_cause_by Passes place piece (Ok v) old new gives = passed_cause v old.faults new.faults (ap (λ v. v.faults) gives)
+write_cause_by Passes place piece (Err e) old new gives = failed_cause e old.faults new.faults (ap (λ v. v.faults) gives)
+write_cause_by Fails place piece (Ok v) old new gives = let wrong : false ≡ true = gives.0 in absurd (cc)
+write_cause_by Fails place piece (Err e) old new gives = failed_cause e old.faults new.faults (ap (λ v. v.faults) gives.1)
+write_cause_by (Stops fill) place piece (Ok v) old new gives = let wrong : false ≡ true = gives.0 in absurd (cc)
+write_cause_by (Stops fill) place piece (Err e) old new gives = elim gives.1 [
+  | inl made ↦ failed_cause e old.faults new.faults (ap (λ v. v.faults) made)
+  | inr not_made ↦ failed_cause e old.faults new.faults (ap (λ v. v.faults) not_made)
 ]
 
-pub write_cause : {E : Type 0} (way : Way) (place : ℕ) (piece : List ℕ) (result : Result Unit E) (old mid new : FuseView) → mid ≡ called old → WriteGives way place piece result mid new → old.faults ≤ 2 ^ 64 - 1 → HasCause old.faults new.faults result
-write_cause way place piece result old mid new start gives bound = write_cause_by way place piece result (called old) new (subst (λ m. WriteGives way place piece result m new) start gives) bound
+pub write_cause : {E : Type 0} (way : Outcome) (place : ℕ) (piece : List ℕ) (result : Result Unit E) (old mid new : FuseView) → mid ≡ called old → WriteGives way place piece result mid new → HasCause old.faults new.faults result
+write_cause way place piece result old mid new start gives = write_cause_by way place piece result (called old) new (subst (λ m. WriteGives way place piece result m new) start gives)
 
-cut_images_by : {E : Type 0} (way : Way) (n : ℕ) (result : Result Unit E) (old new : FuseView) → CutGives way n result old new → IsImage old.content.kept old.content.seen → Changes (take n old.content.kept) old.content new.content
+cut_images_by : {E : Type 0} (way : Outcome) (n : ℕ) (result : Result Unit E) (old new : FuseView) → CutGives way n result old new → IsImage old.content.kept old.content.seen → Changes (take n old.content.kept) old.content new.content
 cut_images_by Passes n (Ok v) old new gives image = cut_changes n old.content new.content (ap (λ v. v.content) gives) image
 cut_images_by Passes n (Err e) old new gives image = cut_failed_changes n old.content new.content (ap (λ v. v.content) gives) image
 cut_images_by Fails n result old new gives image = cut_failed_changes n old.content new.content (ap (λ v. v.content) gives.1) image
 cut_images_by (Stops fill) n result old new gives image = cut_failed_changes n old.content new.content (ap (λ v. v.content) gives.1) image
 
-pub cut_images : {E : Type 0} (way : Way) (n : ℕ) (result : Result Unit E) (old mid new : FuseView) → mid ≡ called old → CutGives way n result mid new → IsImage old.content.kept old.content.seen → Changes (take n old.content.kept) old.content new.content
+pub cut_images : {E : Type 0} (way : Outcome) (n : ℕ) (result : Result Unit E) (old mid new : FuseView) → mid ≡ called old → CutGives way n result mid new → IsImage old.content.kept old.content.seen → Changes (take n old.content.kept) old.content new.content
 cut_images way n result old mid new start gives image = cut_images_by way n result (called old) new (subst (λ m. CutGives way n result m new) start gives) image
 
-cut_cause_by : {E : Type 0} (way : Way) (n : ℕ) (result : Result Unit E) (old new : FuseView) → CutGives way n result old new → old.faults ≤ 2 ^ 64 - 1 → HasCause old.faults new.faults result
-cut_cause_by Passes n (Ok v) old new gives bound = passed_cause v old.faults new.faults (ap (λ v. v.faults) gives)
-cut_cause_by Passes n (Err e) old new gives bound = failed_cause e old.faults new.faults bound (ap (λ v. v.faults) gives)
-cut_cause_by Fails n (Ok v) old new gives bound = let wrong : false ≡ true = gives.0 in absurd (cc)
-cut_cause_by Fails n (Err e) old new gives bound = failed_cause e old.faults new.faults bound (ap (λ v. v.faults) gives.1)
-cut_cause_by (Stops fill) n (Ok v) old new gives bound = let wrong : false ≡ true = gives.0 in absurd (cc)
-cut_cause_by (Stops fill) n (Err e) old new gives bound = failed_cause e old.faults new.faults bound (ap (λ v. v.faults) gives.1)
+cut_cause_by : {E : Type 0} (way : Outcome) (n : ℕ) (result : Result Unit E) (old new : FuseView) → CutGives way n result old new → HasCause old.faults new.faults result
+cut_cause_by Passes n (Ok v) old new gives = passed_cause v old.faults new.faults (ap (λ v. v.faults) gives)
+cut_cause_by Passes n (Err e) old new gives = failed_cause e old.faults new.faults (ap (λ v. v.faults) gives)
+cut_cause_by Fails n (Ok v) old new gives = let wrong : false ≡ true = gives.0 in absurd (cc)
+cut_cause_by Fails n (Err e) old new gives = failed_cause e old.faults new.faults (ap (λ v. v.faults) gives.1)
+cut_cause_by (Stops fill) n (Ok v) old new gives = let wrong : false ≡ true = gives.0 in absurd (cc)
+cut_cause_by (Stops fill) n (Err e) old new gives = failed_cause e old.faults new.faults (ap (λ v. v.faults) gives.1)
 
-pub cut_cause : {E : Type 0} (way : Way) (n : ℕ) (result : Result Unit E) (old mid new : FuseView) → mid ≡ called old → CutGives way n result mid new → old.faults ≤ 2 ^ 64 - 1 → HasCause old.faults new.faults result
-cut_cause way n result old mid new start gives bound = cut_cause_by way n result (called old) new (subst (λ m. CutGives way n result m new) start gives) bound
+pub cut_cause : {E : Type 0} (way : Outcome) (n : ℕ) (result : Result Unit E) (old mid new : FuseView) → mid ≡ called old → CutGives way n result mid new → HasCause old.faults new.faults result
+cut_cause way n result old mid new start gives = cut_cause_by way n result (called old) new (subst (λ m. CutGives way n result m new) start gives)

@@ -1,5 +1,5 @@
 -- What the calls of a disk in memory make of its content.
-use Rattle.std.specs.Prelude.{ℕ, ◌+◌, ◌-◌, ◌^◌, min, List, [], ◌∷◌, length, take}
+use Rattle.std.specs.Prelude.{ℕ, List, [], ◌∷◌, length, take}
 use Rattle.disk_model.specs.Content.{Content}
 use Rattle.disk_model.specs.Images.{synced, touched}
 use Rattle.memory_disks.specs.Octets.{laid}
@@ -27,7 +27,3 @@ synced_now content = record { seen = content.seen; kept = synced content.seen; p
 -- a disk whose octets are all synced, and which has had no call
 abbrev pub settled : List ℕ → Content
 settled octets = record { seen = octets; kept = synced octets; past = [] }
-
--- a fault more
-abbrev pub counted : ℕ → ℕ
-counted faults = min (faults + 1) (2 ^ 64 - 1)

@@ -1,8 +1,7 @@
-pub mod Armings
 pub mod Calls
+pub mod Fuses
 pub mod Kept
 pub mod Logs
 pub mod Octets
 pub mod Queues
-pub mod Stops
 pub mod Views

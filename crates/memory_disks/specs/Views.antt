@@ -1,7 +1,8 @@
 -- A disk in memory as its callers see it.
-use Rattle.std.specs.Prelude.{ℕ, Bool, true}
+use Rattle.std.specs.Prelude.{ℕ, ◌+◌, Bool, true, Some}
+use Rattle.disk_model.specs.Arming.{unarmed}
+use Rattle.disk_model.specs.Calls.{Fuse}
 use Rattle.disk_model.specs.Content.{Content}
-use Rattle.memory_disks.specs.Calls.{counted}
 
 pub record DiskView : Type 0 where
   pub content : Content
@@ -11,4 +12,8 @@ pub record DiskView : Type 0 where
 
 -- a call failed for want of memory, and left this content
 abbrev pub starved_with : Content → DiskView → DiskView
-starved_with content disk = record { content = content; faults = counted disk.faults; starved = true }
+starved_with content disk = record { content = content; faults = disk.faults + 1; starved = true }
+
+-- what makes its calls fail: it is never armed
+abbrev pub fuse_of : DiskView → Fuse
+fuse_of disk = record { arming = Some unarmed; starved = disk.starved }

@@ -1,13 +1,14 @@
 ghost use Rattle.std.specs.Prelude.{◌≡◌, ◌≤◌, ◌↔◌, ℕ, [], length, take, drop, min, true, false, IsTrue, IsOk, Some, IfOk, OnOk, OnErr};
 ghost use Rattle.edge_traits.specs.Faults.{HasCause};
-ghost use Rattle.disk_model.specs.Content.{Content, Moved, Tells, ReadsAt, Changes, Wrote};
+ghost use Rattle.disk_model.specs.Content.{Content, Moved, Tells, SeesImage, ReadsAt, Changes, Wrote};
 ghost use Rattle.disk_model.specs.Images.{IsImage, synced, touched};
-ghost use Rattle.memory_disks.specs.Calls.{wrote, write_failed, cut_to, synced_now, settled, counted};
-ghost use Rattle.memory_disks.specs.Views.{DiskView, starved_with};
+ghost use Rattle.memory_disks.specs.Calls.{wrote, write_failed, cut_to, synced_now, settled};
+ghost use Rattle.disk_model.specs.Calls.{CallEnds, FillsBuffer};
+ghost use Rattle.memory_disks.specs.Views.{DiskView, fuse_of, starved_with};
 
 use crate::log::Log;
 use crate::octets::{copy_from, write_over};
-use base_lists::NoMemory;
+use base_lists::{NoMemory, Tally};
 use disk_model::Disk;
 use edge_traits::Failed;
 use std::alloc::Global;
@@ -19,7 +20,7 @@ pub struct MemDisk {
     alloc: Global,
     octets: Vec<u8>,
     log: Log,
-    faults: u64,
+    faults: Tally,
     starved: bool,
 }
 
@@ -61,7 +62,7 @@ impl MemDisk {
             alloc,
             log: Log::made(&octets),
             octets,
-            faults: 0,
+            faults: Tally::zero(),
             starved,
         }
     }
@@ -104,10 +105,14 @@ impl Disk for MemDisk {
 
     ghost faults = { λ d. d.faults };
 
+    ghost fuse = { fuse_of };
+
     /// Never fails.
     fn len(&mut self) -> Result<u64, Failed>
         ensures ok { result ≡ Ok (length self.old.content.seen) }
         ensures same { self.new ≡ self.old }
+        ensures image { SeesImage (Some self.old.content) }
+        ensures call { CallEnds (fuse_of self.old) (fuse_of self.new) result }
         ensures length { IfOk result (λ n. Tells (Some self.old.content) (λ c. n ≡ length c.seen)) }
         ensures keeps { Some self.new.content ≡ Some self.old.content }
         ensures cause { HasCause self.old.faults self.new.faults result }
@@ -119,6 +124,10 @@ impl Disk for MemDisk {
     fn read(&mut self, place: u64, into: &mut [u8]) -> Result<usize, Failed>
         ensures ok { result ≡ Ok (min (length into.old) (length (drop place self.old.content.seen))) }
         ensures same { self.new ≡ self.old }
+        ensures image { SeesImage (Some self.old.content) }
+        ensures call { CallEnds (fuse_of self.old) (fuse_of self.new) result }
+        ensures fills { IfOk result (λ n.
+            FillsBuffer (fuse_of self.old) (Some self.old.content) place (length into.old) n) }
         ensures bound { IfOk result (λ n. n ≤ length into.new) }
         ensures octets { IfOk result (λ n. Tells (Some self.old.content) (λ c. ReadsAt c.seen place n into.new)) }
         ensures keeps { Some self.new.content ≡ Some self.old.content }
@@ -132,6 +141,10 @@ impl Disk for MemDisk {
         ensures ok { OnOk result (self.new ≡ record self.old { content = wrote place piece.now self.old.content }) }
         ensures err { OnErr result (self.new ≡ starved_with (write_failed place piece.now self.old.content) self.old) }
         ensures images { Moved (Some self.old.content) (Some self.new.content) (λ old new. Changes (touched place (length piece.now) old.kept) old new) }
+        ensures image { SeesImage (Some self.old.content) }
+        ensures call { CallEnds (fuse_of self.old) (fuse_of self.new) result }
+        ensures stays { OnErr result (Moved (Some self.old.content) (Some self.new.content)
+            (λ old new. new.seen ≡ old.seen)) }
         ensures written { OnOk result (Moved (Some self.old.content) (Some self.new.content) (λ old new. Wrote place piece.now old.seen new.seen)) }
         ensures cause { HasCause self.old.faults self.new.faults result }
     {
@@ -140,7 +153,7 @@ impl Disk for MemDisk {
             Ok(()) => Ok(()),
             Err(_) => {
                 self.starved = true;
-                self.faults = self.faults.saturating_add(1);
+                self.faults.rise();
                 Err(Failed)
             }
         }
@@ -151,6 +164,10 @@ impl Disk for MemDisk {
         ensures ok { IsOk result }
         ensures to { self.new ≡ record self.old { content = cut_to length self.old.content } }
         ensures images { Moved (Some self.old.content) (Some self.new.content) (λ old new. Changes (take length old.kept) old new) }
+        ensures image { SeesImage (Some self.old.content) }
+        ensures call { CallEnds (fuse_of self.old) (fuse_of self.new) result }
+        ensures stays { OnErr result (Moved (Some self.old.content) (Some self.new.content)
+            (λ old new. new.seen ≡ old.seen)) }
         ensures cut { OnOk result (Moved (Some self.old.content) (Some self.new.content) (λ old new. new.seen ≡ take length old.seen)) }
         ensures cause { HasCause self.old.faults self.new.faults result }
     {
@@ -164,6 +181,8 @@ impl Disk for MemDisk {
         ensures ok { IsOk result }
         ensures now { self.new ≡ record self.old { content = synced_now self.old.content } }
         ensures images { OnOk result (Moved (Some self.old.content) (Some self.new.content) (λ old new. Changes (synced old.seen) old new)) }
+        ensures image { SeesImage (Some self.old.content) }
+        ensures call { CallEnds (fuse_of self.old) (fuse_of self.new) result }
         ensures seen { OnOk result (Moved (Some self.old.content) (Some self.new.content) (λ old new. new.seen ≡ old.seen)) }
         ensures keeps { OnErr result (Some self.new.content ≡ Some self.old.content) }
         ensures cause { HasCause self.old.faults self.new.faults result }

@@ -1,5 +1,6 @@
 ghost use Rattle.std.specs.Prelude.{◌≡◌, [], ◌∷◌, ◌++◌, ℕ, OnOk, OnErr};
-ghost use Rattle.memory_disks.specs.Queues.{hit, waiting, in_order, HasFirst};
+ghost use Rattle.disk_model.specs.Arming.{line_that_hits, lines_after};
+ghost use Rattle.memory_disks.specs.Queues.{in_order, HasFirst};
 
 use base_lists::NoMemory;
 use std::alloc::Global;
@@ -62,8 +63,8 @@ impl<T: Copy + Drop> Queue<T> {
 
     /// One call: the line that hits it, if one does.
     pub(crate) fn call(&mut self) -> Option<T>
-        ensures hit { result ≡ hit self.old }
-        ensures waiting { self.new ≡ waiting self.old }
+        ensures hit { result ≡ line_that_hits self.old }
+        ensures waiting { self.new ≡ lines_after self.old }
     {
         match self.first {
             None => None,

@@ -1,5 +1,5 @@
--- The definitions on small disks.
-use Rattle.std.proofs.Common.{◌≡◌, ℕ, [], ◌∷◌, take, Some, None, refl}
+-- What a stop may leave of small disks.
+use Rattle.std.specs.Prelude.{◌≡◌, ℕ, [], ◌∷◌, take, Some, None, refl}
 use Rattle.disk_model.specs.Images.{IsImage, synced, touched}
 use Rattle.disk_model.specs.Content.{Wrote}
 

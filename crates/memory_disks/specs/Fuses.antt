@@ -1,12 +1,12 @@
 -- A disk that stops and fails in the calls for which it is armed.
-use Rattle.std.specs.Prelude.{◌≡◌, ◌⊎◌, ℕ, Bool, true, List, [], ◌∷◌, ◌++◌, length, Option, Some, None, Result, MatchResult, IsErr, unwrap_or}
+use Rattle.std.specs.Prelude.{◌≡◌, ◌⊎◌, ℕ, ◌+◌, ◌-◌, ◌^◌, ◌==◌, if◌then◌else◌, Bool, true, List, [], ◌∷◌, ◌++◌, length, Option, Some, None, Result, MatchResult, IsErr, unwrap_or}
 use Rattle.disk_model.specs.Content.{Content}
 use Rattle.base_kinds.specs.declared.fill.Fill.{Fill}
-use Rattle.memory_disks.specs.declared.arming.Arming.{Arming}
-use Rattle.memory_disks.specs.declared.arming.Way.{Way}
-use Rattle.memory_disks.specs.declared.arming.Way.TheVariants.{Passes, Fails, Stops}
-use Rattle.memory_disks.specs.Armings.{after}
-use Rattle.memory_disks.specs.Calls.{counted, wrote, write_failed, cut_to, cut_failed, synced_now, settled}
+use Rattle.disk_model.specs.Arming.{Arming, armed_by, arming_after, unarmed}
+use Rattle.disk_model.specs.Calls.{Fuse}
+use Rattle.disk_model.specs.declared.outcome.Outcome.{Outcome}
+use Rattle.disk_model.specs.declared.outcome.Outcome.TheVariants.{Passes, Fails, Stops}
+use Rattle.memory_disks.specs.Calls.{wrote, write_failed, cut_to, cut_failed, synced_now, settled}
 use Rattle.memory_disks.specs.Octets.{laid, left_by}
 
 pub record FuseView : Type 0 where
@@ -22,13 +22,25 @@ pub record FuseView : Type 0 where
   -- what the stop left
   pub left : Option (List ℕ)
 
+-- what makes its calls fail
+abbrev pub fuse_of : FuseView → Fuse
+fuse_of disk = record { arming = Some disk.arming; starved = disk.starved }
+
+-- the number of calls of a disk that is made without a stop
+abbrev pub no_stop : ℕ
+no_stop = 2 ^ 64 - 1
+
+-- the arming of a disk that is made to stop in the call after so many, or made without a stop
+abbrev pub first_arming : ℕ → Fill → Arming
+first_arming passes fill = if passes == no_stop then unarmed else armed_by ((passes, fill) ∷ []) []
+
 -- the counts go on by one call
 abbrev pub called : FuseView → FuseView
-called disk = record disk { arming = after disk.arming }
+called disk = record disk { arming = arming_after disk.arming }
 
 -- a call fails, with this content, and is counted
 abbrev pub failed : Content → FuseView → FuseView
-failed content disk = record disk { content = content; faults = counted disk.faults }
+failed content disk = record disk { content = content; faults = disk.faults + 1 }
 
 -- and it fails for want of memory
 abbrev pub starved : FuseView → FuseView
@@ -39,13 +51,13 @@ abbrev pub stopped : Fill → List ℕ → List (ℕ × ℕ) → FuseView → Fu
 stopped fill seen written disk = record disk { left = Some (left_by fill disk.base seen written) }
 
 -- what a call does that changes no content: the length, or a read
-abbrev pub looked : Way → FuseView → FuseView
+abbrev pub looked : Outcome → FuseView → FuseView
 looked Passes disk = disk
 looked Fails disk = failed disk.content disk
 looked (Stops fill) disk = stopped fill disk.content.seen disk.written (failed disk.content disk)
 
 -- A sync. After it nothing is written since the last one. A sync that fails changes nothing.
-abbrev pub synced_by : Way → FuseView → FuseView
+abbrev pub synced_by : Outcome → FuseView → FuseView
 synced_by Passes disk = record disk { content = synced_now disk.content; base = disk.content.seen; written = [] }
 synced_by Fails disk = looked Fails disk
 synced_by (Stops fill) disk = looked (Stops fill) disk
@@ -58,7 +70,7 @@ StopsInWrite fill place piece old new =
 
 -- A write. Where it passes it fails for want of memory alone. Where the disk stops in it, its piece counts as written
 -- since the last sync, unless there was no memory for it.
-abbrev pub WriteGives : {E : Type 0} → Way → ℕ → List ℕ → Result Unit E → FuseView → FuseView → Type 0
+abbrev pub WriteGives : {E : Type 0} → Outcome → ℕ → List ℕ → Result Unit E → FuseView → FuseView → Type 0
 WriteGives Passes place piece result old new = MatchResult result
     (λ _. new ≡ record old { content = wrote place piece old.content; written = old.written ++ (place, length piece) ∷ [] })
     (λ _. new ≡ starved (failed (write_failed place piece old.content) old))
@@ -66,7 +78,7 @@ WriteGives Fails place piece result old new = IsErr result × (new ≡ failed (w
 WriteGives (Stops fill) place piece result old new = IsErr result × StopsInWrite fill place piece old new
 
 -- A cut. Where it passes it fails for want of memory alone. Where the disk stops in it, it isn't made.
-abbrev pub CutGives : {E : Type 0} → Way → ℕ → Result Unit E → FuseView → FuseView → Type 0
+abbrev pub CutGives : {E : Type 0} → Outcome → ℕ → Result Unit E → FuseView → FuseView → Type 0
 CutGives Passes n result old new = MatchResult result
     (λ _. new ≡ record old { content = cut_to n old.content })
     (λ _. new ≡ starved (failed (cut_failed n old.content) old))
@@ -83,7 +95,7 @@ made_of octets starved arming = record { content = settled octets; faults = 0; s
 
 -- A disk is ready for what its call does: while it passes or stops it hasn't left anything, and in its stop it is marked
 -- as stopped.
-abbrev pub IsReady : Way → FuseView → Type 0
+abbrev pub IsReady : Outcome → FuseView → Type 0
 IsReady Passes disk = disk.left ≡ None
 IsReady Fails disk = Unit {0}
 IsReady (Stops fill) disk = (disk.left ≡ None) × (disk.arming.stopped ≡ true)

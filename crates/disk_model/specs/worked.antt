@@ -1,0 +1,3 @@
+-- The definitions on small cases.
+pub mod Armings
+pub mod Images

@@ -1,5 +1,0 @@
-use Rattle.memory_disks.proofs.Machine.{stop_hits, stop_before, stop_behind}
-use Rattle.memory_disks.proofs.laws.stop_hits_its_call.Goals as goal
-
-pub returns : goal.returns
-returns c = record { hit = stop_hits; before = stop_before; behind = stop_behind }
