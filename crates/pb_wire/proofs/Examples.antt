@@ -2,7 +2,8 @@
 use Rattle.std.proofs.Common.{◌≡◌, ℕ, ◌^◌, ◌-◌, List, [], ◌∷◌, Some, None, refl, lit<, lit≤}
 use Rattle.pb_wire.specs.declared.field.Body.TheVariants.{Varint, Octets}
 use Rattle.pb_wire.specs.declared.field.Field.{Field}
-use Rattle.pb_wire.specs.Varint.{value_of, IsVarint, shortest}
+use Rattle.base_lists.specs.SevenBits.{number_of_groups}
+use Rattle.pb_wire.specs.Varint.{IsVarint, shortest}
 use Rattle.pb_wire.specs.Message.{IsMessage}
 use Rattle.pb_wire.specs.Writing.{varint_field, octets_field, shifted}
 use Rattle.pb_wire.specs.Values.{varints, occurrences, last_scalar, last_octets, joined_octets, one_of, entry_of, last_entries, value_of_key}
@@ -13,15 +14,15 @@ varint number n = record { number = number; body = Varint n }
 abbrev octets : ℕ → ℕ → ℕ → Field
 octets number from to = record { number = number; body = Octets from to }
 
-value_of-150 : value_of (150 ∷ 1 ∷ []) ≡ 150
-value_of-150 = refl
+number_of_groups-150 : number_of_groups (150 ∷ 1 ∷ []) ≡ 150
+number_of_groups-150 = refl
 
 -- more octets than are needed
-value_of-long : value_of (150 ∷ 129 ∷ 128 ∷ 0 ∷ []) ≡ 150
-value_of-long = refl
+number_of_groups-long : number_of_groups (150 ∷ 129 ∷ 128 ∷ 0 ∷ []) ≡ 150
+number_of_groups-long = refl
 
-value_of-largest : value_of (255 ∷ 255 ∷ 255 ∷ 255 ∷ 255 ∷ 255 ∷ 255 ∷ 255 ∷ 255 ∷ 1 ∷ []) ≡ 2 ^ 64 - 1
-value_of-largest = refl
+number_of_groups-largest : number_of_groups (255 ∷ 255 ∷ 255 ∷ 255 ∷ 255 ∷ 255 ∷ 255 ∷ 255 ∷ 255 ∷ 1 ∷ []) ≡ 2 ^ 64 - 1
+number_of_groups-largest = refl
 
 IsVarint-150 : IsVarint (150 ∷ 1 ∷ []) 150
 IsVarint-150 = record { marked = (lit≤ tt, lit< tt); short = lit≤ tt; value = refl; fits = lit< tt }

@@ -4,8 +4,10 @@ use Rattle.std.proofs.lemmas.Bool.{ltb-true, ltb-false, lt-ltb, le-ltb}
 use Rattle.std.proofs.lemmas.List.{take_at, drop_at, take-append-drop, length-append, length-take}
 use Rattle.std.proofs.lemmas.List.Quantifiers.{position-Some}
 use Rattle.std.specs.List.{position_or_len}
-use Rattle.pb_wire.specs.Varint.{value_of, IsMarked, IsVarint}
-use Rattle.pb_wire.specs.Reading.{◌>>=◌, last_place, value_in, spelling_at, varint_at}
+use Rattle.base_lists.specs.SevenBits.{number_of_groups, IsMarked}
+use Rattle.pb_wire.specs.Varint.{IsVarint}
+use Rattle.base_lists.specs.Options.{◌>>=◌}
+use Rattle.pb_wire.specs.Reading.{last_place, value_in, spelling_at, varint_at}
 
 -- the value of a step that did not fail
 pub bind_some : {A B : Type 0} (r : Option A) (f : A → Option B) (y : B) → (r >>= f) ≡ Some y → (x : A) × (r ≡ Some x) × (f x ≡ Some y)
@@ -47,7 +49,7 @@ IsMarked-place (b ∷ c ∷ bs) rest h =
 pub parts_from : (octets front rest : List ℕ) (i : ℕ) → take i octets ≡ front → drop i octets ≡ rest → octets ≡ front ++ rest
 parts_from octets front rest i f r = rw (← f, ← r) (sym (take-append-drop i octets))
 
-spelling_is : (octets front : List ℕ) (last n : ℕ) → take (last + 1) octets ≡ front → IsMarked (take (suc last) octets) → last < 10 → value_of front ≡ n → value_of front < 2 ^ 64 → IsVarint front n
+spelling_is : (octets front : List ℕ) (last n : ℕ) → take (last + 1) octets ≡ front → IsMarked (take (suc last) octets) → last < 10 → number_of_groups front ≡ n → number_of_groups front < 2 ^ 64 → IsVarint front n
 spelling_is octets front last n is marked below value fits =
     let same : take (suc last) octets ≡ front = ap (λ (k : ℕ). take k octets) (sym (add-one last)) ∙ is in
     record {
@@ -67,12 +69,12 @@ varint_takes octets n rest e =
     let last : ℕ = l.0 in
     let g = passed (ltb last 10) (Some (take (last + 1) octets, drop (last + 1) octets)) parts l.2 in
     let place = position-Some (λ b. ltb b 128) octets last 0 l.1 in
-    let f = passed (ltb (value_of parts.0) (2 ^ 64)) (Some (value_of parts.0)) v.0 v.1 in
+    let f = passed (ltb (number_of_groups parts.0) (2 ^ 64)) (Some (number_of_groups parts.0)) v.0 v.1 in
     let front-is : take (last + 1) octets ≡ parts.0 = some_front _ _ g.1 in
     let rest-is : drop (last + 1) octets ≡ parts.1 = some_rest _ _ g.1 in
     let n-is : v.0 ≡ n = some_number _ _ v.2 in
     let after-is : parts.1 ≡ rest = some_after _ _ v.2 in
-    let value-is : value_of parts.0 ≡ v.0 = some_is _ _ f.1 in
+    let value-is : number_of_groups parts.0 ≡ v.0 = some_is _ _ f.1 in
     let marked = IsMarked-take octets last place.0 (ltb-true _ _ place.1) (λ k h. ltb-false _ _ (place.2 k h)) in
     let below : last < 10 = ltb-true _ _ g.0 in
     record {
@@ -105,6 +107,6 @@ varint_again spelling rest n is =
     let inside : ltb i (length (spelling ++ rest)) ≡ true = lt-ltb _ _ (omega (arith, length-append spelling rest, len)) in
     let below : ltb i 10 ≡ true = lt-ltb _ _ (omega (arith, len, short)) in
     let len1 : length spelling ≡ i + 1 = omega (arith, len) in
-    let small : value_of spelling < 2 ^ 64 = omega (arith, is.value, is.fits) in
-    let fits : ltb (value_of spelling) (2 ^ 64) ≡ true = lt-ltb _ _ small in
+    let small : number_of_groups spelling < 2 ^ 64 = omega (arith, is.value, is.fits) in
+    let fits : ltb (number_of_groups spelling) (2 ^ 64) ≡ true = lt-ltb _ _ small in
     rw (inside, below, take_at spelling rest (i + 1) len1, drop_at spelling rest (i + 1) len1, fits, is.value) refl

@@ -8,7 +8,7 @@ use Rattle.std.proofs.lemmas.List.Folds.{concat-append}
 use Rattle.pb_wire.specs.declared.field.Body.TheVariants.{Varint}
 use Rattle.pb_wire.specs.declared.field.Field.{Field}
 use Rattle.pb_wire.specs.Values.{varint_in, octets_in, varints, occurrences, last_scalar, joined_octets}
-use Rattle.pb_wire.specs.Writing.{AppendsFront}
+use Rattle.base_lists.specs.Fronts.{AppendsFront}
 
 last_or-push : {X : Type 0} (o : Option X) (xs : List X) (x : X) → last_or o (xs ++ x ∷ []) ≡ Some x
 last_or-push o [] x = refl

@@ -3,22 +3,18 @@
 use Rattle.std.specs.Prelude.{ℕ, ◌+◌, ◌-◌, ◌/◌, ◌%◌, ◌^◌, List, length, take, drop, Option, Some, None, nat_lt, nat_le, ◌==◌, if◌then◌else◌}
 use Rattle.std.specs.List.{position}
 use Rattle.std.specs.Int.{Width, w32, w64, byte_len, from_le_bytes}
+use Rattle.base_lists.specs.Options.{◌>>=◌}
 use Rattle.pb_wire.specs.declared.field.Body.{Body}
 use Rattle.pb_wire.specs.declared.field.Body.TheVariants.{Varint, Eight, Octets, Four}
 use Rattle.pb_wire.specs.declared.field.Field.{Field}
-use Rattle.pb_wire.specs.Varint.{value_of}
-
-infixl 10 ◌>>=◌
-abbrev pub ◌>>=◌ : {A B : Type 0} → Option A → (A → Option B) → Option B
-None >>= f = None
-(Some x) >>= f = f x
+use Rattle.base_lists.specs.SevenBits.{number_of_groups}
 
 -- the place of the first octet below 128
 abbrev pub last_place : List ℕ → Option ℕ
 last_place octets = position (λ b. nat_lt b 128) octets
 
 abbrev pub value_in : List ℕ → Option ℕ
-value_in octets = if nat_lt (value_of octets) (2 ^ 64) then Some (value_of octets) else None
+value_in octets = if nat_lt (number_of_groups octets) (2 ^ 64) then Some (number_of_groups octets) else None
 
 abbrev pub spelling_at : List ℕ → Option (List ℕ × List ℕ)
 spelling_at octets = do

@@ -1,5 +1,5 @@
 -- How a field is written, in the shortest spelling, and fields whose octets follow others.
-use Rattle.std.specs.Prelude.{◌≡◌, ℕ, ◌+◌, ◌*◌, List, ◌∷◌, ◌++◌, length, map}
+use Rattle.std.specs.Prelude.{ℕ, ◌+◌, ◌*◌, List, ◌∷◌, ◌++◌, length, map}
 use Rattle.pb_wire.specs.declared.field.Body.{Body}
 use Rattle.pb_wire.specs.declared.field.Body.TheVariants.{Varint, Eight, Octets, Four}
 use Rattle.pb_wire.specs.declared.field.Field.{Field}
@@ -15,13 +15,6 @@ octets_field number octets = (number * 8 + 2) ∷ (shortest (length octets) ++ o
 -- The only field of a message that `octets_field` spells: its octets are the last of the message.
 abbrev pub octets_body : List ℕ → Body
 octets_body octets = Octets (1 + length (shortest (length octets))) (1 + length (shortest (length octets)) + length octets)
-
--- a front of the spelling was added at the end
-pub record AppendsFront (old new spelling : List ℕ) : Type 0 where
-  pub front : List ℕ
-  pub rest : List ℕ
-  pub parts : spelling ≡ front ++ rest
-  pub is : new ≡ old ++ front
 
 -- the body of a field before which so many octets are put
 abbrev pub shifted_body : ℕ → Body → Body

@@ -1,7 +1,7 @@
 ghost use Rattle.std.specs.Prelude.{◌≡◌, ◌≢◌, ◌↔◌, [], ◌++◌, length, IsTrue, IfOk, OnOk, OnErr, option_map};
 ghost use Rattle.pb_wire.specs.Message.{IsWithin, AreWithin};
 ghost use Rattle.pb_wire.specs.Values.{varint_in, octets_in, occurrences, last_scalar, joined_octets};
-ghost use Rattle.pb_wire.specs.Writing.{AppendsFront};
+ghost use Rattle.base_lists.specs.Fronts.{AppendsFront};
 
 use crate::field::{Body, Field, Fields};
 use base_lists::{Bytes, NoMemory};

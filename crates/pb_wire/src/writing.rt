@@ -1,22 +1,19 @@
 ghost use Rattle.std.specs.Prelude.{◌≡◌, ◌≤◌, [], ◌∷◌, ◌++◌, OnOk, OnErr};
 ghost use Rattle.pb_wire.specs.Varint.{shortest};
 ghost use Rattle.pb_wire.specs.Message.{IsMessage};
-ghost use Rattle.pb_wire.specs.Writing.{varint_field, octets_field, octets_body, AppendsFront};
+ghost use Rattle.base_lists.specs.Fronts.{AppendsFront};
+ghost use Rattle.pb_wire.specs.Writing.{varint_field, octets_field, octets_body};
 ghost use Rattle.pb_wire.specs.declared.field.Body.TheVariants.{Varint};
 
-use base_lists::{Bytes, NoMemory};
+use base_lists::{Bytes, NoMemory, put_groups};
 
 /// Adds the shortest spelling of the number.
+#[tactic(auto, unfolding(crate::specs::Varint::shortest))]
 fn put_shortest(value: u64, out: &mut Bytes) -> Result<(), NoMemory>
     ensures ok { OnOk result (out.new ≡ out.old ++ shortest value) }
     ensures err { OnErr result (AppendsFront out.old out.new (shortest value)) }
 {
-    let mut left = value;
-    while left >= 128 {
-        out.push((left % 128) as u8 + 128)?;
-        left /= 128;
-    }
-    out.push(left as u8)
+    put_groups(value, out)
 }
 
 /// Adds a field that holds the number, in its shortest spelling.

@@ -1,7 +1,7 @@
 use Rattle.std.proofs.Common.{ℕ, List, ◌++◌, take, sym, ap, subst, ◌∙◌, append_assoc}
 use Rattle.std.specs.List.{concat}
 use Rattle.pb_wire.specs.declared.field.Field.{Field}
-use Rattle.pb_wire.specs.Writing.{AppendsFront}
+use Rattle.base_lists.specs.Fronts.{AppendsFront}
 use Rattle.pb_wire.specs.Values.{occurrences, joined_octets}
 use Rattle.pb_wire.proofs.ValueLemmas.{no_field, on_err_from, is_some_of, is_some_of-push, occurrences-none, occurrences-some, joined_octets-some, joined_octets-front}
 use Rattle.pb_wire.proofs.values.joined.Goals as goal
