@@ -4,7 +4,8 @@ use Rattle.std.proofs.lemmas.Bool.{ltb-true, ltb-false, lt-ltb, le-ltb, leb-true
 use Rattle.std.proofs.lemmas.Nat.{pow_pos}
 use Rattle.std.proofs.Math.Nat.{mod-lt}
 use Rattle.std.proofs.lemmas.Option.{some_pair_parts}
-use Rattle.hpack_block.specs.Integers.{value_of, IsMarked, IsInteger}
+use Rattle.base_lists.specs.SevenBits.{number_of_groups, IsMarked}
+use Rattle.hpack_block.specs.Integers.{IsInteger}
 use Rattle.hpack_block.specs.Reading.{bounded, with_group, groups_at, above, integer_at}
 
 chosen : {A : Type 0} (b : Bool) (x y z : A) → cond b x y ≡ z → ((b ≡ true) × (x ≡ z)) ⊎ ((b ≡ false) × (y ≡ z))
@@ -32,8 +33,8 @@ bounded_some m r n rest e = elim (chosen (leb m 2147483647) (Some (m, r)) None (
 
 -- ---- the octets behind a prefix
 
-groups_again : (most : ℕ) (groups rest : List ℕ) → IsMarked groups → length groups ≤ most → value_of groups ≤ 2147483647
-    → groups_at most (groups ++ rest) ≡ Some (value_of groups, rest)
+groups_again : (most : ℕ) (groups rest : List ℕ) → IsMarked groups → length groups ≤ most → number_of_groups groups ≤ 2147483647
+    → groups_at most (groups ++ rest) ≡ Some (number_of_groups groups, rest)
 groups_again zero [] rest m s h = absurd m
 groups_again zero (b ∷ bs) rest m s h = absurd (omega arith)
 groups_again (suc most) [] rest m s h = absurd m
@@ -44,14 +45,14 @@ groups_again (suc most) (b ∷ []) rest m s h =
 groups_again (suc most) (b ∷ c ∷ bs) rest m s h =
     let high : ltb b 128 ≡ false = le-ltb b 128 m.0 in
     let more = groups_again most (c ∷ bs) rest m.1 (omega arith) (omega arith) in
-    rw high (ap (with_group b) more ∙ bounded_within (value_of (b ∷ c ∷ bs)) rest h)
+    rw high (ap (with_group b) more ∙ bounded_within (number_of_groups (b ∷ c ∷ bs)) rest h)
 
 pub record Groups (most : ℕ) (octets : List ℕ) (n : ℕ) (rest : List ℕ) : Type 0 where
   pub groups : List ℕ
   pub follows : octets ≡ groups ++ rest
   pub marked : IsMarked groups
   pub few : length groups ≤ most
-  pub value : n ≡ value_of groups
+  pub value : n ≡ number_of_groups groups
 
 pub record Grouped (b : ℕ) (o : Option (ℕ × List ℕ)) (n : ℕ) (rest : List ℕ) : Type 0 where
   pub higher : ℕ
@@ -85,7 +86,7 @@ groups_takes (suc most) (b ∷ bs) n rest e = elim (chosen (ltb b 128) (Some (b,
 ]
   where
     joined : (b : ℕ) (bs : List ℕ) (n : ℕ) (rest : List ℕ) (most higher : ℕ) → 128 ≤ b → n ≡ b % 128 + 128 * higher
-        → (groups : List ℕ) → bs ≡ groups ++ rest → IsMarked groups → length groups ≤ most → higher ≡ value_of groups → Groups (suc most) (b ∷ bs) n rest
+        → (groups : List ℕ) → bs ≡ groups ++ rest → IsMarked groups → length groups ≤ most → higher ≡ number_of_groups groups → Groups (suc most) (b ∷ bs) n rest
     joined b bs n rest most higher high value [] follows marked few is = absurd marked
     joined b bs n rest most higher high value (g ∷ gs) follows marked few is = record {
       groups = b ∷ g ∷ gs;
@@ -109,8 +110,8 @@ integer_again bits (first ∷ after) n rest (inr p) =
     let value = p.value in
     let le = p.bounded in
     let high : ltb (first % 2 ^ bits) (2 ^ bits - 1) ≡ false = le-ltb _ _ (omega (arith, full)) in
-    let fits : value_of p.groups ≤ 2147483647 = omega (arith, value, le) in
-    let read : groups_at 5 after ≡ Some (value_of p.groups, rest) = ap (groups_at 5) p.follows ∙ groups_again 5 p.groups rest p.marked p.few fits in
+    let fits : number_of_groups p.groups ≤ 2147483647 = omega (arith, value, le) in
+    let read : groups_at 5 after ≡ Some (number_of_groups p.groups, rest) = ap (groups_at 5) p.follows ∙ groups_again 5 p.groups rest p.marked p.few fits in
     rw high (ap (above (2 ^ bits - 1)) read ∙ ap (λ (m : ℕ). bounded m rest) (sym value) ∙ bounded_within n rest le)
 
 pub record Above (most : ℕ) (o : Option (ℕ × List ℕ)) (n : ℕ) (rest : List ℕ) : Type 0 where

@@ -10,62 +10,29 @@ use Rattle.std.proofs.Math.Seq.{drop-cons}
 use Rattle.std.proofs.lemmas.List.Concat.{flat_map-append}
 use Rattle.std.proofs.lemmas.List.Sums.{position_or_len_is}
 use Rattle.std.proofs.lemmas.List.Quantifiers.{position-Some}
+use Rattle.base_lists.proofs.Fronts.{AppendsFront-more, AppendsFront-longer}
+use Rattle.base_lists.proofs.SevenBits.{room, number_of_groups-of, IsMarked-groups_of, length-groups_of, groups_of-room}
 use Rattle.hpack_block.specs.declared.header.Header.{Header}
 use Rattle.hpack_block.specs.declared.form.Form.{Form}
 use Rattle.hpack_block.specs.declared.form.Form.TheVariants.{Indexed, NotAdded}
-use Rattle.hpack_block.specs.Integers.{value_of, IsMarked, IsInteger}
+use Rattle.base_lists.specs.SevenBits.{number_of_groups, IsMarked}
+use Rattle.hpack_block.specs.Integers.{IsInteger}
 use Rattle.hpack_block.specs.Strings.{IsString}
 use Rattle.hpack_block.specs.StaticTable.{nothing, static_table}
 use Rattle.hpack_block.specs.Tables.{Table, entry_at, name_at}
 use Rattle.hpack_block.specs.Fields.{form_of, IsIndexed, IsName, IsLiteral, IsField}
 use Rattle.hpack_block.specs.Block.{AreFields, Block}
-use Rattle.hpack_block.specs.Written.{groups_of, integer_of, string_of, same_octets, is_pair, is_name, place_of_pair, place_of_name, name_with, name_of, literal_of, field_with, field_of, block_of, IsShort, AppendsFront}
+use Rattle.base_lists.specs.SevenBits.{groups_of}
+use Rattle.base_lists.specs.Fronts.{AppendsFront}
+use Rattle.hpack_block.specs.Written.{integer_of, string_of, same_octets, is_pair, is_name, place_of_pair, place_of_name, name_with, name_of, literal_of, field_with, field_of, block_of, IsShort}
 use Rattle.hpack_block.proofs.TableLemmas.{static_length, slice_get-left}
 use Rattle.hpack_block.proofs.BlockLemmas.{form_at, Block-from_fields}
 
 -- ---- octets behind a prefix
 
--- the first number that needs more octets than so many and a last one
-abbrev pub room : ℕ → ℕ
-room zero = 128
-room (suc more) = 128 * room more
-
-pub groups_of-last : (more n : ℕ) → n < 128 → groups_of more n ≡ n ∷ []
-groups_of-last zero n lt = refl
-groups_of-last (suc more) n lt = let test : ltb n 128 ≡ true = lt-ltb n 128 lt in rw test refl
-
-pub groups_of-more : (more n : ℕ) → 128 ≤ n → groups_of (suc more) n ≡ (n % 128 + 128) ∷ groups_of more (n / 128)
-groups_of-more more n le = let test : ltb n 128 ≡ false = le-ltb n 128 le in rw test refl
-
-value_of-groups : (more n : ℕ) → n < room more → value_of (groups_of more n) ≡ n
-value_of-groups zero n lt = omega arith
-value_of-groups (suc more) n lt =
-    elim (cases_lt n 128) [
-      | inl small ↦ rw (groups_of-last (suc more) n small) (omega arith)
-      | inr large ↦
-          let others : value_of (groups_of more (n / 128)) ≡ n / 128 = value_of-groups more (n / 128) (omega arith) in
-          rw (groups_of-more more n large, others) (omega arith)
-    ]
-
-marked_cons : (b : ℕ) (bs : List ℕ) → 128 ≤ b → IsMarked bs → IsMarked (b ∷ bs)
-marked_cons b [] le is = absurd is
-marked_cons b (c ∷ bs) le is = (le, is)
-
-IsMarked-groups : (more n : ℕ) → n < room more → IsMarked (groups_of more n)
-IsMarked-groups zero n lt = lt
-IsMarked-groups (suc more) n lt =
-    elim (cases_lt n 128) [
-      | inl small ↦ rw (groups_of-last (suc more) n small) small
-      | inr large ↦ rw (groups_of-more more n large) (marked_cons (n % 128 + 128) (groups_of more (n / 128)) (omega arith) (IsMarked-groups more (n / 128) (omega arith)))
-    ]
-
-length-groups : (more n : ℕ) → length (groups_of more n) ≤ more + 1
-length-groups zero n = omega arith
-length-groups (suc more) n =
-    elim (cases_lt n 128) [
-      | inl small ↦ rw (groups_of-last (suc more) n small) (omega arith)
-      | inr large ↦ rw (groups_of-more more n large) (omega (arith, length-groups more (n / 128)))
-    ]
+-- an integer's groups are few
+pub groups_few : (n : ℕ) → n ≤ 2147483647 → groups_of 9 n ≡ groups_of 4 n
+groups_few n le = let large : 2147483648 ≤ room 4 = lit≤ tt in groups_of-room 4 9 n (omega (arith, le, large)) (lit≤ tt)
 
 -- ---- integers
 
@@ -86,13 +53,13 @@ integer_written bits mark n rest marks le =
           let low : (mark + (2 ^ bits - 1)) % 2 ^ bits ≡ 2 ^ bits - 1 = marks.low (2 ^ bits - 1) (omega arith) in
           let most : 2147483648 ≤ room 4 = lit≤ tt in
           let fits : n - (2 ^ bits - 1) < room 4 = omega arith in
-          let value : value_of (groups_of 4 (n - (2 ^ bits - 1))) ≡ n - (2 ^ bits - 1) = value_of-groups 4 (n - (2 ^ bits - 1)) fits in
+          let value : number_of_groups (groups_of 4 (n - (2 ^ bits - 1))) ≡ n - (2 ^ bits - 1) = number_of_groups-of 4 (n - (2 ^ bits - 1)) fits in
           rw test (inr (record {
             full = low;
             groups = groups_of 4 (n - (2 ^ bits - 1));
             follows = refl;
-            marked = IsMarked-groups 4 (n - (2 ^ bits - 1)) fits;
-            few = length-groups 4 (n - (2 ^ bits - 1));
+            marked = IsMarked-groups_of 4 (n - (2 ^ bits - 1)) fits;
+            few = length-groups_of 4 (n - (2 ^ bits - 1));
             value = omega (arith, value);
             bounded = le;
           }))
@@ -277,61 +244,6 @@ fields_written table (header ∷ headers) short = (
 pub block_written : (table : Table) (headers : List Header) → All IsShort headers → Block (block_of headers) table headers table
 block_written table headers short = Block-from_fields (block_of headers) table headers table (fields_written table headers short)
 
--- ---- the loop that writes
-
--- some octets of the spelling are written, and the rest spells what is left
-pub record ToWrite (old out : List ℕ) (n left : ℕ) : Type 0 where
-  pub more : ℕ
-  pub written : List ℕ
-  pub is : out ≡ old ++ written
-  pub all : groups_of 4 n ≡ written ++ groups_of more left
-  pub fits : left < room more
-
-pub ToWrite-none : (old : List ℕ) (n : ℕ) → n ≤ 2147483647 → ToWrite old old n n
-ToWrite-none old n le =
-    let large : 2147483648 ≤ room 4 = lit≤ tt in
-    record { more = 4; written = []; is = sym (append-nil old); all = refl; fits = omega (arith, le, large) }
-
-pub ToWrite-more : (old out : List ℕ) (n left : ℕ) → ToWrite old out n left → 128 ≤ left → ToWrite old (out ++ (left % 128 + 128) ∷ []) n (left / 128)
-ToWrite-more old out n left to large = next to.more to.written to.is to.all to.fits
-  where
-    next : (more : ℕ) (written : List ℕ) → out ≡ old ++ written → groups_of 4 n ≡ written ++ groups_of more left → left < room more → ToWrite old (out ++ (left % 128 + 128) ∷ []) n (left / 128)
-    next zero written is all fits = absurd (omega arith)
-    next (suc more) written is all fits = record {
-      more = more;
-      written = written ++ (left % 128 + 128) ∷ [];
-      is = ap (λ (s : List ℕ). s ++ (left % 128 + 128) ∷ []) is ∙ append_assoc old written ((left % 128 + 128) ∷ []);
-      all = all ∙ ap (λ (s : List ℕ). written ++ s) (groups_of-more more left large) ∙ sym (append_assoc written ((left % 128 + 128) ∷ []) (groups_of more (left / 128)));
-      fits = omega (arith, fits);
-    }
-
-pub ToWrite-front : (old out : List ℕ) (n left : ℕ) → ToWrite old out n left → AppendsFront old out (groups_of 4 n)
-ToWrite-front old out n left to = record { front = to.written; rest = groups_of to.more left; parts = to.all; is = to.is }
-
-pub ToWrite-last : (old out : List ℕ) (n left : ℕ) → ToWrite old out n left → left < 128 → out ++ left ∷ [] ≡ old ++ groups_of 4 n
-ToWrite-last old out n left to small =
-    ap (λ (s : List ℕ). s ++ left ∷ []) to.is ∙ append_assoc old to.written (left ∷ []) ∙ ap (λ (s : List ℕ). old ++ s) (sym (to.all ∙ ap (λ (s : List ℕ). to.written ++ s) (groups_of-last to.more left small)))
-
--- ---- fronts
-
--- one piece is there, and a front of the next
-pub AppendsFront-more : (old mid new a b whole : List ℕ) → mid ≡ old ++ a → whole ≡ a ++ b → AppendsFront mid new b → AppendsFront old new whole
-AppendsFront-more old mid new a b whole is parts f = record {
-  front = a ++ f.front;
-  rest = f.rest;
-  parts = parts ∙ ap (λ (s : List ℕ). a ++ s) f.parts ∙ sym (append_assoc a f.front f.rest);
-  is = f.is ∙ ap (λ (s : List ℕ). s ++ f.front) is ∙ append_assoc old a f.front;
-}
-
--- a front of the first piece is one of the whole
-pub AppendsFront-longer : (old new a b whole : List ℕ) → whole ≡ a ++ b → AppendsFront old new a → AppendsFront old new whole
-AppendsFront-longer old new a b whole parts f = record {
-  front = f.front;
-  rest = f.rest ++ b;
-  parts = parts ∙ ap (λ (s : List ℕ). s ++ b) f.parts ∙ append_assoc f.front f.rest b;
-  is = f.is;
-}
-
 pub integer_of-large : (bits mark n most : ℕ) → most ≡ 2 ^ bits - 1 → most ≤ n → integer_of bits mark n ≡ (mark + most) ∷ groups_of 4 (n - most)
 integer_of-large bits mark n most e le =
     let test : ltb n (2 ^ bits - 1) ≡ false = le-ltb _ _ (omega (arith, e, le)) in
@@ -355,14 +267,6 @@ block_of-next headers i d lt =
 pub block_of-none : block_of [] ≡ []
 unfolding block_of
 block_of-none = refl
-
-pub OnErr-map : {T E P Q : Type 0} (r : Result T E) → (P → Q) → OnErr r P → OnErr r Q
-OnErr-map (Ok x) f h = h
-OnErr-map (Err e) f h = f h
-
-pub OnErr-any : {T E P : Type 0} (r : Result T E) → P → OnErr r P
-OnErr-any (Ok x) p = tt
-OnErr-any (Err e) p = p
 
 -- the fields up to one header more
 pub fields_next : (headers : List Header) (i : ℕ) (header : Header) (old out new : List ℕ) → i < length headers → header ≡ get_or headers i header

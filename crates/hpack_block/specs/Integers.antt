@@ -1,5 +1,6 @@
 -- Integers of header blocks (RFC 7541, section 5.1).
-use Rattle.std.specs.Prelude.{◌≡◌, ℕ, ◌+◌, ◌-◌, ◌*◌, ◌%◌, ◌^◌, ◌<◌, ◌≤◌, ◌⊎◌, List, [], ◌∷◌, ◌++◌, length}
+use Rattle.std.specs.Prelude.{◌≡◌, ℕ, ◌+◌, ◌-◌, ◌%◌, ◌^◌, ◌<◌, ◌≤◌, ◌⊎◌, List, [], ◌∷◌, ◌++◌, length}
+use Rattle.base_lists.specs.SevenBits.{number_of_groups, IsMarked}
 
 -- what an integer is here at most
 abbrev pub largest_integer : ℕ
@@ -8,17 +9,6 @@ largest_integer = 2147483647
 -- how many octets an integer has here at most behind its prefix
 abbrev pub most_groups : ℕ
 most_groups = 5
-
--- the low seven bits of each octet, the first octet's lowest
-abbrev pub value_of : List ℕ → ℕ
-value_of [] = 0
-value_of (b ∷ bs) = b % 128 + 128 * value_of bs
-
--- each octet but the last has its top bit set, and says that another follows
-abbrev pub IsMarked : List ℕ → Type 0
-IsMarked [] = ⊥
-IsMarked (b ∷ []) = b < 128
-IsMarked (b ∷ c ∷ bs) = (128 ≤ b) × IsMarked (c ∷ bs)
 
 -- The prefix holds the integer: it is less than the largest that the prefix can hold.
 pub record InPrefix (low most : ℕ) (after : List ℕ) (n : ℕ) (rest : List ℕ) : Type 0 where
@@ -33,7 +23,7 @@ pub record PastPrefix (low most : ℕ) (after : List ℕ) (n : ℕ) (rest : List
   pub follows : after ≡ groups ++ rest
   pub marked : IsMarked groups
   pub few : length groups ≤ most_groups
-  pub value : n ≡ most + value_of groups
+  pub value : n ≡ most + number_of_groups groups
   pub bounded : n ≤ largest_integer
 
 -- The octets begin with the integer, which has a prefix of so many bits in the first octet, and the rest follows.

@@ -1,16 +1,12 @@
 -- The one form in which headers are written: what the static table has is indexed, else a literal is not added to the
 -- table, with the least index of its name in the static table. No string is in the Huffman code.
-use Rattle.std.specs.Prelude.{◌≡◌, ℕ, zero, suc, ◌+◌, ◌-◌, ◌/◌, ◌%◌, ◌^◌, ◌≤◌, Bool, List, [], ◌∷◌, ◌++◌, length, Option, Some, None, nat_lt, nat_eq, ◌&&◌, if◌then◌else◌}
+use Rattle.std.specs.Prelude.{ℕ, ◌+◌, ◌-◌, ◌^◌, ◌≤◌, Bool, List, [], ◌∷◌, ◌++◌, length, Option, Some, None, nat_lt, nat_eq, ◌&&◌, if◌then◌else◌}
 use Rattle.std.specs.List.{position, flat_map}
 use Rattle.std.specs.Cmp.Lexicographic.{pointwise}
+use Rattle.base_lists.specs.SevenBits.{groups_of}
 use Rattle.hpack_block.specs.declared.header.Header.{Header}
 use Rattle.hpack_block.specs.Integers.{largest_integer}
 use Rattle.hpack_block.specs.StaticTable.{static_table}
-
--- what is above the prefix: the low seven bits go first. After `more` octets comes the last.
-abbrev pub groups_of : ℕ → ℕ → List ℕ
-groups_of zero n = n ∷ []
-groups_of (suc more) n = if nat_lt n 128 then n ∷ [] else (n % 128 + 128) ∷ groups_of more (n / 128)
 
 -- an integer with a prefix of so many bits, above which the mark stands
 abbrev pub integer_of : ℕ → ℕ → ℕ → List ℕ
@@ -61,10 +57,3 @@ block_of headers = flat_map field_of headers
 pub record IsShort (header : Header) : Type 0 where
   pub name : length header.name ≤ largest_integer
   pub value : length header.value ≤ largest_integer
-
--- a front of the spelling was added at the end
-pub record AppendsFront (old new spelling : List ℕ) : Type 0 where
-  pub front : List ℕ
-  pub rest : List ℕ
-  pub parts : spelling ≡ front ++ rest
-  pub is : new ≡ old ++ front

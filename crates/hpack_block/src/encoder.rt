@@ -3,11 +3,13 @@ ghost use Rattle.std.specs.Prelude.{◌≡◌, ◌≤◌, ◌<◌, ◌+◌, ◌-
 ghost use Rattle.hpack_block.specs.Integers.{largest_integer};
 ghost use Rattle.hpack_block.specs.Tables.{Table};
 ghost use Rattle.hpack_block.specs.Block.{Block};
-ghost use Rattle.hpack_block.specs.Written.{groups_of, integer_of, string_of, name_of, literal_of, field_of, block_of, IsShort, AppendsFront};
+ghost use Rattle.base_lists.specs.SevenBits.{groups_of};
+ghost use Rattle.base_lists.specs.Fronts.{AppendsFront};
+ghost use Rattle.hpack_block.specs.Written.{integer_of, string_of, name_of, literal_of, field_of, block_of, IsShort};
 
 use crate::header::{Header, Headers};
 use crate::static_table::{place_of_name, place_of_pair};
-use base_lists::{Bytes, NoMemory};
+use base_lists::{Bytes, NoMemory, put_groups};
 
 /// Adds a block that gives these headers, whatever the table of who reads it, which it leaves as it is.
 #[tactic(auto, using(crate::proofs::WrittenLemmas::block_written))]
@@ -88,7 +90,7 @@ fn put_integer(bits: u32, mark: u8, n: usize, out: &mut Bytes) -> Result<(), NoM
         return out.push(mark + n as u8);
     }
     out.push(mark + most as u8)?;
-    put_groups(n - most, out)
+    put_above(n - most, out)
 }
 
 /// The largest number that so many bits hold.
@@ -99,15 +101,11 @@ fn largest_in(bits: u32) -> usize
     (1 << bits) - 1
 }
 
-fn put_groups(n: usize, out: &mut Bytes) -> Result<(), NoMemory>
+/// What is above the prefix.
+fn put_above(n: usize, out: &mut Bytes) -> Result<(), NoMemory>
     requires { n ≤ largest_integer }
     ensures ok { OnOk result (out.new ≡ out.old ++ groups_of 4 n) }
     ensures err { OnErr result (AppendsFront out.old out.new (groups_of 4 n)) }
 {
-    let mut left = n;
-    while left >= 128 {
-        out.push((left % 128) as u8 + 128)?;
-        left /= 128;
-    }
-    out.push(left as u8)
+    put_groups(n as u64, out)
 }

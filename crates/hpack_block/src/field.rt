@@ -6,7 +6,7 @@ ghost use Rattle.hpack_block.specs.Steps.{TakesField, NoField};
 
 use crate::dynamic_table::DynamicTable;
 use crate::form::{Form, first_octet, form_of};
-use crate::header::{BlockFault, Header, copy_of};
+use crate::header::{BlockFault, Header};
 use crate::header_list::HeaderList;
 use crate::integer::integer_in;
 use crate::string::string_in;
@@ -132,5 +132,5 @@ fn name_in<'a>(
     let Some((name, _)) = table.entry(index) else {
         return Err(BlockFault::Bad);
     };
-    Ok((copy_of(alloc, name)?, octets))
+    Ok((Bytes::of(alloc, name)?, octets))
 }

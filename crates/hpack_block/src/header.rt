@@ -1,4 +1,4 @@
-ghost use Rattle.std.specs.Prelude.{◌≡◌, IfOk};
+ghost use Rattle.std.specs.Prelude.{◌≡◌};
 
 use base_lists::{Bytes, Copied, NoMemory, Seq};
 use std::alloc::Global;
@@ -30,19 +30,10 @@ impl From<NoMemory> for BlockFault {
     }
 }
 
-/// A copy of the octets.
-pub(crate) fn copy_of(alloc: Global, octets: &[u8]) -> Result<Bytes, NoMemory>
-    ensures { IfOk result (λ copy. copy ≡ octets.now) }
-{
-    let mut copy = Bytes::empty(alloc);
-    copy.extend_from_slice(octets)?;
-    Ok(copy)
-}
-
 impl Copied for Header {
     fn copy(&self, alloc: Global) -> Result<Header, NoMemory> {
-        let name = copy_of(alloc, self.name.items())?;
-        let value = copy_of(alloc, self.value.items())?;
+        let name = Bytes::of(alloc, self.name.items())?;
+        let value = Bytes::of(alloc, self.value.items())?;
         Ok(Header { name, value })
     }
 }

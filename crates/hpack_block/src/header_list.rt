@@ -3,8 +3,8 @@ ghost use Rattle.hpack_block.specs.StaticTable.{pair};
 ghost use Rattle.hpack_block.specs.Answers.{gathered_with, listed};
 
 use crate::dynamic_table::room_beside;
-use crate::header::{BlockFault, Header, Headers, copy_of};
-use base_lists::NoMemory;
+use crate::header::{BlockFault, Header, Headers};
+use base_lists::{Bytes, NoMemory};
 use std::alloc::Global;
 use std::marker::Model;
 
@@ -81,8 +81,8 @@ impl HeaderList {
             self.room = LARGEST_LIST;
             return Ok(());
         }
-        let name = copy_of(alloc, name)?;
-        let value = copy_of(alloc, value)?;
+        let name = Bytes::of(alloc, name)?;
+        let value = Bytes::of(alloc, value)?;
         self.push(Header { name, value })
     }
 

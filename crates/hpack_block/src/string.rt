@@ -2,7 +2,7 @@ ghost use Rattle.std.specs.Prelude.{◌≡◌, ◌<◌, ℕ, List, length, IfOk,
 ghost use Rattle.hpack_block.specs.Strings.{IsCoded, IsContent, IsString};
 
 use crate::form::first_octet;
-use crate::header::{BlockFault, copy_of};
+use crate::header::{BlockFault};
 use crate::integer::integer_in;
 use base_lists::Bytes;
 use hpack_huff::{HuffFault, huff_decode};
@@ -41,7 +41,7 @@ fn text_of(alloc: Global, first: u8, content: &[u8]) -> Result<Bytes, BlockFault
     ensures not_long { IsErrOf result BlockFault.TooLong → ⊥ }
 {
     if first < 128 {
-        return Ok(copy_of(alloc, content)?);
+        return Ok(Bytes::of(alloc, content)?);
     }
     let mut text = Bytes::empty(alloc);
     match huff_decode(content, &mut text) {

@@ -3,7 +3,7 @@ ghost use Rattle.hpack_block.specs.Integers.{largest_integer};
 
 use crate::decoder::Decoder;
 use crate::encoder::encode_block;
-use crate::header::{BlockFault, Header, Headers, copy_of};
+use crate::header::{BlockFault, Header, Headers};
 use base_lists::{Bytes, Copied, NoMemory};
 use std::alloc::Global;
 use std::process::Abort;
@@ -424,8 +424,8 @@ fn written(alloc: Global, name: &[u8], value: &[u8]) -> Result<Bytes, NoMemory>
     requires name { length name.now ≤ largest_integer }
     requires value { length value.now ≤ largest_integer }
 {
-    let name = copy_of(alloc, name)?;
-    let value = copy_of(alloc, value)?;
+    let name = Bytes::of(alloc, name)?;
+    let value = Bytes::of(alloc, value)?;
     let mut headers = Headers::empty(alloc);
     headers.push(Header { name, value })?;
     let mut out = Bytes::empty(alloc);

@@ -1,5 +1,6 @@
 use Rattle.std.proofs.Common.{arith, ap, sym, ◌∙◌, ◌++◌, List, ℕ, append-nil}
-use Rattle.hpack_block.proofs.WrittenLemmas.{block_of-none, fields_next, fields_front, OnErr-any}
+use Rattle.base_lists.proofs.Fronts.{OnErr-any}
+use Rattle.hpack_block.proofs.WrittenLemmas.{block_of-none, fields_next, fields_front}
 use Rattle.hpack_block.proofs.encoder.put_fields.Goals as goal
 
 pub loop-header-init : goal.loop-header-init

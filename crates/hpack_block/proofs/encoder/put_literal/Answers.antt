@@ -1,6 +1,6 @@
 use Rattle.std.proofs.Common.{refl}
 use Rattle.hpack_block.specs.Written.{name_of, string_of, literal_of}
-use Rattle.hpack_block.proofs.WrittenLemmas.{AppendsFront-more, AppendsFront-longer, OnErr-map, OnErr-any}
+use Rattle.base_lists.proofs.Fronts.{AppendsFront-more, AppendsFront-longer, OnErr-map, OnErr-any}
 use Rattle.hpack_block.proofs.encoder.put_literal.Goals as goal
 
 pub returns-in_err-put_name-clause-err : goal.returns-in_err-put_name-clause-err

@@ -1,6 +1,6 @@
 use Rattle.std.proofs.Common.{◌≡◌, None, [], ◌∷◌, sym, ap, ◌∙◌}
 use Rattle.hpack_block.specs.Written.{place_of_name, name_with, name_of, string_of}
-use Rattle.hpack_block.proofs.WrittenLemmas.{AppendsFront-more, OnErr-map}
+use Rattle.base_lists.proofs.Fronts.{AppendsFront-more, OnErr-map}
 use Rattle.hpack_block.proofs.encoder.put_name.Goals as goal
 
 pub returns-in_ok-push-in-None-clause-err : goal.returns-in_ok-push-in-None-clause-err
