@@ -5,4 +5,6 @@
 #[cfg(test)]
 mod frames;
 #[cfg(test)]
+mod huffman;
+#[cfg(test)]
 mod lists;

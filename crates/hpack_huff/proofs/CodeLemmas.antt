@@ -8,7 +8,7 @@ use Rattle.std.proofs.lemmas.Nat.{shr_split, shr-shr, shl-shr, shr_below, shl_be
 use Rattle.std.proofs.Math.Nat.{pow-succ', mul_assoc}
 use Rattle.hpack_huff.specs.Bits.{bits_of}
 use Rattle.hpack_huff.specs.Code.{code_lengths, code_length, codes_with, first_code, rank, code_value, code_of}
-use Rattle.hpack_huff.specs.Window.{IsFirst, IsShort, HasRank, limit}
+use Rattle.hpack_huff.specs.inner.Window.{IsFirst, IsShort, HasRank, limit}
 use Rattle.hpack_huff.specs.declared.table.TheConstants.{SYMBOLS, FIRST, LIMITS, PLACES, SHORT_SYMBOLS, SHORT_LENGTHS}
 use Rattle.hpack_huff.proofs.BitsLemmas.{length-bits_of, bits_of-split, bits_of-injective, append-same_length, append-front}
 

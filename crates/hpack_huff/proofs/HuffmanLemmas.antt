@@ -5,7 +5,7 @@ use Rattle.std.proofs.lemmas.List.Concat.{flat_map-append}
 use Rattle.hpack_huff.specs.Bits.{bits_of, octet_bits}
 use Rattle.hpack_huff.specs.Code.{code_of, code_length, code_lengths, code_value, codes_with, first_code, rank}
 use Rattle.hpack_huff.specs.Huffman.{IsText, codes_of, IsPadding, Huff, Decodes, DecodesFront}
-use Rattle.hpack_huff.specs.Taken.{IsUnfinished, Takes, TakesSome, MeetsEndMark}
+use Rattle.hpack_huff.specs.inner.Taken.{IsUnfinished, Takes, TakesSome, MeetsEndMark}
 use Rattle.hpack_huff.proofs.BitsLemmas.{octet_bits-push, octet_bits-append}
 use Rattle.hpack_huff.proofs.CodeLemmas.{known, same_symbol, length-code_of}
 

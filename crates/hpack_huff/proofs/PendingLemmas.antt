@@ -6,8 +6,8 @@ use Rattle.std.proofs.lemmas.Nat.{shl_whole, shl_below, shl-shr, shr-shr, pow-ad
 use Rattle.hpack_huff.specs.Bits.{bits_of}
 use Rattle.hpack_huff.specs.Code.{code_of, code_length, code_value}
 use Rattle.hpack_huff.specs.Huffman.{IsPadding}
-use Rattle.hpack_huff.specs.Taken.{IsUnfinished}
-use Rattle.hpack_huff.specs.Window.{IsFirst}
+use Rattle.hpack_huff.specs.inner.Taken.{IsUnfinished}
+use Rattle.hpack_huff.specs.inner.Window.{IsFirst}
 use Rattle.hpack_huff.proofs.BitsLemmas.{length-bits_of, bits_of-split, bits_of-mod, bits_of-injective, bits_of-cat, bits_of-ones}
 use Rattle.hpack_huff.proofs.CodeLemmas.{known, bits-from_first, same_symbol, length-code_of}
 

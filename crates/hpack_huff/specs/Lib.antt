@@ -1,6 +1,4 @@
 pub mod Bits
 pub mod Code
 pub mod Huffman
-pub mod Next
-pub mod Taken
-pub mod Window
+pub mod inner

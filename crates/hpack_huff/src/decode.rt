@@ -1,17 +1,16 @@
 //! The decoder.
-ghost use Rattle.std.specs.Prelude.{◌≡◌, List, ℕ, OnOk, OnErr, IsErrOf};
+ghost use Rattle.std.specs.Prelude.{◌≡◌, [], ◌∷◌, ◌++◌, List, ℕ, OnOk, OnErr, IsErrOf};
 ghost use Rattle.hpack_huff.specs.Huffman.{Huff, Decodes, DecodesFront};
-ghost use Rattle.hpack_huff.specs.Taken.{Takes, TakesSome, MeetsEndMark, IsUnfinished};
+ghost use Rattle.hpack_huff.specs.inner.Taken.{Takes, TakesSome, MeetsEndMark, IsUnfinished};
 
 use crate::pending::{Next, Pending};
 use base_lists::{Bytes, NoMemory};
-use thiserror::Error;
 
-#[derive(Clone, Copy, Debug, PartialEq, Eq, Error)]
+#[derive(Clone, Copy, Debug, PartialEq, Eq)]
 pub enum HuffFault {
-    #[error("not the Huffman code of a text")]
+    /// The octets aren't the Huffman code of a text: the end mark's code stands in them, or what is left at their end
+    /// is no padding (RFC 7541 section 5.2).
     BadCode,
-    #[error("no memory")]
     NoMemory,
 }
 
@@ -25,11 +24,14 @@ impl From<NoMemory> for HuffFault {
     }
 }
 
-/// Adds the text at the end of `out` whose Huffman code the octets are. Where they are no text's code, the answer is
-/// `BadCode`. After a fault `out` has gained a front of what the octets stand for.
+/// Adds the text at the end of `out` whose Huffman code the octets are (RFC 7541 section 5.2). After a fault `out` has
+/// gained a prefix of what the octets stand for.
 pub fn huff_decode(octets: &[u8], out: &mut Bytes) -> Result<(), HuffFault>
     ensures ok { OnOk result (Decodes octets.now out.old out.new) }
     ensures bad { IsErrOf result HuffFault.BadCode → (text : List ℕ) → Huff octets.now text → ⊥ }
+    // One symbol more stood there, for which memory was wanting.
+    ensures memory { IsErrOf result HuffFault.NoMemory
+        → (symbol : ℕ) × DecodesFront octets.now out.old (out.new ++ symbol ∷ []) }
     ensures err { OnErr result (DecodesFront octets.now out.old out.new) }
 {
     let mut pending = Pending::nothing();
@@ -49,6 +51,8 @@ fn take_codes(pending: &mut Pending, out: &mut Bytes) -> Result<(), HuffFault>
     ensures ok { OnOk result (Takes pending.old pending.new out.old out.new) }
     ensures unfinished { OnOk result (IsUnfinished pending.new) }
     ensures bad { IsErrOf result HuffFault.BadCode → MeetsEndMark pending.old out.old out.new }
+    ensures memory { IsErrOf result HuffFault.NoMemory
+        → (symbol : ℕ) × TakesSome pending.old out.old (out.new ++ symbol ∷ []) }
     ensures err { OnErr result (TakesSome pending.old out.old out.new) }
 {
     loop {

@@ -2,7 +2,7 @@
 ghost use Rattle.std.specs.Prelude.{◌≡◌, ◌≤◌, ◌++◌, ◌↔◌, [], length, IsTrue};
 ghost use Rattle.hpack_huff.specs.Bits.{bits_of};
 ghost use Rattle.hpack_huff.specs.Huffman.{IsPadding};
-ghost use Rattle.hpack_huff.specs.Next.{IsNext};
+ghost use Rattle.hpack_huff.specs.inner.Next.{IsNext};
 
 use crate::table::{END_MARK, WINDOW, find};
 use std::marker::Model;

@@ -1,7 +1,7 @@
 //! The canonical code as tables, and the code that stands first in a window of bits.
 ghost use Rattle.std.specs.Prelude.{◌≡◌, ◌*◌, ◌-◌, ◌<◌, ◌≤◌, ◌^◌};
 ghost use Rattle.hpack_huff.specs.Code.{codes_with, first_code};
-ghost use Rattle.hpack_huff.specs.Window.{HasRank, IsFirst, IsShort, limit};
+ghost use Rattle.hpack_huff.specs.inner.Window.{HasRank, IsFirst, IsShort, limit};
 
 /// How many bits a window has.
 pub const WINDOW: u32 = 40;

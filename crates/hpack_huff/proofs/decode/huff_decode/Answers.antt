@@ -1,4 +1,4 @@
-use Rattle.std.proofs.Common.{[], arith}
+use Rattle.std.proofs.Common.{[], ◌∷◌, ◌++◌, arith}
 use Rattle.std.proofs.lemmas.Bool.{both_ways}
 use Rattle.std.proofs.lemmas.Result.{err_from_is_err_and}
 use Rattle.std.proofs.lemmas.List.{take_all}
@@ -16,6 +16,16 @@ returns-in_err-take_codes-clause-bad c =
     rw (p.1, p.2) (λ bad.
     no_text-next c.args.octets.now c.loop-octet.octet-index c.loop-octet.pending c.push.new.self c.args.out.now c.loop-octet.out
     c.take_codes.new.out (omega arith) c.loop-octet.invariant.0 c.push.ensures (c.in_err-take_codes.ensures.bad bad))
+
+pub returns-in_err-take_codes-clause-memory : goal.returns-in_err-take_codes-clause-memory
+returns-in_err-take_codes-clause-memory c =
+    let p = err_from_is_err_and c.from_residual.result c.from_residual.ensures.1 in
+    rw (p.1, p.2) (λ memory.
+    let more = c.in_err-take_codes.ensures.memory memory in (
+      more.0,
+      DecodesFront-next c.args.octets.now c.loop-octet.octet-index c.loop-octet.pending c.push.new.self c.args.out.now c.loop-octet.out
+          (c.take_codes.new.out ++ more.0 ∷ []) (omega arith) c.loop-octet.invariant.0 c.push.ensures more.1,
+    ))
 
 pub returns-in_err-take_codes-clause-err : goal.returns-in_err-take_codes-clause-err
 returns-in_err-take_codes-clause-err c =

@@ -1,6 +1,6 @@
 use Rattle.std.proofs.Common.{take}
 use Rattle.hpack_huff.specs.Bits.{octet_bits}
-use Rattle.hpack_huff.specs.Taken.{Takes, IsUnfinished}
+use Rattle.hpack_huff.specs.inner.Taken.{Takes, IsUnfinished}
 use Rattle.hpack_huff.proofs.decode.huff_decode.Given as goal
 
 -- what was added stands for the bits that were read, up to those that are pending

@@ -1,5 +1,5 @@
 use Rattle.std.proofs.Common.{length}
-use Rattle.hpack_huff.specs.Taken.{Takes}
+use Rattle.hpack_huff.specs.inner.Taken.{Takes}
 use Rattle.hpack_huff.proofs.decode.take_codes.Given as goal
 
 -- what was added so far stands for the bits that were taken

@@ -1,5 +1,5 @@
 use Rattle.std.proofs.Common.{arith, ◌≤◌}
-use Rattle.hpack_huff.specs.Window.{limit}
+use Rattle.hpack_huff.specs.inner.Window.{limit}
 use Rattle.hpack_huff.proofs.CodeLemmas.{limit_step, rank_low, first-from_rank}
 use Rattle.hpack_huff.proofs.table.find_from.Goals as goal
 

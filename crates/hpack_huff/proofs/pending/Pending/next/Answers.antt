@@ -1,6 +1,6 @@
 use Rattle.std.proofs.Common.{◌≡◌, ◌<◌, ◌-◌, sym, subst, refl, ◌∙◌, arith}
-use Rattle.hpack_huff.specs.Window.{IsFirst}
-use Rattle.hpack_huff.specs.Taken.{IsUnfinished}
+use Rattle.hpack_huff.specs.inner.Window.{IsFirst}
+use Rattle.hpack_huff.specs.inner.Taken.{IsUnfinished}
 use Rattle.hpack_huff.proofs.PendingLemmas.{window_is, window_fits, unfinished, masked_fits, taken_bits}
 use Rattle.hpack_huff.proofs.pending.Pending.next.Goals as goal
 use Rattle.hpack_huff.proofs.pending.Pending.next.Goals.{then-found-eq-END_MARK, else-found-eq-END_MARK}

@@ -1,7 +1,7 @@
 -- What is taken from the front of some bits.
 use Rattle.std.specs.Prelude.{◌≡◌, ◌<◌, List, Bool, ◌++◌}
 use Rattle.hpack_huff.specs.Code.{code_of, end_mark}
-use Rattle.hpack_huff.specs.Taken.{IsUnfinished}
+use Rattle.hpack_huff.specs.inner.Taken.{IsUnfinished}
 use Rattle.hpack_huff.specs.declared.pending.Next.{Next}
 use Rattle.hpack_huff.specs.declared.pending.Next.TheVariants.{Octet, EndMark, Unfinished}
 
