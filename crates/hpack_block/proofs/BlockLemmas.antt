@@ -6,14 +6,17 @@ use Rattle.std.proofs.lemmas.List.Sums.{sum_by_push}
 use Rattle.hpack_block.specs.declared.header.Header.{Header}
 use Rattle.hpack_block.specs.declared.header.BlockFault.{BlockFault}
 use Rattle.hpack_block.specs.declared.header.BlockFault.TheVariants.{Bad, TooLong, NoMemory}
+use Rattle.hpack_block.specs.declared.header.Ended.{Ended}
+use Rattle.hpack_block.specs.declared.header.Ended.TheVariants as ended
 use Rattle.hpack_block.specs.declared.form.Form.{Form}
-use Rattle.hpack_block.specs.declared.form.Form.TheVariants.{SizeUpdate, NotAdded, NeverAdded}
-use Rattle.hpack_block.specs.Tables.{Table, size_of, size_of_all, resized}
+use Rattle.hpack_block.specs.declared.form.Form.TheVariants.{SizeUpdate, WithoutIndexing, NeverIndexed}
+use Rattle.hpack_block.specs.Tables.{Table, size_of, size_of_all, with_maximum}
 use Rattle.hpack_block.specs.Fields.{form_of, IsField}
 use Rattle.hpack_block.specs.Block.{IsUpdate, AreUpdates, AreFields, Block}
-use Rattle.hpack_block.specs.Reading.{integer_at}
-use Rattle.hpack_block.specs.Answers.{State, state_of, IsBad, Answers, gathered, gathered_with}
-use Rattle.hpack_block.specs.Steps.{TakesField, NoField, TakesFields, TakesBlock, Leads, TakesUpdates}
+use Rattle.hpack_block.specs.inner.Reading.{integer_at}
+use Rattle.hpack_block.specs.Answers.{State, state_of, fault_of, IsBad, Answers}
+use Rattle.hpack_block.specs.inner.Gathering.{within_limit, with_header}
+use Rattle.hpack_block.specs.inner.Steps.{TakesField, NoField, TakesFields, TakesBlock, Leads, TakesUpdates}
 use Rattle.hpack_block.proofs.IntegerLemmas.{integer_takes, one_integer, no_integer}
 use Rattle.hpack_block.proofs.FieldLemmas.{one_field, no_field}
 
@@ -23,9 +26,9 @@ abbrev pub form_at : List ℕ → Form
 form_at octets = form_of (slice_index octets 0)
 
 not_update_at_end : (octets : List ℕ) → octets ≡ [] → form_at octets ≡ SizeUpdate → ⊥
-not_update_at_end octets none e = let h : form_at octets ≡ NotAdded = ap form_at none in clash (form_at octets) e h
+not_update_at_end octets none e = let h : form_at octets ≡ WithoutIndexing = ap form_at none in clash (form_at octets) e h
   where
-    clash : (form : Form) → form ≡ SizeUpdate → form ≡ NotAdded → ⊥
+    clash : (form : Form) → form ≡ SizeUpdate → form ≡ WithoutIndexing → ⊥
     clash form e h = cc
 
 no_field_at : (table : Table) (octets : List ℕ) (h : Header) (next : Table) (rest : List ℕ) → octets ≡ [] → IsField (form_at octets) table octets h next rest → ⊥
@@ -65,10 +68,10 @@ SoFar-more table octets seen now rest header next after so_far is = record {
 
 -- ---- headers that are gathered
 
-gathered_more : (header : Header) (headers : List Header) → gathered_with header (gathered headers) ≡ gathered (headers ++ header ∷ [])
+gathered_more : (header : Header) (headers : List Header) → with_header header (within_limit headers) ≡ within_limit (headers ++ header ∷ [])
 gathered_more header headers = by_size (leb (size_of_all headers) 16384) refl
   where
-    by_size : (b : Bool) → leb (size_of_all headers) 16384 ≡ b → gathered_with header (gathered headers) ≡ gathered (headers ++ header ∷ [])
+    by_size : (b : Bool) → leb (size_of_all headers) 16384 ≡ b → with_header header (within_limit headers) ≡ within_limit (headers ++ header ∷ [])
     by_size true e = rw e refl
     by_size false e =
         let lt : 16384 < size_of_all headers = leb-false _ _ e in
@@ -78,7 +81,7 @@ gathered_more header headers = by_size (leb (size_of_all headers) 16384) refl
 pub record Gathering (table : Table) (octets : List ℕ) (now : Table) (rest : List ℕ) (list : Option (List Header)) : Type 0 where
   pub seen : List Header
   pub so_far : SoFar table octets seen now rest
-  pub listed : list ≡ gathered seen
+  pub listed : list ≡ within_limit seen
 
 pub Gathering-none : (table : Table) (octets : List ℕ) (list : Option (List Header)) → list ≡ Some [] → Gathering table octets table octets list
 Gathering-none table octets list e = record { seen = []; so_far = SoFar-none table octets; listed = e }
@@ -88,7 +91,7 @@ pub Gathering-more : (table : Table) (octets : List ℕ) (now : Table) (rest : L
 Gathering-more table octets now rest next after old new g t = record {
   seen = g.seen ++ t.header ∷ [];
   so_far = SoFar-more table octets g.seen now rest t.header next after g.so_far t.is_field;
-  listed = t.listed ∙ ap (gathered_with t.header) g.listed ∙ gathered_more t.header g.seen;
+  listed = t.listed ∙ ap (with_header t.header) g.listed ∙ gathered_more t.header g.seen;
 }
 
 pub Gathering-end : (table : Table) (octets : List ℕ) (now : Table) (rest : List ℕ) (list : Option (List Header))
@@ -122,7 +125,7 @@ pub Leads-none : (octets : List ℕ) (table : Table) → Leads octets table octe
 Leads-none octets table = record { built = λ headers last b. b; only = λ headers last b. b }
 
 update_only : (octets : List ℕ) (table : Table) (size : ℕ) (after : List ℕ) (headers : List Header) (last : Table) → IsUpdate octets size after
-    → (sizes : List ℕ) (middle : Table) (rest : List ℕ) → AreUpdates table octets sizes middle rest → AreFields middle rest headers last → Block after (resized size table) headers last
+    → (sizes : List ℕ) (middle : Table) (rest : List ℕ) → AreUpdates table octets sizes middle rest → AreFields middle rest headers last → Block after (with_maximum size table) headers last
 update_only octets table size after headers last is [] middle rest u are =
     absurd (fields_not_update table octets headers last is.is_form (moved table middle octets rest headers last u are))
 update_only octets table size after headers last is (other ∷ sizes) middle rest u are =
@@ -131,13 +134,13 @@ update_only octets table size after headers last is (other ∷ sizes) middle res
       sizes = sizes;
       middle = middle;
       rest = rest;
-      updates = subst (λ (n : ℕ). AreUpdates (resized n table) after sizes middle rest) same.0
-          (subst (λ (o : List ℕ). AreUpdates (resized other table) o sizes middle rest) same.1 u.2);
+      updates = subst (λ (n : ℕ). AreUpdates (with_maximum n table) after sizes middle rest) same.0
+          (subst (λ (o : List ℕ). AreUpdates (with_maximum other table) o sizes middle rest) same.1 u.2);
       fields = are;
     }
 
 pub Leads-more : (octets : List ℕ) (table : Table) (rest : List ℕ) (now : Table) (size : ℕ) (after : List ℕ) → Leads octets table rest now
-    → form_at rest ≡ SizeUpdate → integer_at 5 rest ≡ Some (size, after) → size ≤ 4096 → Leads octets table after (resized size now)
+    → form_at rest ≡ SizeUpdate → integer_at 5 rest ≡ Some (size, after) → size ≤ 4096 → Leads octets table after (with_maximum size now)
 Leads-more octets table rest now size after leads form read le =
     let is : IsUpdate rest size after = record { is_form = form; is_size = integer_takes 5 rest size after read; allowed = le } in
     record {
@@ -212,7 +215,7 @@ one_block_from table octets hs ks a b [] middle rest u are q =
     let here = moved table middle octets rest hs a u are in
     one_list table octets hs ks a b here (fields_of_block octets table ks b (λ e. fields_not_update table octets hs a e here) q.sizes q.middle q.rest q.updates q.fields)
 one_block_from table octets hs ks a b (size ∷ sizes) middle rest u are q =
-    one_block_from (resized size table) u.0 hs ks a b sizes middle rest u.2 are
+    one_block_from (with_maximum size table) u.0 hs ks a b sizes middle rest u.2 are
     (update_only octets table size u.0 ks b u.1 q.sizes q.middle q.rest q.updates q.fields)
 
 pub one_block : (octets : List ℕ) (table : Table) (hs ks : List Header) (a b : Table) → Block octets table hs a → Block octets table ks b → (hs ≡ ks) × (a ≡ b)
@@ -223,23 +226,23 @@ one_block octets table hs ks a b p q = one_block_from table octets hs ks a b p.s
 pub NoField-as : (form other : Form) (table : Table) (octets : List ℕ) → form ≡ other → NoField form table octets → NoField other table octets
 NoField-as form other table octets e h = subst (λ (f : Form). NoField f table octets) e h
 
-pub NoField-never : (table : Table) (octets : List ℕ) → NoField NotAdded table octets → NoField NeverAdded table octets
+pub NoField-never : (table : Table) (octets : List ℕ) → NoField WithoutIndexing table octets → NoField NeverIndexed table octets
 NoField-never table octets h = h
 
 pub NoField-update : (table : Table) (octets : List ℕ) → NoField SizeUpdate table octets
 NoField-update table octets header next rest is = is
 
-ended : (table : Table) (octets : List ℕ) (fault : BlockFault) → (fault ≡ Bad → IsBad table octets) → (fault ≡ TooLong → ⊥) → Answers (Ok table) octets (Err fault) (Err fault)
-ended table octets Bad bad long = (bad refl, refl)
-ended table octets TooLong bad long = absurd (long refl)
-ended table octets NoMemory bad long = refl
+ended_answers : (table : Table) (octets : List ℕ) (end : Ended) → (end ≡ ended.Bad → IsBad table octets) → Answers (Ok table) octets (Err (fault_of end)) (Err end)
+ended_answers table octets ended.Bad bad = (bad refl, refl)
+ended_answers table octets ended.NoMemory bad = refl
 
-pub Answers-fault : (old : State) (stored : Option BlockFault) (table : Table) (octets : List ℕ) (fault : BlockFault) → state_of stored table ≡ old
-    → ((f : BlockFault) → stored ≡ Some f → ⊥) → (fault ≡ Bad → IsBad table octets) → (fault ≡ TooLong → ⊥) → Answers old octets (Err fault) (Err fault)
-Answers-fault old None table octets fault e none bad long = subst (λ (s : State). Answers s octets (Err fault) (Err fault)) e (ended table octets fault bad long)
-Answers-fault old (Some f) table octets fault e none bad long = absurd (none f refl)
+pub Answers-fault : (old : State) (stored : Option Ended) (table : Table) (octets : List ℕ) (end : Ended) (fault : BlockFault) → state_of stored table ≡ old
+    → ((e : Ended) → stored ≡ Some e → ⊥) → fault ≡ fault_of end → (end ≡ ended.Bad → IsBad table octets) → Answers old octets (Err fault) (Err end)
+Answers-fault old None table octets end fault e none is bad =
+    subst (λ (f : BlockFault). Answers old octets (Err f) (Err end)) (sym is) (subst (λ (s : State). Answers s octets (Err (fault_of end)) (Err end)) e (ended_answers table octets end bad))
+Answers-fault old (Some f) table octets end fault e none is bad = absurd (none f refl)
 
-pub err_of : {T : Type 0} (e f : BlockFault) → e ≡ f → ◌≡◌ {A = Result T BlockFault} (Err e) (Err f)
+pub err_of : {T : Type 0} (e f : Ended) → e ≡ f → ◌≡◌ {A = Result T Ended} (Err e) (Err f)
 err_of e f h = cc
 
 -- ---- each answer wherever what it says holds
@@ -250,8 +253,8 @@ alive a b e = cc
 pub answered_read : (table : Table) (octets : List ℕ) (result : Result (List Header) BlockFault) (new : State) (headers : List Header) (last : Table)
     → Answers (Ok table) octets result new → (result ≡ Err NoMemory → ⊥) → Block octets table headers last → size_of_all headers ≤ 16384
     → (result ≡ Ok headers) × (new ≡ Ok last)
-answered_read table octets (Ok kept) new headers last a ample b le =
-    let same = one_block octets table kept headers a.last last a.block b in
+answered_read table octets (Ok read) new headers last a ample b le =
+    let same = one_block octets table read headers a.last last a.block b in
     let h = same.0 in
     (cc, a.new_is ∙ alive a.last last same.1)
 answered_read table octets (Err TooLong) new headers last a ample b le =
@@ -264,8 +267,8 @@ answered_read table octets (Err NoMemory) new headers last a ample b le = absurd
 pub answered_too_long : (table : Table) (octets : List ℕ) (result : Result (List Header) BlockFault) (new : State) (headers : List Header) (last : Table)
     → Answers (Ok table) octets result new → (result ≡ Err NoMemory → ⊥) → Block octets table headers last → 16384 < size_of_all headers
     → (result ≡ Err TooLong) × (new ≡ Ok last)
-answered_too_long table octets (Ok kept) new headers last a ample b lt =
-    let same = one_block octets table kept headers a.last last a.block b in
+answered_too_long table octets (Ok read) new headers last a ample b lt =
+    let same = one_block octets table read headers a.last last a.block b in
     let short = a.short in
     absurd (omega (arith, lt, short, ap size_of_all same.0))
 answered_too_long table octets (Err TooLong) new headers last a ample b lt =
@@ -275,8 +278,8 @@ answered_too_long table octets (Err Bad) new headers last a ample b lt = absurd 
 answered_too_long table octets (Err NoMemory) new headers last a ample b lt = absurd (ample refl)
 
 pub answered_bad : (table : Table) (octets : List ℕ) (result : Result (List Header) BlockFault) (new : State)
-    → Answers (Ok table) octets result new → (result ≡ Err NoMemory → ⊥) → IsBad table octets → (result ≡ Err Bad) × (new ≡ Err Bad)
-answered_bad table octets (Ok kept) new a ample bad = absurd (bad kept a.last a.block)
+    → Answers (Ok table) octets result new → (result ≡ Err NoMemory → ⊥) → IsBad table octets → (result ≡ Err Bad) × (new ≡ Err ended.Bad)
+answered_bad table octets (Ok read) new a ample bad = absurd (bad read a.last a.block)
 answered_bad table octets (Err TooLong) new a ample bad = absurd (bad a.headers a.last a.block)
 answered_bad table octets (Err Bad) new a ample bad = (refl, a.1)
 answered_bad table octets (Err NoMemory) new a ample bad = absurd (ample refl)

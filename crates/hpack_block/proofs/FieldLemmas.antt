@@ -5,11 +5,11 @@ use Rattle.std.proofs.lemmas.List.{take_at, drop_at, take-append-drop, length-ta
 use Rattle.hpack_huff.proofs.HuffmanLemmas.{one_text}
 use Rattle.hpack_block.specs.declared.header.Header.{Header}
 use Rattle.hpack_block.specs.declared.form.Form.{Form}
-use Rattle.hpack_block.specs.declared.form.Form.TheVariants.{Indexed, Added, SizeUpdate, NotAdded, NeverAdded}
+use Rattle.hpack_block.specs.declared.form.Form.TheVariants.{Indexed, WithIndexing, SizeUpdate, WithoutIndexing, NeverIndexed}
 use Rattle.hpack_block.specs.Integers.{IsInteger}
-use Rattle.hpack_block.specs.Reading.{integer_at}
+use Rattle.hpack_block.specs.inner.Reading.{integer_at}
 use Rattle.hpack_block.specs.Strings.{IsContent, IsCoded, IsString}
-use Rattle.hpack_block.specs.Tables.{Table, added, entry_at, name_at}
+use Rattle.hpack_block.specs.Tables.{Table, with_entry, entry_at, name_at}
 use Rattle.hpack_block.specs.Fields.{IsIndexed, IsName, IsLiteral, IsField}
 use Rattle.hpack_block.proofs.IntegerLemmas.{integer_takes, one_integer, no_integer}
 
@@ -111,20 +111,20 @@ one_kept table h k a b r s e p q = record { header = e.0; table = sym p ∙ q; r
 
 pub one_field : (form : Form) (table : Table) (octets : List ℕ) (h k : Header) (a b : Table) (r s : List ℕ) → IsField form table octets h a r → IsField form table octets k b s → Same h k a b r s
 one_field Indexed table octets h k a b r s p q = one_kept table h k a b r s (one_indexed table octets h k r s p.0 q.0) p.1 q.1
-one_field Added table octets h k a b r s p q =
+one_field WithIndexing table octets h k a b r s p q =
     let e = one_literal 6 table octets h k r s p.0 q.0 in
-    record { header = e.0; table = sym p.1 ∙ ap (λ (x : Header). added x table) e.0 ∙ q.1; rest = e.1 }
+    record { header = e.0; table = sym p.1 ∙ ap (λ (x : Header). with_entry x table) e.0 ∙ q.1; rest = e.1 }
 one_field SizeUpdate table octets h k a b r s p q = absurd p
-one_field NotAdded table octets h k a b r s p q = one_kept table h k a b r s (one_literal 4 table octets h k r s p.0 q.0) p.1 q.1
-one_field NeverAdded table octets h k a b r s p q = one_kept table h k a b r s (one_literal 4 table octets h k r s p.0 q.0) p.1 q.1
+one_field WithoutIndexing table octets h k a b r s p q = one_kept table h k a b r s (one_literal 4 table octets h k r s p.0 q.0) p.1 q.1
+one_field NeverIndexed table octets h k a b r s p q = one_kept table h k a b r s (one_literal 4 table octets h k r s p.0 q.0) p.1 q.1
 
 -- no field is in no octets
 pub no_field : (form : Form) (table : Table) (h : Header) (next : Table) (rest : List ℕ) → IsField form table [] h next rest → ⊥
 no_field Indexed table h next rest p = p.0.is_index
-no_field Added table h next rest p = p.0.is_index
+no_field WithIndexing table h next rest p = p.0.is_index
 no_field SizeUpdate table h next rest p = p
-no_field NotAdded table h next rest p = p.0.is_index
-no_field NeverAdded table h next rest p = p.0.is_index
+no_field WithoutIndexing table h next rest p = p.0.is_index
+no_field NeverIndexed table h next rest p = p.0.is_index
 
 -- ---- what is refused
 

@@ -6,7 +6,7 @@ use Rattle.std.proofs.Math.Nat.{mod-lt}
 use Rattle.std.proofs.lemmas.Option.{some_pair_parts}
 use Rattle.base_lists.specs.SevenBits.{number_of_groups, IsMarked}
 use Rattle.hpack_block.specs.Integers.{IsInteger}
-use Rattle.hpack_block.specs.Reading.{bounded, with_group, groups_at, above, integer_at}
+use Rattle.hpack_block.specs.inner.Reading.{bounded, with_group, groups_at, above, integer_at}
 
 chosen : {A : Type 0} (b : Bool) (x y z : A) → cond b x y ≡ z → ((b ≡ true) × (x ≡ z)) ⊎ ((b ≡ false) × (y ≡ z))
 chosen true x y z e = inl (refl, e)

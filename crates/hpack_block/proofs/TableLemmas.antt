@@ -5,7 +5,8 @@ use Rattle.std.proofs.lemmas.List.Sums.{sum_by-cons, sum_by_push}
 use Rattle.std.specs.Prelude.{slice_get}
 use Rattle.hpack_block.specs.declared.header.Header.{Header}
 use Rattle.hpack_block.specs.StaticTable.{static_table}
-use Rattle.hpack_block.specs.Tables.{Table, size_of, size_of_all, kept, entry_at, room_beside}
+use Rattle.hpack_block.specs.Tables.{Table, size_of, size_of_all, fitting_entries, entry_at}
+use Rattle.hpack_block.specs.inner.Gathering.{room_beside}
 
 abbrev pub table_of : List Header → ℕ → Table
 table_of entries maximum = record { entries = entries; maximum = maximum }
@@ -28,7 +29,7 @@ slice_get-right (x ∷ xs) ys (suc i) n e le =
     slice_get-right xs ys i (n - 1) less (omega (arith, e, le)) ∙ ap (slice_get ys) same
 
 -- all are kept where all fit
-pub kept_all : (room : ℕ) (entries : List Header) → size_of_all entries ≤ room → kept room entries ≡ entries
+pub kept_all : (room : ℕ) (entries : List Header) → size_of_all entries ≤ room → fitting_entries room entries ≡ entries
 kept_all room [] le = refl
 kept_all room (entry ∷ entries) le =
     let whole = sum_by-cons size_of entry entries in
@@ -42,14 +43,14 @@ by_room true x y z h = h refl
 by_room false x y z h = refl
 
 -- the oldest is evicted where not all fit
-pub kept_fewer : (room : ℕ) (entries : List Header) (oldest : Header) → room < size_of_all (entries ++ oldest ∷ []) → kept room (entries ++ oldest ∷ []) ≡ kept room entries
+pub kept_fewer : (room : ℕ) (entries : List Header) (oldest : Header) → room < size_of_all (entries ++ oldest ∷ []) → fitting_entries room (entries ++ oldest ∷ []) ≡ fitting_entries room entries
 kept_fewer room [] oldest lt =
     let whole = sum_by-cons size_of oldest [] in
     let here : leb (size_of oldest) room ≡ false = lt-leb (size_of oldest) room (omega (arith, whole, lt)) in
     rw here refl
 kept_fewer room (entry ∷ entries) oldest lt =
     let whole = sum_by-cons size_of entry (entries ++ oldest ∷ []) in
-    by_room (leb (size_of entry) room) (entry ∷ kept (room - size_of entry) (entries ++ oldest ∷ [])) (entry ∷ kept (room - size_of entry) entries) []
+    by_room (leb (size_of entry) room) (entry ∷ fitting_entries (room - size_of entry) (entries ++ oldest ∷ [])) (entry ∷ fitting_entries (room - size_of entry) entries) []
     (λ e.
     let le : size_of entry ≤ room = leb-true (size_of entry) room e in
     ap (λ (es : List Header). entry ∷ es) (kept_fewer (room - size_of entry) entries oldest (omega (arith, whole, lt, le))))
@@ -63,17 +64,17 @@ fits_by_room true room entry rest here more =
 fits_by_room false room entry rest here more = omega arith
 
 -- what is kept has room
-pub kept_within : (room : ℕ) (entries : List Header) → size_of_all (kept room entries) ≤ room
+pub kept_within : (room : ℕ) (entries : List Header) → size_of_all (fitting_entries room entries) ≤ room
 kept_within room [] = omega arith
 kept_within room (entry ∷ entries) =
-    fits_by_room (leb (size_of entry) room) room entry (kept (room - size_of entry) entries)
+    fits_by_room (leb (size_of entry) room) room entry (fitting_entries (room - size_of entry) entries)
     (leb-true (size_of entry) room) (λ e. kept_within (room - size_of entry) entries)
 
 -- ---- the dynamic table
 
 -- one entry is evicted
 pub record Evicted (most : ℕ) (entries rest : List Header) (room maximum : ℕ) : Type 0 where
-  pub same : kept most rest ≡ kept most entries
+  pub same : fitting_entries most rest ≡ fitting_entries most entries
   pub size : size_of_all rest + room ≡ maximum
 
 pub evicted_one : (most : ℕ) (entries rest : List Header) (oldest : Header) (room maximum : ℕ) → entries ≡ rest ++ oldest ∷ []
@@ -82,17 +83,17 @@ evicted_one most entries rest oldest room maximum e size lt =
     let whole : size_of_all entries ≡ size_of_all rest + size_of oldest = ap size_of_all e ∙ sum_by_push size_of rest oldest in
     let more : most < size_of_all (rest ++ oldest ∷ []) = subst (λ (es : List Header). most < size_of_all es) e (omega (arith, size, lt)) in
     record {
-      same = sym (kept_fewer most rest oldest more) ∙ ap (kept most) (sym e);
+      same = sym (kept_fewer most rest oldest more) ∙ ap (fitting_entries most) (sym e);
       size = omega (arith, size, whole);
     }
 
-pub evicted_all : (most : ℕ) (entries first : List Header) (room maximum m : ℕ) → kept most entries ≡ kept most first
-    → size_of_all entries + room ≡ maximum → maximum - room ≤ most → maximum ≡ m → table_of entries maximum ≡ table_of (kept most first) m
+pub evicted_all : (most : ℕ) (entries first : List Header) (room maximum m : ℕ) → fitting_entries most entries ≡ fitting_entries most first
+    → size_of_all entries + room ≡ maximum → maximum - room ≤ most → maximum ≡ m → table_of entries maximum ≡ table_of (fitting_entries most first) m
 evicted_all most entries first room maximum m same size le e =
     let fits : size_of_all entries ≤ most = omega (arith, size, le) in
-    ap (λ (es : List Header). table_of es maximum) (sym (kept_all most entries fits) ∙ same) ∙ ap (table_of (kept most first)) e
+    ap (λ (es : List Header). table_of es maximum) (sym (kept_all most entries fits) ∙ same) ∙ ap (table_of (fitting_entries most first)) e
 
-pub size_kept : (most : ℕ) (entries first : List Header) → entries ≡ kept most first → size_of_all entries ≤ most
+pub size_kept : (most : ℕ) (entries first : List Header) → entries ≡ fitting_entries most first → size_of_all entries ≤ most
 size_kept most entries first e = subst (λ (es : List Header). size_of_all es ≤ most) (sym e) (kept_within most first)
 
 by_cond : {A : Type 0} (b : Bool) (x : A) (y : A) → Some y ≡ cond b (Some x) None → (b ≡ true) × (y ≡ x)

@@ -14,17 +14,17 @@ use Rattle.base_lists.proofs.Fronts.{AppendsFront-more, AppendsFront-longer}
 use Rattle.base_lists.proofs.SevenBits.{room, number_of_groups-of, IsMarked-groups_of, length-groups_of, groups_of-room}
 use Rattle.hpack_block.specs.declared.header.Header.{Header}
 use Rattle.hpack_block.specs.declared.form.Form.{Form}
-use Rattle.hpack_block.specs.declared.form.Form.TheVariants.{Indexed, NotAdded}
+use Rattle.hpack_block.specs.declared.form.Form.TheVariants.{Indexed, SizeUpdate, WithoutIndexing}
 use Rattle.base_lists.specs.SevenBits.{number_of_groups, IsMarked}
 use Rattle.hpack_block.specs.Integers.{IsInteger}
 use Rattle.hpack_block.specs.Strings.{IsString}
 use Rattle.hpack_block.specs.StaticTable.{nothing, static_table}
-use Rattle.hpack_block.specs.Tables.{Table, entry_at, name_at}
+use Rattle.hpack_block.specs.Tables.{Table, with_maximum, entry_at, name_at}
 use Rattle.hpack_block.specs.Fields.{form_of, IsIndexed, IsName, IsLiteral, IsField}
 use Rattle.hpack_block.specs.Block.{AreFields, Block}
 use Rattle.base_lists.specs.SevenBits.{groups_of}
 use Rattle.base_lists.specs.Fronts.{AppendsFront}
-use Rattle.hpack_block.specs.Written.{integer_of, string_of, same_octets, is_pair, is_name, place_of_pair, place_of_name, name_with, name_of, literal_of, field_with, field_of, block_of, IsShort}
+use Rattle.hpack_block.specs.Written.{integer_of, string_of, same_octets, is_pair, is_name, place_of_pair, place_of_name, name_with, name_of, literal_of, field_with, field_of, block_of, update_of, IsShort}
 use Rattle.hpack_block.proofs.TableLemmas.{static_length, slice_get-left}
 use Rattle.hpack_block.proofs.BlockLemmas.{form_at, Block-from_fields}
 
@@ -156,7 +156,7 @@ form_indexed first le =
     let d : ltb first 128 ≡ false = le-ltb _ _ le in
     rw (a, b, c, d) refl
 
-form_not_added : (first : ℕ) → first < 16 → form_of first ≡ NotAdded
+form_not_added : (first : ℕ) → first < 16 → form_of first ≡ WithoutIndexing
 form_not_added first lt = let a : ltb first 16 ≡ true = lt-ltb _ _ lt in rw a refl
 
 -- a field of a form leaves the table
@@ -243,6 +243,38 @@ fields_written table (header ∷ headers) short = (
 
 pub block_written : (table : Table) (headers : List Header) → All IsShort headers → Block (block_of headers) table headers table
 block_written table headers short = Block-from_fields (block_of headers) table headers table (fields_written table headers short)
+
+-- ---- an update in front
+
+marks_update : Marks 5 32
+marks_update = record { low = λ n lt. omega arith }
+
+update_form : (first : ℕ) → 32 ≤ first → first ≤ 63 → form_of first ≡ SizeUpdate
+update_form first low high =
+    let a : ltb first 16 ≡ false = le-ltb _ _ (omega arith) in
+    let b : ltb first 32 ≡ false = le-ltb _ _ low in
+    let c : ltb first 64 ≡ true = lt-ltb _ _ (omega arith) in
+    rw (a, b, c) refl
+
+pub updated_block : (table : Table) (size : ℕ) (headers : List Header) → All IsShort headers → size ≤ 4096 → Block (update_of size ++ block_of headers) table headers (with_maximum size table)
+updated_block table size headers short le =
+    let b = block_written (with_maximum size table) headers short in
+    let first = first_of_integer 5 32 size (block_of headers) in
+    record {
+      sizes = size ∷ b.sizes;
+      middle = b.middle;
+      rest = b.rest;
+      updates = (
+        block_of headers,
+        record {
+          is_form = update_form _ first.0 first.1;
+          is_size = integer_written 5 32 size (block_of headers) marks_update (omega arith);
+          allowed = le;
+        },
+        b.updates,
+      );
+      fields = b.fields;
+    }
 
 pub integer_of-large : (bits mark n most : ℕ) → most ≡ 2 ^ bits - 1 → most ≤ n → integer_of bits mark n ≡ (mark + most) ∷ groups_of 4 (n - most)
 integer_of-large bits mark n most e le =

@@ -1,8 +1,10 @@
 -- What a decoder of header blocks is and answers.
-use Rattle.std.specs.Prelude.{◌≡◌, ℕ, ◌<◌, ◌≤◌, List, [], ◌∷◌, ◌++◌, nat_le, Option, Some, None, Result, Ok, Err, if◌then◌else◌}
+use Rattle.std.specs.Prelude.{◌≡◌, ℕ, ◌<◌, ◌≤◌, List, Option, Some, None, Result, Ok, Err}
 use Rattle.hpack_block.specs.declared.header.Header.{Header}
 use Rattle.hpack_block.specs.declared.header.BlockFault.{BlockFault}
 use Rattle.hpack_block.specs.declared.header.BlockFault.TheVariants.{Bad, TooLong, NoMemory}
+use Rattle.hpack_block.specs.declared.header.Ended.{Ended}
+use Rattle.hpack_block.specs.declared.header.Ended.TheVariants as ended
 use Rattle.hpack_block.specs.Tables.{Table, size_of_all}
 use Rattle.hpack_block.specs.Block.{Block}
 
@@ -10,13 +12,18 @@ use Rattle.hpack_block.specs.Block.{Block}
 abbrev pub largest_list : ℕ
 largest_list = 16384
 
--- A decoder has its table, or the fault that it ended with.
+-- A decoder has its table, or has ended.
 abbrev pub State : Type 0
-State = Result Table BlockFault
+State = Result Table Ended
 
-abbrev pub state_of : Option BlockFault → Table → State
+abbrev pub state_of : Option Ended → Table → State
 state_of None table = Ok table
-state_of (Some fault) table = Err fault
+state_of (Some end) table = Err end
+
+-- what a decoder that has ended answers
+abbrev pub fault_of : Ended → BlockFault
+fault_of ended.Bad = Bad
+fault_of ended.NoMemory = NoMemory
 
 -- the block gives the headers, and the table is the last one then
 pub record IsRead (table : Table) (octets : List ℕ) (headers : List Header) (new : State) : Type 0 where
@@ -39,22 +46,8 @@ IsBad table octets = (headers : List Header) (last : Table) → Block octets tab
 
 -- What a decoder says of a block's octets, and what it is then. After Bad or want of memory it answers that for ever.
 abbrev pub Answers : State → List ℕ → Result (List Header) BlockFault → State → Type 0
-Answers (Err fault) octets result new = (result ≡ Err fault) × (new ≡ Err fault)
+Answers (Err end) octets result new = (result ≡ Err (fault_of end)) × (new ≡ Err end)
 Answers (Ok table) octets (Ok headers) new = IsRead table octets headers new
 Answers (Ok table) octets (Err TooLong) new = IsTooLong table octets new
-Answers (Ok table) octets (Err Bad) new = IsBad table octets × (new ≡ Err Bad)
-Answers (Ok table) octets (Err NoMemory) new = new ≡ Err NoMemory
-
--- headers that are kept while their list isn't too long
-abbrev pub gathered : List Header → Option (List Header)
-gathered headers = if nat_le (size_of_all headers) largest_list then Some headers else None
-
--- one header more
-abbrev pub gathered_with : Header → Option (List Header) → Option (List Header)
-gathered_with header None = None
-gathered_with header (Some headers) = gathered (headers ++ header ∷ [])
-
--- what a list of headers that was gathered answers
-abbrev pub listed : Option (List Header) → Result (List Header) BlockFault
-listed None = Err TooLong
-listed (Some headers) = Ok headers
+Answers (Ok table) octets (Err Bad) new = IsBad table octets × (new ≡ Err ended.Bad)
+Answers (Ok table) octets (Err NoMemory) new = new ≡ Err ended.NoMemory

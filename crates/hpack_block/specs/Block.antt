@@ -3,7 +3,7 @@ use Rattle.std.specs.Prelude.{◌≡◌, ℕ, ◌≤◌, List, [], ◌∷◌, sl
 use Rattle.hpack_block.specs.declared.header.Header.{Header}
 use Rattle.hpack_block.specs.declared.form.Form.TheVariants.{SizeUpdate}
 use Rattle.hpack_block.specs.Integers.{IsInteger}
-use Rattle.hpack_block.specs.Tables.{Table, largest_table, resized}
+use Rattle.hpack_block.specs.Tables.{Table, largest_table, with_maximum}
 use Rattle.hpack_block.specs.Fields.{form_of, IsField}
 
 -- The octets begin with an update of the table's maximum size, with a prefix of 5 bits (section 6.3).
@@ -15,7 +15,7 @@ pub record IsUpdate (octets : List ℕ) (size : ℕ) (rest : List ℕ) : Type 0 
 -- The octets begin with updates to these sizes, one behind the other, and the rest follows.
 abbrev pub AreUpdates : Table → List ℕ → List ℕ → Table → List ℕ → Type 0
 AreUpdates table octets [] next rest = (table ≡ next) × (octets ≡ rest)
-AreUpdates table octets (size ∷ sizes) next rest = (after : List ℕ) × IsUpdate octets size after × AreUpdates (resized size table) after sizes next rest
+AreUpdates table octets (size ∷ sizes) next rest = (after : List ℕ) × IsUpdate octets size after × AreUpdates (with_maximum size table) after sizes next rest
 
 -- The octets are fields that give these headers, one behind the other.
 abbrev pub AreFields : Table → List ℕ → List Header → Table → Type 0

@@ -21,17 +21,19 @@ abbrev pub size_of_all : List Header → ℕ
 size_of_all headers = sum_by size_of headers
 
 -- The oldest entries are evicted until the others have room: the longest front of the list that fits is kept.
-abbrev pub kept : ℕ → List Header → List Header
-kept room [] = []
-kept room (entry ∷ entries) = if nat_le (size_of entry) room then entry ∷ kept (room - size_of entry) entries else []
+abbrev pub fitting_entries : ℕ → List Header → List Header
+fitting_entries room [] = []
+fitting_entries room (entry ∷ entries) =
+    if nat_le (size_of entry) room then entry ∷ fitting_entries (room - size_of entry) entries else []
 
 -- An entry is added (section 4.4). One that is larger than the table's maximum size empties the table.
-abbrev pub added : Header → Table → Table
-added header table = record { entries = kept table.maximum (header ∷ table.entries); maximum = table.maximum }
+abbrev pub with_entry : Header → Table → Table
+with_entry header table =
+    record { entries = fitting_entries table.maximum (header ∷ table.entries); maximum = table.maximum }
 
 -- the maximum size is changed (section 4.3)
-abbrev pub resized : ℕ → Table → Table
-resized maximum table = record { entries = kept maximum table.entries; maximum = maximum }
+abbrev pub with_maximum : ℕ → Table → Table
+with_maximum maximum table = record { entries = fitting_entries maximum table.entries; maximum = maximum }
 
 -- a connection's table at first
 abbrev pub empty_table : Table
@@ -44,7 +46,3 @@ entry_at table (suc place) = slice_get (static_table ++ table.entries) place
 
 abbrev pub name_at : Table → ℕ → Option (List ℕ)
 name_at table index = option_map (λ (header : Header). header.name) (entry_at table index)
-
--- what is left of a room beside an entry, if it fits
-abbrev pub room_beside : ℕ → Header → Option ℕ
-room_beside room header = if nat_le (size_of header) room then Some (room - size_of header) else None

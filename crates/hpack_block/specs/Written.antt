@@ -53,6 +53,10 @@ field_of header = field_with header (place_of_pair header)
 unfoldable pub block_of : List Header → List ℕ
 block_of headers = flat_map field_of headers
 
+-- an update of the table's maximum size (section 6.3)
+abbrev pub update_of : ℕ → List ℕ
+update_of size = integer_of 5 32 size
+
 -- what can be written
 pub record IsShort (header : Header) : Type 0 where
   pub name : length header.name ≤ largest_integer

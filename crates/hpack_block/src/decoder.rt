@@ -3,13 +3,13 @@ ghost use Rattle.std.specs.Prelude.{◌≡◌, ◌≢◌, ◌≤◌, ◌<◌, �
 ghost use Rattle.hpack_block.specs.declared.header.Header.{Header as HeaderValue};
 ghost use Rattle.hpack_block.specs.Tables.{Table, empty_table, size_of_all};
 ghost use Rattle.hpack_block.specs.Block.{Block, AreFields};
-ghost use Rattle.hpack_block.specs.Steps.{TakesUpdates, TakesFields, TakesBlock};
+ghost use Rattle.hpack_block.specs.inner.Steps.{TakesUpdates, TakesFields, TakesBlock};
 ghost use Rattle.hpack_block.specs.Answers.{Answers, IsBad, largest_list};
 
 use crate::dynamic_table::{DynamicTable, LARGEST_TABLE};
 use crate::field::field_in;
 use crate::form::is_update;
-use crate::header::{BlockFault, Headers};
+use crate::header::{BlockFault, Ended, Headers};
 use crate::header_list::HeaderList;
 use crate::integer::integer_in;
 use std::alloc::Global;
@@ -21,7 +21,7 @@ const SIZE_BITS: u32 = 5;
 #[derive(Debug, Drop)]
 pub struct Decoder {
     table: DynamicTable,
-    fault: Option<BlockFault>,
+    ended: Option<Ended>,
 }
 
 impl Model for Decoder {
@@ -29,7 +29,7 @@ impl Model for Decoder {
 
     ghost Value = { State };
 
-    ghost view = { λ d. state_of d.fault d.table };
+    ghost view = { λ d. state_of d.ended d.table };
 }
 
 impl Decoder {
@@ -39,7 +39,7 @@ impl Decoder {
     {
         Decoder {
             table: DynamicTable::empty(alloc),
-            fault: None,
+            ended: None,
         }
     }
 
@@ -54,30 +54,25 @@ impl Decoder {
     pub fn block(&mut self, alloc: Global, octets: &[u8]) -> Result<Headers, BlockFault>
         ensures { Answers self.old octets.now result self.new }
     {
-        if let Some(fault) = self.fault {
-            return Err(fault);
+        if let Some(end) = self.ended {
+            return Err(BlockFault::from(end));
         }
         match block_in(alloc, octets, &mut self.table) {
             Ok(list) => list.into_headers(),
-            Err(fault) => {
-                self.fault = Some(fault);
-                Err(fault)
+            Err(end) => {
+                self.ended = Some(end);
+                Err(BlockFault::from(end))
             }
         }
     }
 }
 
-fn block_in(
-    alloc: Global,
-    octets: &[u8],
-    table: &mut DynamicTable,
-) -> Result<HeaderList, BlockFault>
+fn block_in(alloc: Global, octets: &[u8], table: &mut DynamicTable) -> Result<HeaderList, Ended>
     ensures ok { IfOk result (λ list. TakesBlock table.old octets.now table.new list) }
-    ensures bad { IsErrOf result BlockFault.Bad → IsBad table.old octets.now }
-    ensures not_long { IsErrOf result BlockFault.TooLong → ⊥ }
+    ensures bad { IsErrOf result Ended.Bad → IsBad table.old octets.now }
 {
     let Some(rest) = updates_in(octets, table) else {
-        return Err(BlockFault::Bad);
+        return Err(Ended::Bad);
     };
     fields_in(alloc, rest, table)
 }
@@ -99,14 +94,9 @@ fn updates_in<'a>(octets: &'a [u8], table: &mut DynamicTable) -> Option<&'a [u8]
     Some(rest)
 }
 
-fn fields_in(
-    alloc: Global,
-    octets: &[u8],
-    table: &mut DynamicTable,
-) -> Result<HeaderList, BlockFault>
+fn fields_in(alloc: Global, octets: &[u8], table: &mut DynamicTable) -> Result<HeaderList, Ended>
     ensures ok { IfOk result (λ list. TakesFields table.old octets.now table.new list) }
-    ensures bad { IsErrOf result BlockFault.Bad → (headers : List HeaderValue) (last : Table) → AreFields table.old octets.now headers last → ⊥ }
-    ensures not_long { IsErrOf result BlockFault.TooLong → ⊥ }
+    ensures bad { IsErrOf result Ended.Bad → (headers : List HeaderValue) (last : Table) → AreFields table.old octets.now headers last → ⊥ }
 {
     let mut list = HeaderList::empty(alloc);
     let mut rest = octets;

@@ -1,7 +1,8 @@
 ghost use Rattle.std.specs.Prelude.{◌≡◌, ◌≤◌, OnOk, option_map, slice_get};
 ghost use Rattle.std.specs.Option.{option_copied};
 ghost use Rattle.hpack_block.specs.StaticTable.{pair};
-ghost use Rattle.hpack_block.specs.Tables.{added, resized, empty_table, entry_at, kept, largest_table, room_beside};
+ghost use Rattle.hpack_block.specs.Tables.{with_entry, with_maximum, empty_table, entry_at, fitting_entries, largest_table};
+ghost use Rattle.hpack_block.specs.inner.Gathering.{room_beside};
 
 use crate::header::Header;
 use crate::static_table::{STATIC_ENTRIES, static_entry};
@@ -71,7 +72,7 @@ impl DynamicTable {
 
     /// After want of memory the entries that were evicted are gone.
     pub(crate) fn add(&mut self, header: Header) -> Result<(), NoMemory>
-        ensures { OnOk result (self.new ≡ added header self.old) }
+        ensures { OnOk result (self.new ≡ with_entry header self.old) }
     {
         let Some(room) = room_beside(self.maximum, header.name.items(), header.value.items()) else {
             self.entries.clear();
@@ -87,7 +88,7 @@ impl DynamicTable {
 
     pub(crate) fn resize(&mut self, maximum: usize)
         requires { maximum ≤ largest_table }
-        ensures { self.new ≡ resized maximum self.old }
+        ensures { self.new ≡ with_maximum maximum self.old }
     {
         self.evict(maximum);
         let size = self.maximum - self.room;
@@ -103,7 +104,7 @@ impl DynamicTable {
 
     // Evicts the oldest entries until the others have no more than this size.
     fn evict(&mut self, most: usize)
-        ensures { self.new ≡ record self.old { entries = kept most self.old.entries } }
+        ensures { self.new ≡ record self.old { entries = fitting_entries most self.old.entries } }
     {
         while self.maximum - self.room > most {
             let Some(oldest) = self.entries.pop_back() else {

@@ -7,13 +7,13 @@ pub enum Form {
     /// A header of one of the tables.
     Indexed,
     /// A literal that is added to the dynamic table.
-    Added,
+    WithIndexing,
     /// A change of the dynamic table's maximum size.
     SizeUpdate,
     /// A literal that is not added.
-    NotAdded,
+    WithoutIndexing,
     /// A literal that nobody on the way may add.
-    NeverAdded,
+    NeverIndexed,
 }
 
 /// The octet at the front, or 0.
@@ -31,10 +31,10 @@ pub(crate) fn form_of(first: u8) -> Form
     ensures { result ≡ form_of first }
 {
     match first {
-        0..=15 => Form::NotAdded,
-        16..=31 => Form::NeverAdded,
+        0..=15 => Form::WithoutIndexing,
+        16..=31 => Form::NeverIndexed,
         32..=63 => Form::SizeUpdate,
-        64..=127 => Form::Added,
+        64..=127 => Form::WithIndexing,
         128..=255 => Form::Indexed,
     }
 }

@@ -15,18 +15,41 @@ pub type Headers = Seq<Header>;
 
 #[derive(Clone, Copy, Debug, PartialEq, Eq)]
 pub enum BlockFault {
+    /// The octets aren't a header block that the table gives headers of. The decoder reads no further one.
     Bad,
+    /// The list of headers is larger than 16,384 octets (RFC 9113 section 6.5.2). The decoder goes on.
     TooLong,
+    /// The decoder reads no further block.
     NoMemory,
 }
 
-impl From<NoMemory> for BlockFault {
-    ghost use Rattle.hpack_block.specs.declared.header.BlockFault.TheVariants.{NoMemory as OutOfMemory};
+/// Why a decoder reads no further blocks.
+#[derive(Clone, Copy, Debug, PartialEq, Eq)]
+pub enum Ended {
+    Bad,
+    NoMemory,
+}
 
-    ghost from_gives = { λ _ fault. fault ≡ OutOfMemory };
+impl From<Ended> for BlockFault {
+    ghost use Rattle.hpack_block.specs.Answers.{fault_of};
 
-    fn from(_fault: NoMemory) -> BlockFault {
-        BlockFault::NoMemory
+    ghost from_gives = { λ end fault. fault ≡ fault_of end };
+
+    fn from(end: Ended) -> BlockFault {
+        match end {
+            Ended::Bad => BlockFault::Bad,
+            Ended::NoMemory => BlockFault::NoMemory,
+        }
+    }
+}
+
+impl From<NoMemory> for Ended {
+    ghost use Rattle.hpack_block.specs.declared.header.Ended.TheVariants.{NoMemory as OutOfMemory};
+
+    ghost from_gives = { λ _ end. end ≡ OutOfMemory };
+
+    fn from(_fault: NoMemory) -> Ended {
+        Ended::NoMemory
     }
 }
 

@@ -1,6 +1,6 @@
 ghost use Rattle.std.specs.Prelude.{◌≡◌, [], Some, OnOk};
 ghost use Rattle.hpack_block.specs.StaticTable.{pair};
-ghost use Rattle.hpack_block.specs.Answers.{gathered_with, listed};
+ghost use Rattle.hpack_block.specs.inner.Gathering.{with_header, list_or_fault};
 
 use crate::dynamic_table::room_beside;
 use crate::header::{BlockFault, Header, Headers};
@@ -44,7 +44,7 @@ impl HeaderList {
     }
 
     pub(crate) fn push(&mut self, header: Header) -> Result<(), NoMemory>
-        ensures { OnOk result (self.new ≡ gathered_with header self.old) }
+        ensures { OnOk result (self.new ≡ with_header header self.old) }
     {
         match &mut self.headers {
             None => Ok(()),
@@ -71,7 +71,7 @@ impl HeaderList {
         name: &[u8],
         value: &[u8],
     ) -> Result<(), NoMemory>
-        ensures { OnOk result (self.new ≡ gathered_with (pair name.now value.now) self.old) }
+        ensures { OnOk result (self.new ≡ with_header (pair name.now value.now) self.old) }
     {
         if self.headers.is_none() {
             return Ok(());
@@ -87,7 +87,7 @@ impl HeaderList {
     }
 
     pub(crate) fn into_headers(self) -> Result<Headers, BlockFault>
-        ensures { result ≡ listed self }
+        ensures { result ≡ list_or_fault self }
     {
         let HeaderList { headers, room: _ } = self;
         headers.ok_or(BlockFault::TooLong)

@@ -1,5 +1,5 @@
 ghost use Rattle.std.specs.Prelude.{◌≡◌, ◌<◌, ◌≤◌, length, option_map, IfSome};
-ghost use Rattle.hpack_block.specs.Reading.{bounded, groups_at, integer_at};
+ghost use Rattle.hpack_block.specs.inner.Reading.{bounded, groups_at, integer_at};
 ghost use Rattle.hpack_block.specs.Integers.{largest_integer, most_groups};
 
 const LARGEST: usize = 2_147_483_647;

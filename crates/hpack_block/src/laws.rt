@@ -3,10 +3,11 @@ ghost use Rattle.std.specs.Prelude.{All, ◌≡◌, ◌≢◌, ◌≤◌, ◌<�
 ghost use Rattle.hpack_block.specs.declared.header.Header.{Header as HeaderValue};
 ghost use Rattle.hpack_block.specs.declared.header.BlockFault.{BlockFault as Fault};
 ghost use Rattle.hpack_block.specs.declared.header.BlockFault.TheVariants.{Bad, TooLong, NoMemory as OutOfMemory};
+ghost use Rattle.hpack_block.specs.declared.header.Ended.TheVariants as Ended;
 ghost use Rattle.hpack_block.specs.StaticTable.{pair, static_table};
-ghost use Rattle.hpack_block.specs.Tables.{Table, added, entry_at, kept, resized, size_of, size_of_all, empty_table};
+ghost use Rattle.hpack_block.specs.Tables.{Table, with_entry, entry_at, fitting_entries, with_maximum, size_of, size_of_all, empty_table, largest_table};
 ghost use Rattle.hpack_block.specs.Block.{Block};
-ghost use Rattle.hpack_block.specs.Written.{block_of, IsShort};
+ghost use Rattle.hpack_block.specs.Written.{block_of, update_of, IsShort};
 ghost use Rattle.hpack_block.specs.Answers.{State, Answers, IsBad, largest_list};
 
 /// With a table a block gives one list of headers at most, and leaves one table.
@@ -24,7 +25,8 @@ pub fn answered_exactly()
         → Answers (Ok table) octets result new → result ≢ Err OutOfMemory → Block octets table headers last → largest_list < size_of_all headers
         → (result ≡ Err TooLong) × (new ≡ Ok last) }
     ensures bad { (table : Table) (octets : List ℕ) (result : Result (List HeaderValue) Fault) (new : State)
-        → Answers (Ok table) octets result new → result ≢ Err OutOfMemory → IsBad table octets → (result ≡ Err Bad) × (new ≡ Err Bad) }
+        → Answers (Ok table) octets result new → result ≢ Err OutOfMemory → IsBad table octets
+        → (result ≡ Err Bad) × (new ≡ Err Ended.Bad) }
 {}
 
 /// What is written, a decoder reads back as the same headers, whatever its table, and keeps that.
@@ -34,12 +36,27 @@ pub fn read_back()
         → (result ≡ Ok headers) × (new ≡ Ok table) }
 {}
 
+/// With an update of the table's maximum size in front it is a block that gives the same headers, and the table has that
+/// size afterwards (RFC 7541 section 6.3).
+pub fn after_an_update()
+    ensures is_block { (table : Table) (size : ℕ) (headers : List HeaderValue) → All IsShort headers
+        → size ≤ largest_table
+        → Block (update_of size ++ block_of headers) table headers (with_maximum size table) }
+    ensures read_back { (table : Table) (size : ℕ) (headers : List HeaderValue)
+        (result : Result (List HeaderValue) Fault) (new : State) → All IsShort headers
+        → size ≤ largest_table → size_of_all headers ≤ largest_list
+        → Answers (Ok table) (update_of size ++ block_of headers) result new → result ≢ Err OutOfMemory
+        → (result ≡ Ok headers) × (new ≡ Ok (with_maximum size table)) }
+    ensures to_zero { update_of 0 ≡ 0x20 ∷ [] }
+    ensures to_the_largest { update_of largest_table ≡ 0x3f ∷ 0xe1 ∷ 0x1f ∷ [] }
+{}
+
 /// A front of the entries is kept that has room, and the next entry has none.
 pub fn kept_entries()
-    ensures room { (room : ℕ) (entries : List HeaderValue) → size_of_all (kept room entries) ≤ room }
-    ensures all { (room : ℕ) (entries : List HeaderValue) → size_of_all entries ≤ room → kept room entries ≡ entries }
+    ensures room { (room : ℕ) (entries : List HeaderValue) → size_of_all (fitting_entries room entries) ≤ room }
+    ensures all { (room : ℕ) (entries : List HeaderValue) → size_of_all entries ≤ room → fitting_entries room entries ≡ entries }
     ensures oldest { (room : ℕ) (entries : List HeaderValue) (oldest : HeaderValue) → room < size_of_all (entries ++ oldest ∷ [])
-        → kept room (entries ++ oldest ∷ []) ≡ kept room entries }
+        → fitting_entries room (entries ++ oldest ∷ []) ≡ fitting_entries room entries }
 {}
 
 /// The tables at worked places.
@@ -51,11 +68,11 @@ pub fn worked_tables()
     ensures zero { entry_at empty_table 0 ≡ None }
     // RFC 7541, appendix C.2.1.
     ensures size { size_of (pair (codes "custom-key") (codes "custom-header")) ≡ 55 }
-    ensures newest { entry_at (added (pair (codes "b") []) (added (pair (codes "a") []) empty_table)) 62 ≡ Some (pair (codes "b") []) }
-    ensures oldest { entry_at (added (pair (codes "b") []) (added (pair (codes "a") []) empty_table)) 63 ≡ Some (pair (codes "a") []) }
-    ensures evicted { added (pair (codes "b") []) (resized 65 (added (pair (codes "a") []) empty_table))
+    ensures newest { entry_at (with_entry (pair (codes "b") []) (with_entry (pair (codes "a") []) empty_table)) 62 ≡ Some (pair (codes "b") []) }
+    ensures oldest { entry_at (with_entry (pair (codes "b") []) (with_entry (pair (codes "a") []) empty_table)) 63 ≡ Some (pair (codes "a") []) }
+    ensures evicted { with_entry (pair (codes "b") []) (with_maximum 65 (with_entry (pair (codes "a") []) empty_table))
         ≡ record { entries = pair (codes "b") [] ∷ []; maximum = 65 } }
-    ensures larger { added (pair (codes "bb") []) (resized 33 (added (pair (codes "a") []) empty_table)) ≡ record { entries = []; maximum = 33 } }
+    ensures larger { with_entry (pair (codes "bb") []) (with_maximum 33 (with_entry (pair (codes "a") []) empty_table)) ≡ record { entries = []; maximum = 33 } }
 {}
 
 /// Headers as they are written.

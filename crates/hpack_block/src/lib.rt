@@ -17,7 +17,8 @@ mod tests;
 
 pub use decoder::Decoder;
 pub use encoder::encode_block;
-pub use header::{BlockFault, Header, Headers};
+pub use header::{BlockFault, Ended, Header, Headers};
 pub use laws::{
-    answered_exactly, kept_entries, one_reading, read_back, worked_blocks, worked_tables,
+    after_an_update, answered_exactly, kept_entries, one_reading, read_back, worked_blocks,
+    worked_tables,
 };

@@ -1,22 +1,22 @@
-ghost use Rattle.std.specs.Prelude.{◌≡◌, ◌<◌, ℕ, List, length, IfOk, IfSome, IsErrOf, None};
+ghost use Rattle.std.specs.Prelude.{◌≡◌, ◌<◌, ◌≤◌, [], ◌∷◌, ◌++◌, ℕ, List, length, IfOk, IfSome, IsErrOf, None};
+ghost use Rattle.hpack_huff.specs.Huffman.{DecodesFront};
 ghost use Rattle.hpack_block.specs.Strings.{IsCoded, IsContent, IsString};
 
 use crate::form::first_octet;
-use crate::header::{BlockFault};
+use crate::header::Ended;
 use crate::integer::integer_in;
 use base_lists::Bytes;
 use hpack_huff::{HuffFault, huff_decode};
 use std::alloc::Global;
 
 /// The string at the front, and the octets after it.
-pub(crate) fn string_in(alloc: Global, octets: &[u8]) -> Result<(Bytes, &[u8]), BlockFault>
+pub(crate) fn string_in(alloc: Global, octets: &[u8]) -> Result<(Bytes, &[u8]), Ended>
     ensures ok { IfOk result (λ x. IsString octets.now x.0 x.1.now) }
     ensures shorter { IfOk result (λ x. length x.1.now < length octets.now) }
-    ensures bad { IsErrOf result BlockFault.Bad → (text rest : List ℕ) → IsString octets.now text rest → ⊥ }
-    ensures not_long { IsErrOf result BlockFault.TooLong → ⊥ }
+    ensures bad { IsErrOf result Ended.Bad → (text rest : List ℕ) → IsString octets.now text rest → ⊥ }
 {
     let Some((content, rest)) = content_in(octets) else {
-        return Err(BlockFault::Bad);
+        return Err(Ended::Bad);
     };
     let text = text_of(alloc, first_octet(octets), content)?;
     Ok((text, rest))
@@ -35,10 +35,13 @@ fn content_in(octets: &[u8]) -> Option<(&[u8], &[u8])>
     Some(after.split_at(length))
 }
 
-fn text_of(alloc: Global, first: u8, content: &[u8]) -> Result<Bytes, BlockFault>
+fn text_of(alloc: Global, first: u8, content: &[u8]) -> Result<Bytes, Ended>
     ensures ok { IfOk result (λ text. IsCoded first content.now text) }
-    ensures bad { IsErrOf result BlockFault.Bad → (text : List ℕ) → IsCoded first content.now text → ⊥ }
-    ensures not_long { IsErrOf result BlockFault.TooLong → ⊥ }
+    ensures bad { IsErrOf result Ended.Bad
+        → (text : List ℕ) → IsCoded first content.now text → ⊥ }
+    // Of a text in the Huffman code a further symbol was there.
+    ensures memory { IsErrOf result Ended.NoMemory → 128 ≤ first
+        → (text : List ℕ) × (symbol : ℕ) × DecodesFront content.now [] (text ++ symbol ∷ []) }
 {
     if first < 128 {
         return Ok(Bytes::of(alloc, content)?);
@@ -46,7 +49,7 @@ fn text_of(alloc: Global, first: u8, content: &[u8]) -> Result<Bytes, BlockFault
     let mut text = Bytes::empty(alloc);
     match huff_decode(content, &mut text) {
         Ok(()) => Ok(text),
-        Err(HuffFault::BadCode) => Err(BlockFault::Bad),
-        Err(HuffFault::NoMemory) => Err(BlockFault::NoMemory),
+        Err(HuffFault::BadCode) => Err(Ended::Bad),
+        Err(HuffFault::NoMemory) => Err(Ended::NoMemory),
     }
 }

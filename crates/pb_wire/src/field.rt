@@ -2,7 +2,6 @@ ghost use Rattle.std.specs.Prelude.{◌≡◌};
 ghost use Rattle.pb_wire.specs.declared.field.WireFault.TheVariants.{NoMemory as OutOfMemory};
 
 use base_lists::{NoMemory, Seq};
-use thiserror::Error;
 
 /// What a field holds.
 #[derive(Clone, Copy, Debug, PartialEq, Eq)]
@@ -27,11 +26,11 @@ pub struct Field {
 /// The fields of a message, in their order in it.
 pub type Fields = Seq<Field>;
 
-#[derive(Clone, Copy, Debug, PartialEq, Eq, Error)]
+#[derive(Clone, Copy, Debug, PartialEq, Eq)]
 pub enum WireFault {
-    #[error("bad message")]
+    /// The octets aren't a message: a tag, a varint or a length breaks off or is out of range, or a wire type is a
+    /// group's or none.
     BadMessage,
-    #[error("no memory")]
     NoMemory,
 }
 

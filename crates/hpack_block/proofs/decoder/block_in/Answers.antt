@@ -1,7 +1,7 @@
 use Rattle.std.proofs.Common.{List, Option, refl}
 use Rattle.std.proofs.lemmas.Result.{IfOk-weaker}
 use Rattle.hpack_block.specs.declared.header.Header.{Header}
-use Rattle.hpack_block.specs.Steps.{TakesFields, TakesBlock}
+use Rattle.hpack_block.specs.inner.Steps.{TakesFields, TakesBlock}
 use Rattle.hpack_block.proofs.BlockLemmas.{TakesBlock-from, IsBad-from}
 use Rattle.hpack_block.proofs.decoder.block_in.Goals as goal
 

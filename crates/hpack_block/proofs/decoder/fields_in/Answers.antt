@@ -1,7 +1,7 @@
 use Rattle.std.proofs.Common.{◌≡◌, ℕ, true, false, eqb, List, [], ◌∷◌, length, sym, refl, arith}
 use Rattle.std.proofs.lemmas.Bool.{eqb-true}
 use Rattle.std.proofs.lemmas.Result.{err_from_is_err_and}
-use Rattle.hpack_block.specs.declared.header.BlockFault.TheVariants.{Bad}
+use Rattle.hpack_block.specs.declared.header.Ended.TheVariants.{Bad}
 use Rattle.hpack_block.proofs.FieldLemmas.{err_as}
 use Rattle.hpack_block.proofs.BlockLemmas.{Gathering-more, Gathering-end, Gathering-bad}
 use Rattle.hpack_block.proofs.decoder.fields_in.Goals as goal

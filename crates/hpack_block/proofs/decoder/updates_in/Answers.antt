@@ -1,6 +1,6 @@
 use Rattle.std.proofs.Common.{sym, subst}
 use Rattle.hpack_block.specs.Tables.{Table}
-use Rattle.hpack_block.specs.Steps.{Leads}
+use Rattle.hpack_block.specs.inner.Steps.{Leads}
 use Rattle.hpack_block.proofs.BlockLemmas.{Leads-more, bad_integer, bad_size}
 use Rattle.hpack_block.proofs.decoder.updates_in.Goals as goal
 

@@ -1,5 +1,5 @@
 use Rattle.std.proofs.Common.{length}
-use Rattle.hpack_block.specs.Steps.{Leads}
+use Rattle.hpack_block.specs.inner.Steps.{Leads}
 use Rattle.hpack_block.proofs.decoder.updates_in.Given as goal
 
 abbrev pub invariant-loop-rest : goal.invariant-loop-rest

@@ -1,5 +1,5 @@
 use Rattle.std.proofs.lemmas.Result.{err_from_is_err_and}
-use Rattle.hpack_block.specs.declared.header.BlockFault.TheVariants.{Bad}
+use Rattle.hpack_block.specs.declared.header.Ended.TheVariants.{Bad}
 use Rattle.hpack_block.proofs.FieldLemmas.{err_as, literal_none, literal_no_name, literal_no_value, literal_is}
 use Rattle.hpack_block.proofs.field.literal_in.Goals as goal
 

@@ -1,6 +1,6 @@
 use Rattle.std.proofs.Common.{refl, subst, sym, ℕ}
 use Rattle.std.proofs.lemmas.Result.{err_from_is_err_and}
-use Rattle.hpack_block.specs.declared.header.BlockFault.TheVariants.{Bad}
+use Rattle.hpack_block.specs.declared.header.Ended.TheVariants.{Bad}
 use Rattle.hpack_block.specs.Strings.{IsCoded}
 use Rattle.hpack_block.proofs.FieldLemmas.{err_as, string_of_content}
 use Rattle.hpack_block.proofs.string.string_in.Goals as goal

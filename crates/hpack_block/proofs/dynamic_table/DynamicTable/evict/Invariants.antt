@@ -1,11 +1,11 @@
 use Rattle.std.proofs.Common.{◌≡◌, ◌+◌, ◌≤◌, length}
-use Rattle.hpack_block.specs.Tables.{kept, size_of_all}
+use Rattle.hpack_block.specs.Tables.{fitting_entries, size_of_all}
 use Rattle.hpack_block.proofs.dynamic_table.DynamicTable.evict.Given as goal
 
 -- what is to be kept is there still
 abbrev pub invariant-loop-self : goal.invariant-loop-self
 invariant-loop-self l = record {
-  same : kept l.most l.self-inside.entries.items ≡ kept l.most l.fn.self.entries;
+  same : fitting_entries l.most l.self-inside.entries.items ≡ fitting_entries l.most l.fn.self.entries;
   size : size_of_all l.self-inside.entries.items + l.self-inside.room ≡ l.self-inside.maximum;
   maximum : l.self-inside.maximum ≡ l.fn.self.maximum;
   bounded : l.self-inside.maximum ≤ 4096;

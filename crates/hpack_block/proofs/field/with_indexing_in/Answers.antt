@@ -1,7 +1,7 @@
 use Rattle.std.proofs.lemmas.Result.{err_from_is_err_and}
-use Rattle.hpack_block.specs.declared.header.BlockFault.TheVariants.{Bad}
+use Rattle.hpack_block.specs.declared.header.Ended.TheVariants.{Bad}
 use Rattle.hpack_block.proofs.FieldLemmas.{err_as}
-use Rattle.hpack_block.proofs.field.added_in.Goals as goal
+use Rattle.hpack_block.proofs.field.with_indexing_in.Goals as goal
 
 pub returns-in_err-header-clause-bad : goal.returns-in_err-header-clause-bad
 returns-in_err-header-clause-bad c =

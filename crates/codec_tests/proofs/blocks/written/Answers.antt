@@ -1,6 +1,6 @@
 use Rattle.std.proofs.Common.{arith, ap, length}
 use Rattle.hpack_block.proofs.WrittenLemmas.{IsShort-one}
-use Rattle.hpack_block.proofs.tests.written.Goals as goal
+use Rattle.codec_tests.proofs.blocks.written.Goals as goal
 
 pub encode_block-requires : goal.encode_block-requires
 encode_block-requires c =

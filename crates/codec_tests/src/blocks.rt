@@ -1,0 +1,140 @@
+//! Header blocks: what is refused, a list at its largest size, each form that is written.
+ghost use Rattle.std.specs.Prelude.{◌≤◌, length};
+ghost use Rattle.hpack_block.specs.Integers.{largest_integer};
+
+use base_lists::{Bytes, NoMemory};
+use hpack_block::{BlockFault, Decoder, Header, Headers, encode_block};
+use std::alloc::Global;
+use std::process::Abort;
+use std::test::Fail;
+
+fn assert_bad(rt: &impl Abort, alloc: Global, block: &[u8]) {
+    let mut decoder = Decoder::make(alloc);
+    assert!(rt;
+        matches!(decoder.block(alloc, block), Err(BlockFault::Bad)),
+        "{block:?}"
+    );
+    // And so it stays.
+    assert!(rt;
+        matches!(decoder.block(alloc, b"\x82"), Err(BlockFault::Bad)),
+        "{block:?}"
+    );
+}
+
+// The verdicts of python-hpack, and this product's bounds on integers.
+#[test]
+fn refuses_what_is_no_block(rt: HostRuntime) {
+    let blocks: [&[u8]; 16] = [
+        // Index 0.
+        b"\x80",
+        // An index past the tables.
+        b"\xbe",
+        // The name of an index past the tables.
+        b"\x7f\x00\x01\x61",
+        // A size update to 4,097.
+        b"\x3f\xe2\x1f",
+        // A size update after a header.
+        b"\x82\x20",
+        // No name.
+        b"\x40",
+        // No value.
+        b"\x00\x01\x61",
+        // A text cut short.
+        b"\x00\x01\x61\x05\x61",
+        // A truncated integer.
+        b"\xff",
+        b"\x3f",
+        b"\x0f",
+        // 8 bits of padding.
+        b"\x00\x01\x61\x81\xff",
+        // A zero in the padding.
+        b"\x82\x86\x84\x41\x8c\xf1\xe3\xc2\xe5\xf2\x3a\x6b\xa0\xab\x90\xf4\xfe",
+        // Six octets after the prefix.
+        b"\xff\x80\x80\x80\x80\x80\x00",
+        // An index of 2,147,483,648.
+        b"\xff\x81\xff\xff\xff\x07",
+        // A length of more than 2,147,483,647.
+        b"\x00\x7f\xff\xff\xff\xff\x0f",
+    ];
+    for block in blocks {
+        assert_bad(&rt, rt.alloc(), block);
+    }
+}
+
+// A literal that isn't added, with an empty name, a value of so many octets, and this as its length.
+fn long_block(alloc: Global, length: &[u8], count: usize) -> Result<Bytes, NoMemory> {
+    let mut block = Bytes::empty(alloc);
+    block.extend_from_slice(b"\x00\x00")?;
+    block.extend_from_slice(length)?;
+    for _ in 0..count {
+        block.push(b'v')?;
+    }
+    Ok(block)
+}
+
+#[test]
+fn takes_a_list_of_16_384_and_goes_on_after_a_longer_one(rt: HostRuntime) -> Result<(), Fail> {
+    let alloc = rt.alloc();
+    let mut decoder = Decoder::make(alloc);
+    // 16,352 and 32 are 16,384.
+    // 16,352 is 127 + 97 + 126 * 128.
+    let block = long_block(alloc, b"\x7f\xe1\x7e", 16_352)?;
+    let headers = decoder.block(alloc, block.items());
+    assert!(rt; headers.is_ok());
+    let long = long_block(alloc, b"\x7f\xe2\x7e", 16_353)?;
+    assert!(rt; matches!(decoder.block(alloc, long.items()), Err(BlockFault::TooLong)));
+    // What a block adds past its limit stands in the table.
+    let mut block = long;
+    block.extend_from_slice(b"\x40\x01a\x01b")?;
+    assert!(rt;
+        matches!(
+            decoder.block(alloc, block.items()),
+            Err(BlockFault::TooLong)
+        )
+    );
+    let headers = decoder.block(alloc, b"\xbe").expect(&rt, "an index");
+    assert_eq!(rt; headers.len(), 1);
+    for header in headers.items() {
+        assert_eq!(rt; header.name.items(), b"a".as_slice());
+        assert_eq!(rt; header.value.items(), b"b".as_slice());
+    }
+    Ok(())
+}
+
+fn written(alloc: Global, name: &[u8], value: &[u8]) -> Result<Bytes, NoMemory>
+    requires name { length name.now ≤ largest_integer }
+    requires value { length value.now ≤ largest_integer }
+{
+    let name = Bytes::of(alloc, name)?;
+    let value = Bytes::of(alloc, value)?;
+    let mut headers = Headers::empty(alloc);
+    headers.push(Header { name, value })?;
+    let mut out = Bytes::empty(alloc);
+    encode_block(&headers, &mut out)?;
+    Ok(out)
+}
+
+// RFC 7541, sections 6.1 and 6.2.2, worked by hand.
+#[test]
+fn writes_each_form(rt: HostRuntime) -> Result<(), Fail> {
+    let alloc = rt.alloc();
+    let cases: [(&[u8], &[u8], &[u8]); 5] = [
+        (b":status", b"200", b"\x88"),
+        (b"accept-encoding", b"gzip, deflate", b"\x90"),
+        (b":status", b"415", b"\x08\x03415"),
+        (
+            b"content-type",
+            b"application/grpc",
+            b"\x0f\x10\x10application/grpc",
+        ),
+        (b"grpc-status", b"0", b"\x00\x0bgrpc-status\x010"),
+    ];
+    for (name, value, octets) in cases {
+        if name.len() >= 100 || value.len() >= 100 {
+            panic!(rt; "a row that is too long");
+        }
+        let block = written(alloc, name, value)?;
+        assert_eq!(rt; block.items(), octets);
+    }
+    Ok(())
+}
