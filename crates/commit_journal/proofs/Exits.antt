@@ -9,11 +9,13 @@ use Rattle.disk_model.specs.Moments.{Put, Since, Leaves, LeavesNow, LeavesOnly}
 use Rattle.disk_model.proofs.Moving.{moved_tells, moved_map, moved_on, changes_since, put_since, leaves_then, leaves_same}
 use Rattle.journal_record.specs.Spelling.{record_of}
 use Rattle.journal_record.proofs.Lengths.{record_length}
-use Rattle.journal_record.specs.Kept.{IsKept}
-use Rattle.journal_format.specs.Legal.{IsNext, IsLegalFor}
-use Rattle.journal_format.specs.Journal.{front, AreKept, IsJournal}
-use Rattle.commit_journal.specs.Images.{IsJournalOr, IsSettled, IsInDoubt, Keeps, Holds}
-use Rattle.commit_journal.specs.Ledgers.{LedgerView, MayFollow, IsLedger}
+use Rattle.journal_record.specs.Representable.{IsRepresentable}
+use Rattle.journal_format.specs.Histories.{MayFollow, IsJournalHistory}
+use Rattle.journal_format.specs.Journal.{journal_prefix, AreRepresentable, IsJournal}
+use Rattle.commit_journal.specs.Images.{IsJournalOr}
+use Rattle.commit_journal.specs.inner.Masks.{IsSettled, IsInDoubt, Keeps, Holds}
+use Rattle.commit_journal.specs.Ledgers.{LedgerView}
+use Rattle.commit_journal.specs.inner.Invariant.{AttemptMayFollow, IsLedger}
 use Rattle.commit_journal.specs.Writes.{PutsRecord, PutsGate, FailsAtRecord, FailsAtGate, Appends, AppendsInDoubt}
 use Rattle.commit_journal.proofs.Histories.{legal_more, kept_more}
 use Rattle.commit_journal.proofs.Images.{settled_image, doubt_image, kept_images}
@@ -27,11 +29,11 @@ pub leaves_now : (told : Option Content) (gate : ℕ) (limits : Limits) (h : Lis
 leaves_now None gate limits h doubt ledger = tt
 leaves_now (Some content) gate limits h doubt ledger = kept_images limits h ledger.legal ledger.kept doubt content.kept ledger.follows ledger.content.keeps
 
-module _ (limits : Limits) (h : List Entry) (entry : Entry) (legal : IsLegalFor limits h) (kept : AreKept h) where
+module _ (limits : Limits) (h : List Entry) (entry : Entry) (legal : IsJournalHistory limits h) (kept : AreRepresentable h) where
   abbrev pub Either : List ℕ → Type 0
   Either octets = IsJournalOr limits h (Some entry) octets
 
-  before : (mask : List (Option ℕ)) → IsSettled limits h mask → Leaves (IsJournalOr limits h (Some entry)) mask
+  before : (mask : List (Option ℕ)) → IsSettled (journal_prefix limits h) mask → Leaves (IsJournalOr limits h (Some entry)) mask
   before mask settled octets image = inl (settled_image limits h legal kept mask octets settled image)
 
   pub settled_now : (told : Option Content) → Tells told (Holds limits h None) → LeavesNow (IsJournalOr limits h (Some entry)) told
@@ -48,14 +50,14 @@ module _ (limits : Limits) (h : List Entry) (entry : Entry) (legal : IsLegalFor 
   record_put old new holds moved = both old new holds moved (λ o n has put.
       let stage = staged limits h entry o n has put in (
         stage,
-        put_since (Leaves (IsJournalOr limits h (Some entry))) (length (front limits h) + 1) (record_of entry ++ 0 ∷ []) o n (before o.kept has.keeps) (before _ (touched_settled limits h (length (record_of entry ++ 0 ∷ [])) o.kept has.keeps)) (subst (λ m. Leaves (IsJournalOr limits h (Some entry)) m) put.kept (before n.kept (staged_settled limits h entry n stage).keeps)) put,
+        put_since (Leaves (IsJournalOr limits h (Some entry))) (length (journal_prefix limits h) + 1) (record_of entry ++ 0 ∷ []) o n (before o.kept has.keeps) (before _ (touched_settled limits h (length (record_of entry ++ 0 ∷ [])) o.kept has.keeps)) (subst (λ m. Leaves (IsJournalOr limits h (Some entry)) m) put.kept (before n.kept (staged_settled limits h entry n stage).keeps)) put,
       ))
 
-  module _ (next : IsNext limits h entry) (one : IsKept entry) where
-    between : (mask : List (Option ℕ)) → IsInDoubt limits h entry mask → Leaves (IsJournalOr limits h (Some entry)) mask
+  module _ (next : MayFollow limits h entry) (one : IsRepresentable entry) where
+    between : (mask : List (Option ℕ)) → IsInDoubt (journal_prefix limits h) entry mask → Leaves (IsJournalOr limits h (Some entry)) mask
     between mask doubt octets image = doubt_image limits h legal kept entry mask octets next one doubt image
 
-    after : (mask : List (Option ℕ)) → IsSettled limits (h ++ entry ∷ []) mask → Leaves (IsJournalOr limits h (Some entry)) mask
+    after : (mask : List (Option ℕ)) → IsSettled (journal_prefix limits (h ++ entry ∷ [])) mask → Leaves (IsJournalOr limits h (Some entry)) mask
     after mask settled octets image = inr (settled_image limits (h ++ entry ∷ []) (legal_more limits h entry legal next) (kept_more h entry kept one) mask octets settled image)
 
     pub gate_failed : (old new : Option Content) → Tells old (IsStaged limits h entry) → Moved old new (FailsAtGate limits h) → Tells new (Holds limits h (Some entry)) × LeavesOnly (IsJournalOr limits h (Some entry)) old new
@@ -70,7 +72,7 @@ module _ (limits : Limits) (h : List Entry) (entry : Entry) (legal : IsLegalFor 
         let doubt = touched_staged limits h entry o stage in
         let stands = opened limits h entry o n stage put in (
           stands,
-          put_since (Leaves (IsJournalOr limits h (Some entry))) (length (front limits h)) (165 ∷ []) o n (before o.kept (staged_settled limits h entry o stage).keeps) (between _ doubt) (subst (λ m. Leaves (IsJournalOr limits h (Some entry)) m) put.kept (after n.kept stands.keeps)) put,
+          put_since (Leaves (IsJournalOr limits h (Some entry))) (length (journal_prefix limits h)) (165 ∷ []) o n (before o.kept (staged_settled limits h entry o stage).keeps) (between _ doubt) (subst (λ m. Leaves (IsJournalOr limits h (Some entry)) m) put.kept (after n.kept stands.keeps)) put,
         ))
 
     pub close_failed : (old new : Option Content) → Tells old (Holds limits h (Some entry)) → Moved old new (FailsAtGate limits h) → Tells new (Holds limits h (Some entry)) × LeavesOnly (IsJournalOr limits h (Some entry)) old new
@@ -84,7 +86,7 @@ module _ (limits : Limits) (h : List Entry) (entry : Entry) (legal : IsLegalFor 
     gate_closed old new holds moved = both old new holds moved (λ o n has put.
         let shut = closed limits h entry o n has put in (
           shut,
-          put_since (Leaves (IsJournalOr limits h (Some entry))) (length (front limits h)) (0 ∷ []) o n (between o.kept has.keeps) (between _ (touched_doubt limits h entry o.kept has.keeps)) (subst (λ m. Leaves (IsJournalOr limits h (Some entry)) m) put.kept (before n.kept shut.keeps)) put,
+          put_since (Leaves (IsJournalOr limits h (Some entry))) (length (journal_prefix limits h)) (0 ∷ []) o n (between o.kept has.keeps) (between _ (touched_doubt limits h entry o.kept has.keeps)) (subst (λ m. Leaves (IsJournalOr limits h (Some entry)) m) put.kept (before n.kept shut.keeps)) put,
         ))
 
 -- the same write, at a place and of a piece that are told otherwise
@@ -102,20 +104,20 @@ pub record Ends {D : Type 0} (told : D → Option Content) (was : LedgerView D) 
   pub moved : Moved (told was.disk) new step
 
 module _ {D : Type 0} (told : D → Option Content) {view was : LedgerView D} (view_is : view ≡ was) {gate : ℕ} (ledger : IsLedger (told view.disk) gate view.limits view.history view.doubt) where
-  module _ (entry : Entry) (settled : was.doubt ≡ None) (next : IsNext was.limits was.history entry) where
+  module _ (entry : Entry) (settled : was.doubt ≡ None) (next : MayFollow was.limits was.history entry) where
     pub undoubted : view.doubt ≡ None
     undoubted = ap (λ (v : LedgerView D). v.doubt) view_is ∙ settled
 
     holds : Tells (told view.disk) (Holds view.limits view.history None)
     holds = subst (λ d. Tells (told view.disk) (Holds view.limits view.history d)) undoubted ledger.content
 
-    follows : IsNext view.limits view.history entry
-    follows = subst (λ (v : LedgerView D). IsNext v.limits v.history entry) (sym view_is) next
+    follows : MayFollow view.limits view.history entry
+    follows = subst (λ (v : LedgerView D). MayFollow v.limits v.history entry) (sym view_is) next
 
     back : (new : Option Content) → LeavesOnly (IsJournalOr view.limits view.history (Some entry)) (told view.disk) new → LeavesOnly (IsJournalOr was.limits was.history (Some entry)) (told was.disk) new
     back new since = subst (λ (v : LedgerView D). LeavesOnly (IsJournalOr v.limits v.history (Some entry)) (told v.disk) new) view_is since
 
-    gate_here : gate + 1 ≡ length (front view.limits view.history) + 1
+    gate_here : gate + 1 ≡ length (journal_prefix view.limits view.history) + 1
     gate_here = ap (λ g. g + 1) ledger.gate_is
 
     pub record_small : record_octets entry < 2 ^ 32
@@ -130,7 +132,7 @@ module _ {D : Type 0} (told : D → Option Content) {view was : LedgerView D} (v
 
       pub ends_at_record : (new : Option Content) → Moved (told view.disk) new (λ o n. Changes (touched (gate + 1) (length piece) o.kept) o n) → Ends told was (Some entry) (FailsAtRecord was.limits was.history entry) new gate view.limits view.history view.doubt
       ends_at_record new moved =
-          let fails : Moved (told view.disk) new (FailsAtRecord view.limits view.history entry) = changes_as (told view.disk) new (gate + 1) (length (front view.limits view.history) + 1) piece (record_of entry ++ 0 ∷ []) gate_here is moved in
+          let fails : Moved (told view.disk) new (FailsAtRecord view.limits view.history entry) = changes_as (told view.disk) new (gate + 1) (length (journal_prefix view.limits view.history) + 1) piece (record_of entry ++ 0 ∷ []) gate_here is moved in
           let step = record_failed view.limits view.history entry ledger.legal ledger.kept (told view.disk) new holds fails in
           record {
             ledger = record { gate_is = ledger.gate_is; legal = ledger.legal; kept = ledger.kept; follows = ledger.follows; content = subst (λ d. Tells new (Holds view.limits view.history d)) (sym undoubted) step.0 };
@@ -138,9 +140,9 @@ module _ {D : Type 0} (told : D → Option Content) {view was : LedgerView D} (v
             moved = subst (λ (v : LedgerView D). Moved (told v.disk) new (FailsAtRecord v.limits v.history entry)) view_is fails;
           }
 
-      module _ (one : IsKept entry) (mid new : Option Content) (first : Moved (told view.disk) mid (Put (gate + 1) piece)) where
+      module _ (one : IsRepresentable entry) (mid new : Option Content) (first : Moved (told view.disk) mid (Put (gate + 1) piece)) where
         puts : Moved (told view.disk) mid (PutsRecord view.limits view.history entry)
-        puts = put_as (told view.disk) mid (gate + 1) (length (front view.limits view.history) + 1) piece (record_of entry ++ 0 ∷ []) gate_here is first
+        puts = put_as (told view.disk) mid (gate + 1) (length (journal_prefix view.limits view.history) + 1) piece (record_of entry ++ 0 ∷ []) gate_here is first
 
         stage : Tells mid (IsStaged view.limits view.history entry) × LeavesOnly (IsJournalOr view.limits view.history (Some entry)) (told view.disk) mid
         stage = record_put view.limits view.history entry ledger.legal ledger.kept (told view.disk) mid holds puts
@@ -148,7 +150,7 @@ module _ {D : Type 0} (told : D → Option Content) {view was : LedgerView D} (v
         pub ends_at_gate : (value : Entry) (count : ℕ) → value ≡ entry → count ≡ 1 → Moved mid new (λ o n. Changes (touched gate count o.kept) o n) → Ends told was (Some entry) (AppendsInDoubt was.limits was.history entry) new gate view.limits view.history (Some value)
         ends_at_gate value count value_is one_octet moved =
             let fails : Moved mid new (FailsAtGate view.limits view.history) =
-            subst (λ k. Moved mid new (λ o n. Changes (touched (length (front view.limits view.history)) k o.kept) o n)) one_octet (subst (λ p. Moved mid new (λ o n. Changes (touched p count o.kept) o n)) ledger.gate_is moved) in
+            subst (λ k. Moved mid new (λ o n. Changes (touched (length (journal_prefix view.limits view.history)) k o.kept) o n)) one_octet (subst (λ p. Moved mid new (λ o n. Changes (touched p count o.kept) o n)) ledger.gate_is moved) in
             let step = gate_failed view.limits view.history entry ledger.legal ledger.kept follows one mid new stage.0 fails in
             let calls : Moved (told view.disk) new (AppendsInDoubt view.limits view.history entry) = moved_on (told view.disk) mid new puts fails (λ o m n a b. record { between = m; record_put = a; gate_failed = b }) in
             record {
@@ -159,11 +161,11 @@ module _ {D : Type 0} (told : D → Option Content) {view was : LedgerView D} (v
 
         pub ends_done : (octet : List ℕ) (after : List Entry) (further : ℕ) (doubt : Option Entry) → octet ≡ 165 ∷ [] → after ≡ view.history ++ entry ∷ [] → further ≡ gate + length piece → doubt ≡ view.doubt → Moved mid new (Put gate octet) → Ends told was (Some entry) (Appends was.limits was.history entry) new further view.limits after doubt
         ends_done octet after further doubt octet_is after_is further_is doubt_is moved =
-            let opens : Moved mid new (PutsGate view.limits view.history 165) = put_as mid new gate (length (front view.limits view.history)) octet (165 ∷ []) ledger.gate_is octet_is moved in
+            let opens : Moved mid new (PutsGate view.limits view.history 165) = put_as mid new gate (length (journal_prefix view.limits view.history)) octet (165 ∷ []) ledger.gate_is octet_is moved in
             let step = gate_opened view.limits view.history entry ledger.legal ledger.kept follows one mid new stage.0 opens in
             let calls : Moved (told view.disk) new (Appends view.limits view.history entry) = moved_on (told view.disk) mid new puts opens (λ o m n a b. record { between = m; record_put = a; gate_put = b }) in
             let more = view.history ++ entry ∷ [] in
-            let place : further ≡ length (front view.limits more) = further_is ∙ ap (λ g. g + length piece) ledger.gate_is ∙ sym (gate_more view.limits view.history entry piece is) in
+            let place : further ≡ length (journal_prefix view.limits more) = further_is ∙ ap (λ g. g + length piece) ledger.gate_is ∙ sym (gate_more view.limits view.history entry piece is) in
             let stands : IsLedger new further view.limits more None = record { gate_is = place; legal = legal_more view.limits view.history entry ledger.legal follows; kept = kept_more view.history entry ledger.kept one; follows = tt; content = step.0 } in
             record {
               ledger = subst (λ l. IsLedger new further view.limits l doubt) (sym after_is) (subst (λ d. IsLedger new further view.limits more d) (sym (doubt_is ∙ undoubted)) stands);
@@ -190,7 +192,7 @@ module _ {D : Type 0} (told : D → Option Content) {view was : LedgerView D} (v
 
   pub repair_fails : (new : Option Content) → Moved (told view.disk) new (λ o n. Changes (touched gate (length octet) o.kept) o n) → Ends told was was.doubt (FailsAtGate was.limits was.history) new gate view.limits view.history view.doubt
   repair_fails new moved =
-      let fails : Moved (told view.disk) new (FailsAtGate view.limits view.history) = changes_as (told view.disk) new gate (length (front view.limits view.history)) octet (0 ∷ []) ledger.gate_is is moved in
+      let fails : Moved (told view.disk) new (FailsAtGate view.limits view.history) = changes_as (told view.disk) new gate (length (journal_prefix view.limits view.history)) octet (0 ∷ []) ledger.gate_is is moved in
       let step = doubt_ends (told view.disk) new gate view.limits view.history view.doubt in_doubt ledger fails in
       record {
         ledger = step.0;
@@ -200,7 +202,7 @@ module _ {D : Type 0} (told : D → Option Content) {view was : LedgerView D} (v
 
   pub repair_done : (new : Option Content) → Moved (told view.disk) new (Put gate octet) → Ends told was was.doubt (PutsGate was.limits was.history 0) new gate view.limits view.history None
   repair_done new moved =
-      let closes : Moved (told view.disk) new (PutsGate view.limits view.history 0) = put_as (told view.disk) new gate (length (front view.limits view.history)) octet (0 ∷ []) ledger.gate_is is moved in
+      let closes : Moved (told view.disk) new (PutsGate view.limits view.history 0) = put_as (told view.disk) new gate (length (journal_prefix view.limits view.history)) octet (0 ∷ []) ledger.gate_is is moved in
       let step = doubt_closes (told view.disk) new gate view.limits view.history view.doubt in_doubt ledger closes in
       record {
         ledger = step.0;

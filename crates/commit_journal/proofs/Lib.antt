@@ -1,7 +1,10 @@
+mod AnyOf
+mod AppendCalls
 mod Exits
-mod FirstEntries
 mod Histories
 mod Images
+mod Moments
+mod OpeningCalls
 mod Openings
 mod Sizes
 mod Steps

@@ -9,14 +9,17 @@ use Rattle.disk_model.specs.Images.{IsImage, synced}
 use Rattle.disk_model.specs.Moments.{Put, Leaves, LeavesNow}
 use Rattle.disk_model.proofs.Masks.{image_split, wrote_behind}
 use Rattle.disk_model.proofs.Moving.{moved_tells}
-use Rattle.journal_format.specs.Answered.{GivesJournal, GivesDamage}
+use Rattle.journal_format.specs.Answers.{GivesJournal, GivesDamage}
 use Rattle.journal_format.specs.declared.journal.JournalFault.{JournalFault}
 use Rattle.journal_format.specs.declared.journal.JournalFault.TheVariants as faults
-use Rattle.journal_format.specs.Legal.{IsLegalFor}
-use Rattle.journal_format.specs.Journal.{front, header, IsJournal, IsDamaged, AreKept}
-use Rattle.commit_journal.specs.Images.{IsJournalOr, Holds}
-use Rattle.commit_journal.specs.Ledgers.{LedgerView, IsLedger}
-use Rattle.commit_journal.specs.Openings.{IsSynced, HasSynced, IsReady, IsReadyOn, IsFoundDamaged, Opens, OpensOn, FindsJournal, FindsDamage, FindsAll}
+use Rattle.journal_format.specs.Histories.{IsJournalHistory}
+use Rattle.journal_format.specs.Journal.{journal_prefix, header, IsJournal, IsDamaged, AreRepresentable}
+use Rattle.commit_journal.specs.Images.{IsJournalOr}
+use Rattle.commit_journal.specs.inner.Masks.{Holds}
+use Rattle.commit_journal.specs.Ledgers.{LedgerView}
+use Rattle.commit_journal.specs.inner.Invariant.{IsLedger}
+use Rattle.commit_journal.specs.Openings.{IsSynced, IsReady, IsFoundDamaged, Opens, FindsJournal, FindsDamage, FindsAll}
+use Rattle.commit_journal.specs.inner.Openings.{HasSynced, IsReadyOn, OpensOn}
 use Rattle.commit_journal.specs.Writes.{Creates, first_octets}
 use Rattle.commit_journal.specs.declared.opening.Opening.{Opening}
 use Rattle.commit_journal.specs.declared.opening.Opening.TheVariants.{Ready, Damaged, DiskFault, NoMemory}
@@ -29,7 +32,7 @@ pub opened_holds : (told : Option Content) (limits : Limits) (h : List Entry) (o
 opened_holds None limits h octets has journal = tt
 opened_holds (Some content) limits h octets has journal = journal_holds limits h octets content has journal
 
-pub opened_is : (told : Option Content) (gate : ℕ) (limits : Limits) (h kept : List Entry) (octets : List ℕ) → Tells told (HasSynced octets) → IsJournal octets limits h → gate ≡ length (front limits h) → kept ≡ h → IsLedger told gate limits kept None
+pub opened_is : (told : Option Content) (gate : ℕ) (limits : Limits) (h kept : List Entry) (octets : List ℕ) → Tells told (HasSynced octets) → IsJournal octets limits h → gate ≡ length (journal_prefix limits h) → kept ≡ h → IsLedger told gate limits kept None
 opened_is told gate limits h kept octets has journal gate_is is =
     subst (λ l. IsLedger told gate limits l None) (sym is) record { gate_is = gate_is; legal = journal.legal; kept = journal.kept; follows = tt; content = opened_holds told limits h octets has journal }
 
@@ -102,7 +105,7 @@ nothing_found_yet left (Some content) = record { journal = λ limits h is. tt; d
 created_holds : (limits : Limits) (old new : Content) → Creates limits old new → Holds limits [] None new
 created_holds limits old new creates =
     let wrote : new.seen ≡ first_octets limits ++ drop (length (first_octets limits)) [] = wrote_behind [] [] (first_octets limits) new.seen 0 refl (subst (λ s. Wrote 0 (first_octets limits) s new.seen) creates.was_empty creates.put.wrote) in
-    let whole : new.seen ≡ front limits [] ++ 0 ∷ drop (length (first_octets limits)) [] =
+    let whole : new.seen ≡ journal_prefix limits [] ++ 0 ∷ drop (length (first_octets limits)) [] =
     wrote ∙ append_assoc (header limits) (0 ∷ []) (drop (length (first_octets limits)) []) ∙ ap (λ l. l ++ 0 ∷ drop (length (first_octets limits)) []) (sym (append-nil (header limits))) in
     holds_by limits [] new 0 (drop (length (first_octets limits)) []) whole (omega arith) creates.put.kept
 

@@ -9,20 +9,20 @@ use Rattle.base_kinds.specs.Records.{record_octets}
 use Rattle.base_kinds.specs.Rules.{limited, size_of}
 use Rattle.journal_record.specs.Spelling.{record_of}
 use Rattle.journal_record.proofs.Lengths.{record_length}
-use Rattle.journal_format.specs.Legal.{IsNext, FollowInTurn, IsLegalFor, has_trial, has_room}
-use Rattle.journal_format.specs.Journal.{header, gated, front}
+use Rattle.journal_format.specs.Histories.{MayFollow, FollowInTurn, IsJournalHistory, has_trial, has_room}
+use Rattle.journal_format.specs.Journal.{header, gated_record, journal_prefix}
 use Rattle.commit_journal.proofs.Histories.{front_more}
 
-gates_length : (h : List Entry) → length (flat_map gated h) ≡ sum_by (λ entry. 1 + record_octets entry) h
+gates_length : (h : List Entry) → length (flat_map gated_record h) ≡ sum_by (λ entry. 1 + record_octets entry) h
 gates_length [] = refl
-gates_length (e ∷ h) = omega (arith, length-append (gated e) (flat_map gated h), record_length e, gates_length h, sum_by-cons (λ entry. 1 + record_octets entry) e h)
+gates_length (e ∷ h) = omega (arith, length-append (gated_record e) (flat_map gated_record h), record_length e, gates_length h, sum_by-cons (λ entry. 1 + record_octets entry) e h)
 
 header_length : (limits : Limits) → length (header limits) ≡ 16
 unfolding header
 header_length limits = refl
 
-pub front_length : (limits : Limits) (h : List Entry) → length (front limits h) + 1 ≡ size_of h
-front_length limits h = omega (arith, length-append (header limits) (flat_map gated h), header_length limits, gates_length h)
+pub front_length : (limits : Limits) (h : List Entry) → length (journal_prefix limits h) + 1 ≡ size_of h
+front_length limits h = omega (arith, length-append (header limits) (flat_map gated_record h), header_length limits, gates_length h)
 
 limited_size : (limits : Limits) (h : List Entry) (entries octets : ℕ) → IsTrue (limited limits h entries octets) → size_of h ≤ limits.octets
 limited_size limits h entries octets is = grind (arith, is)
@@ -39,11 +39,11 @@ follow_size limits before [] follow size = subst (λ b. size_of b ≤ limits.oct
 follow_size limits before (e ∷ h) follow size =
     subst (λ b. size_of b ≤ limits.octets) (append_assoc before (e ∷ []) h) (follow_size limits (before ++ e ∷ []) h follow.1 (room_size limits (before ++ e ∷ []) follow.0.room))
 
-pub legal_size : (limits : Limits) (h : List Entry) → IsLegalFor limits h → length (front limits h) + 1 ≤ 268435456
+pub legal_size : (limits : Limits) (h : List Entry) → IsJournalHistory limits h → length (journal_prefix limits h) + 1 ≤ 268435456
 legal_size limits h legal =
     let start : size_of [] ≤ limits.octets = omega (arith, legal.in_range.least_octets) in
     omega (arith, front_length limits h, follow_size limits [] h legal.in_turn start, legal.in_range.most_octets)
 
 -- the place of the gate behind one entry more
-pub gate_more : (limits : Limits) (h : List Entry) (entry : Entry) (piece : List ℕ) → piece ≡ record_of entry ++ 0 ∷ [] → length (front limits (h ++ entry ∷ [])) ≡ length (front limits h) + length piece
-gate_more limits h entry piece is = omega (arith, ap length (append-nil (front limits (h ++ entry ∷ []))), ap length (front_more limits h entry []), length-append (front limits h) (165 ∷ (record_of entry ++ [])), ap length is, length-append (record_of entry) (0 ∷ []), length-append (record_of entry) [])
+pub gate_more : (limits : Limits) (h : List Entry) (entry : Entry) (piece : List ℕ) → piece ≡ record_of entry ++ 0 ∷ [] → length (journal_prefix limits (h ++ entry ∷ [])) ≡ length (journal_prefix limits h) + length piece
+gate_more limits h entry piece is = omega (arith, ap length (append-nil (journal_prefix limits (h ++ entry ∷ []))), ap length (front_more limits h entry []), length-append (journal_prefix limits h) (165 ∷ (record_of entry ++ [])), ap length is, length-append (record_of entry) (0 ∷ []), length-append (record_of entry) [])

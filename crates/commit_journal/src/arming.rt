@@ -1,17 +1,19 @@
-ghost use Rattle.std.specs.Prelude.{◌≡◌, IfSome, OnOk, OnErr};
+ghost use Rattle.std.specs.Prelude.{◌≡◌, OnOk, OnErr, IfSome};
 ghost use Rattle.disk_model.specs.Arming.{with_failure, with_stop};
 ghost use Rattle.disk_model.specs.Calls.{armed_with, starved};
 ghost use Rattle.commit_journal.specs.Ledgers.{LedgerView};
 
 use crate::ledger::Ledger;
-use base_kinds::{Fill, NoMemory};
+use base_kinds::Fill;
+use base_lists::NoMemory;
 use disk_model::Armed;
 
 impl<D: Armed> Ledger<D> {
-    /// Lets the disk fail in the call after this many, counted once all failures have hit that wait already.
+    /// Lets the disk fail in the call after this many, counted once all failures have hit that wait
+    /// already.
     pub fn fail_after(&mut self, passes: u64) -> Result<(), NoMemory>
-        ensures ok { OnOk result
-            (D.fuse self.new.disk ≡ armed_with (with_failure passes) (D.fuse self.old.disk)) }
+        ensures ok { OnOk result (D.fuse self.new.disk
+            ≡ armed_with (with_failure passes) (D.fuse self.old.disk)) }
         ensures err { OnErr result (D.fuse self.new.disk ≡ starved (D.fuse self.old.disk)) }
         ensures told { D.told self.new.disk ≡ D.told self.old.disk }
         ensures faults { D.faults self.new.disk ≡ D.faults self.old.disk }
@@ -20,10 +22,11 @@ impl<D: Armed> Ledger<D> {
         self.disk.fail_after(passes)
     }
 
-    /// Lets the disk stop in the call after this many, counted once all stops have hit that wait already.
+    /// Lets the disk stop in the call after this many, counted once all stops have hit that wait
+    /// already.
     pub fn stop_after(&mut self, passes: u64, fill: Fill) -> Result<(), NoMemory>
-        ensures ok { OnOk result
-            (D.fuse self.new.disk ≡ armed_with (with_stop passes fill) (D.fuse self.old.disk)) }
+        ensures ok { OnOk result (D.fuse self.new.disk
+            ≡ armed_with (with_stop passes fill) (D.fuse self.old.disk)) }
         ensures err { OnErr result (D.fuse self.new.disk ≡ starved (D.fuse self.old.disk)) }
         ensures told { D.told self.new.disk ≡ D.told self.old.disk }
         ensures faults { D.faults self.new.disk ≡ D.faults self.old.disk }
@@ -32,12 +35,14 @@ impl<D: Armed> Ledger<D> {
         self.disk.stop_after(passes, fill)
     }
 
+    /// Whether the disk has stopped.
     pub fn stopped(&self) -> bool
         ensures { IfSome (D.fuse self.now.disk).arming (λ arming. result ≡ arming.stopped) }
     {
         self.disk.stopped()
     }
 
+    /// Whether the disk has failed for want of memory.
     pub fn starved(&self) -> bool
         ensures { result ≡ (D.fuse self.now.disk).starved }
     {

@@ -1,12 +1,14 @@
 ghost use Rattle.std.specs.Prelude.{◌≡◌, ◌≢◌, ◌⊎◌, ◌+◌, ◌^◌, ◌<◌, ◌≤◌, [], ◌∷◌, ◌++◌, length, IsOk, IsSome, IsErrOf, IfOk, OnOk, OnErr, is_some, None, Some, vec_capacity};
 ghost use Rattle.edge_traits.specs.Faults.{Rose};
+ghost use Rattle.disk_model.specs.Calls.{CallsPassed, FailsWithin, CallsEnd};
 ghost use Rattle.disk_model.specs.Content.{Moved, Tells};
 ghost use Rattle.disk_model.specs.Moments.{LeavesNow, LeavesOnly};
 ghost use Rattle.base_kinds.specs.Limits.{AreInRange};
 ghost use Rattle.base_kinds.specs.Records.{record_octets};
 ghost use Rattle.journal_record.specs.Spelling.{record_of};
-ghost use Rattle.journal_record.specs.Kept.{IsKept};
-ghost use Rattle.journal_format.specs.Legal.{IsNext};
+ghost use Rattle.journal_record.specs.Representable.{IsRepresentable};
+ghost use Rattle.journal_format.specs.Gates.{closed_gate};
+ghost use Rattle.journal_format.specs.Histories.{MayFollow};
 ghost use Rattle.journal_format.specs.Journal.{IsJournal};
 ghost use Rattle.commit_journal.specs.Images.{IsJournalOr};
 ghost use Rattle.commit_journal.specs.Ledgers.{LedgerView, FailedAppend};
@@ -41,24 +43,33 @@ impl<D: Disk> Model for Ledger<D> {
     ghost use Rattle.std.specs.Prelude.{vec_capacity};
     ghost use Rattle.std.specs.Option.{option_map};
     ghost use Rattle.base_kinds.specs.contracts.value.Value as value;
-    ghost use Rattle.commit_journal.specs.Ledgers.{LedgerView, IsLedger, view_code};
+    ghost use Rattle.commit_journal.specs.Ledgers.{LedgerView, view_code};
+    ghost use Rattle.commit_journal.specs.inner.Invariant.{IsLedger};
 
     ghost Value = { LedgerView D };
 
     ghost coded = { view_code D.code (Prim.hlevel (codes, value.the_row.coded)) };
 
-    ghost view = { λ l. record { disk = l.disk; limits = l.limits; history = l.history; doubt = option_map (λ s. s.value) l.attempt; room = vec_capacity l.buffer } };
+    ghost view = { λ l. record {
+      disk = l.disk;
+      limits = l.limits;
+      history = l.history;
+      doubt = option_map (λ s. s.value) l.attempt;
+      room = vec_capacity l.buffer;
+    } };
 
-    ghost invariant = { λ l. IsLedger (D.told l.disk) l.gate l.limits l.history (option_map (λ s. s.value) l.attempt) };
+    ghost invariant = { λ l. IsLedger (D.told l.disk) l.gate l.limits l.history
+        (option_map (λ s. s.value) l.attempt) };
 }
 
 /// Puts the entry's record and a closed gate in place of what is in the buffer.
 #[tactic(auto, using(journal_record::proofs::Lengths::record_length))]
 fn put_record(entry: &Entry, buffer: &mut Vec<u8>) -> Result<(), NoMemory>
-    ensures ok { OnOk result (buffer.new.items ≡ record_of entry.now ++ 0 ∷ []) }
-    ensures kept { OnOk result (IsKept entry.now) }
+    ensures ok { OnOk result (buffer.new.items ≡ record_of entry.now ++ closed_gate ∷ []) }
+    ensures kept { OnOk result (IsRepresentable entry.now) }
     ensures capacity { vec_capacity buffer.old ≤ vec_capacity buffer.new }
-    ensures within { record_octets entry.now < 2 ^ 32 → record_octets entry.now + 1 ≤ vec_capacity buffer.old → IsOk result }
+    ensures within { record_octets entry.now < 2 ^ 32
+        → record_octets entry.now + 1 ≤ vec_capacity buffer.old → IsOk result }
 {
     buffer.clear();
     put_entry(entry, buffer)?;
@@ -72,7 +83,7 @@ fn first_octets(alloc: Global, limits: &Limits) -> Result<Bytes, NoMemory>
     ensures { IfOk result (λ octets. octets ≡ first_octets limits.now) }
 {
     let mut octets = Bytes::empty(alloc);
-    write_header(alloc, limits, &mut octets)?;
+    write_header(limits, &mut octets)?;
     octets.push(CLOSED_GATE)?;
     Ok(octets)
 }
@@ -80,15 +91,34 @@ fn first_octets(alloc: Global, limits: &Limits) -> Result<Bytes, NoMemory>
 impl<D: Disk> Ledger<D> {
     /// Writes the journal without entries on a disk that is empty.
     pub fn create(alloc: Global, disk: &mut D, limits: &Limits) -> Result<(), CreateFault>
+        // needs
         requires { AreInRange limits.now }
-        ensures created { OnOk result (Moved (D.told disk.old) (D.told disk.new) (Creates limits.now)) }
-        ensures images { OnOk result (LeavesNow (λ octets. IsJournal octets limits.now []) (D.told disk.new)) }
-        ensures not_empty { IsErrOf result CreateFault.NotEmpty → Tells (D.told disk.old) (λ c. c.seen ≢ []) }
-        ensures refused { Tells (D.told disk.old) (λ c. c.seen ≢ [] → IsErrOf result CreateFault.NotEmpty ⊎ IsErrOf result CreateFault.DiskFault) }
-        ensures unchanged { ¬ (IsErrOf result CreateFault.DiskFault) → OnErr result (D.told disk.new ≡ D.told disk.old) }
-        ensures failed { IsErrOf result CreateFault.DiskFault → (D.told disk.new ≡ D.told disk.old) ⊎ Moved (D.told disk.old) (D.told disk.new) (CreateFails limits.now) }
-        ensures fault { IsErrOf result CreateFault.DiskFault → Rose (D.faults disk.old) (D.faults disk.new) }
-        ensures quiet { ¬ (IsErrOf result CreateFault.DiskFault) → D.faults disk.new ≡ D.faults disk.old }
+        // after Ok
+        ensures created { OnOk result (Moved (D.told disk.old) (D.told disk.new)
+            (Creates limits.now)) }
+        // after Err, by its cause
+        ensures not_empty { IsErrOf result CreateFault.NotEmpty
+            → Tells (D.told disk.old) (λ c. c.seen ≢ []) }
+        ensures refused { Tells (D.told disk.old) (λ c. c.seen ≢ []
+            → IsErrOf result CreateFault.NotEmpty ⊎ IsErrOf result CreateFault.DiskFault) }
+        ensures failed { IsErrOf result CreateFault.DiskFault → (D.told disk.new ≡ D.told disk.old)
+            ⊎ Moved (D.told disk.old) (D.told disk.new) (CreateFails limits.now) }
+        ensures unchanged { ¬ (IsErrOf result CreateFault.DiskFault)
+            → OnErr result (D.told disk.new ≡ D.told disk.old) }
+        // at a stop after it
+        ensures images { OnOk result (LeavesNow (λ octets. IsJournal octets limits.now [])
+            (D.told disk.new)) }
+        // the disk's count of faults
+        ensures fault { IsErrOf result CreateFault.DiskFault
+            → Rose (D.faults disk.old) (D.faults disk.new) }
+        ensures quiet { ¬ (IsErrOf result CreateFault.DiskFault)
+            → D.faults disk.new ≡ D.faults disk.old }
+        // how many calls of the disk it makes
+        ensures three_calls { OnOk result (CallsPassed 3 (D.fuse disk.old) (D.fuse disk.new)) }
+        ensures failed_call { IsErrOf result CreateFault.DiskFault
+            → FailsWithin 3 (D.fuse disk.old) (D.fuse disk.new) }
+        ensures one_call { ¬ (IsErrOf result CreateFault.DiskFault)
+            → OnErr result (CallsPassed 1 (D.fuse disk.old) (D.fuse disk.new)) }
     {
         if disk.len()? != 0 {
             return Err(CreateFault::NotEmpty);
@@ -121,20 +151,42 @@ impl<D: Disk> Ledger<D> {
 
     /// Makes the entry the last one of the history. After a fault of the disk it may be in doubt.
     pub fn append(&mut self, entry: &Entry) -> Result<(), LedgerFault>
+        // needs
         requires settled { self.old.doubt ≡ None }
-        requires next { IsNext self.old.limits self.old.history entry.now }
+        requires next { MayFollow self.old.limits self.old.history entry.now }
+        // after Ok
+        ensures ok { OnOk result ((self.new.history ≡ self.old.history ++ entry.now ∷ [])
+            × (self.new.doubt ≡ None)) }
+        ensures calls { OnOk result (Moved (D.told self.old.disk) (D.told self.new.disk)
+            (Appends self.old.limits self.old.history entry.now)) }
+        // after Err, by its cause
+        ensures err { OnErr result (self.new.history ≡ self.old.history) }
+        ensures failed { IsErrOf result LedgerFault.DiskFault
+            → FailedAppend self.old.limits self.old.history entry.now self.new.doubt
+            (D.told self.old.disk) (D.told self.new.disk) }
+        ensures memory { IsErrOf result LedgerFault.NoMemory
+            → self.new ≡ record self.old { room = self.new.room } }
+        ensures within { record_octets entry.now + 1 ≤ self.old.room
+            → ¬ (IsErrOf result LedgerFault.NoMemory) }
+        // at a stop, at any moment of the call, and after it
+        ensures any_moment { LeavesOnly
+            (IsJournalOr self.old.limits self.old.history (Some entry.now))
+            (D.told self.old.disk) (D.told self.new.disk) }
+        ensures images { LeavesNow (IsJournalOr self.new.limits self.new.history self.new.doubt)
+            (D.told self.new.disk) }
+        // without fail
         ensures limits { self.new.limits ≡ self.old.limits }
         ensures room { self.old.room ≤ self.new.room }
-        ensures ok { OnOk result ((self.new.history ≡ self.old.history ++ entry.now ∷ []) × (self.new.doubt ≡ None)) }
-        ensures calls { OnOk result (Moved (D.told self.old.disk) (D.told self.new.disk) (Appends self.old.limits self.old.history entry.now)) }
-        ensures err { OnErr result (self.new.history ≡ self.old.history) }
-        ensures failed { IsErrOf result LedgerFault.DiskFault → FailedAppend self.old.limits self.old.history entry.now self.new.doubt (D.told self.old.disk) (D.told self.new.disk) }
-        ensures memory { IsErrOf result LedgerFault.NoMemory → self.new ≡ record self.old { room = self.new.room } }
-        ensures within { record_octets entry.now + 1 ≤ self.old.room → ¬ (IsErrOf result LedgerFault.NoMemory) }
-        ensures any_moment { LeavesOnly (IsJournalOr self.old.limits self.old.history (Some entry.now)) (D.told self.old.disk) (D.told self.new.disk) }
-        ensures images { LeavesNow (IsJournalOr self.new.limits self.new.history self.new.doubt) (D.told self.new.disk) }
-        ensures fault { IsErrOf result LedgerFault.DiskFault → Rose (D.faults self.old.disk) (D.faults self.new.disk) }
-        ensures quiet { ¬ (IsErrOf result LedgerFault.DiskFault) → D.faults self.new.disk ≡ D.faults self.old.disk }
+        // the disk's count of faults
+        ensures fault { IsErrOf result LedgerFault.DiskFault
+            → Rose (D.faults self.old.disk) (D.faults self.new.disk) }
+        ensures quiet { ¬ (IsErrOf result LedgerFault.DiskFault)
+            → D.faults self.new.disk ≡ D.faults self.old.disk }
+        // how many calls of the disk it makes
+        ensures four_calls { OnOk result
+            (CallsPassed 4 (D.fuse self.old.disk) (D.fuse self.new.disk)) }
+        ensures failed_call { IsErrOf result LedgerFault.DiskFault
+            → FailsWithin 4 (D.fuse self.old.disk) (D.fuse self.new.disk) }
     {
         put_record(entry, &mut self.buffer)?;
         put_synced(&mut self.disk, self.gate + 1, &self.buffer)?;
@@ -154,18 +206,34 @@ impl<D: Disk> Ledger<D> {
         self.attempt.is_some()
     }
 
-    /// Settles a doubt: the entry doesn't stand. It may fail and be made again, and never wants memory.
+    /// Settles a doubt: the entry doesn't stand. It may fail and be made again, and never wants
+    /// memory.
     pub fn repair(&mut self) -> Result<(), LedgerFault>
+        // needs
         requires { IsSome self.old.doubt }
-        ensures ok { OnOk result (self.new ≡ record self.old { disk = self.new.disk; doubt = None }) }
+        // after Ok
+        ensures ok { OnOk result (self.new ≡ record self.old {
+          disk = self.new.disk;
+          doubt = None;
+        }) }
+        ensures calls { OnOk result (Moved (D.told self.old.disk) (D.told self.new.disk)
+            (PutsGate self.old.limits self.old.history closed_gate)) }
+        // after Err, by its cause
         ensures err { OnErr result (self.new ≡ record self.old { disk = self.new.disk }) }
-        ensures calls { OnOk result (Moved (D.told self.old.disk) (D.told self.new.disk) (PutsGate self.old.limits self.old.history 0)) }
-        ensures failed { OnErr result (Moved (D.told self.old.disk) (D.told self.new.disk) (FailsAtGate self.old.limits self.old.history)) }
+        ensures failed { OnErr result (Moved (D.told self.old.disk) (D.told self.new.disk)
+            (FailsAtGate self.old.limits self.old.history)) }
         ensures memory { ¬ (IsErrOf result LedgerFault.NoMemory) }
-        ensures any_moment { LeavesOnly (IsJournalOr self.old.limits self.old.history self.old.doubt) (D.told self.old.disk) (D.told self.new.disk) }
-        ensures images { LeavesNow (IsJournalOr self.new.limits self.new.history self.new.doubt) (D.told self.new.disk) }
+        // at a stop, at any moment of the call, and after it
+        ensures any_moment { LeavesOnly
+            (IsJournalOr self.old.limits self.old.history self.old.doubt)
+            (D.told self.old.disk) (D.told self.new.disk) }
+        ensures images { LeavesNow (IsJournalOr self.new.limits self.new.history self.new.doubt)
+            (D.told self.new.disk) }
+        // the disk's count of faults
         ensures fault { OnErr result (Rose (D.faults self.old.disk) (D.faults self.new.disk)) }
         ensures quiet { OnOk result (D.faults self.new.disk ≡ D.faults self.old.disk) }
+        // how many calls of the disk it makes
+        ensures two_calls { CallsEnd 2 (D.fuse self.old.disk) (D.fuse self.new.disk) result }
     {
         put_synced(&mut self.disk, self.gate, &[CLOSED_GATE])?;
         self.attempt = None;

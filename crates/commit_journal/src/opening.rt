@@ -1,6 +1,10 @@
 ghost use Rattle.std.specs.Prelude.{◌≡◌, ◌∷◌, ◌++◌, [], length};
-ghost use Rattle.disk_model.specs.Content.{Tells};
-ghost use Rattle.commit_journal.specs.Openings.{Opens, OpensOn, FindsAll, HasSynced};
+ghost use Rattle.disk_model.specs.Calls.{WhereArmed};
+ghost use Rattle.disk_model.specs.Content.{Tells, SeesImage};
+ghost use Rattle.disk_model.specs.Images.{IsImage};
+ghost use Rattle.disk_model.specs.Moments.{LeavesOnly};
+ghost use Rattle.commit_journal.specs.Openings.{Opens, OpensBy, FindsAll, disk_of, opening_calls};
+ghost use Rattle.commit_journal.specs.inner.Openings.{OpensOn, HasSynced};
 
 use crate::ledger::Ledger;
 use base_kinds::{Entries, Entry};
@@ -61,19 +65,38 @@ fn open<D: Disk>(alloc: Global, disk: D, octets: &[u8]) -> Opening<D>
     }
 }
 
+/// Syncs a disk, reads it, and opens it.
+fn sync_and_open<D: Disk>(alloc: Global, mut disk: D) -> Opening<D>
+    ensures opens { Opens D.told D.faults disk result }
+    ensures finds { Tells (D.told disk) (λ c. FindsAll c.seen result) }
+    ensures image { SeesImage (D.told disk) }
+    ensures calls { WhereArmed (D.fuse disk) (D.told disk) (λ c.
+        OpensBy (opening_calls (length c.seen)) D.fuse disk result) }
+{
+    let Ok(()) = disk.sync() else {
+        return Opening::DiskFault(disk);
+    };
+    match read_whole(alloc, &mut disk) {
+        Ok(octets) => open(alloc, disk, octets.items()),
+        Err(ReadFault::Failed) => Opening::DiskFault(disk),
+        Err(ReadFault::NoMemory) => Opening::NoMemory(disk),
+    }
+}
+
 impl<D: Disk> Ledger<D> {
-    /// Syncs a disk and opens the journal on it, as it is then. After a stop this is what the stop left.
-    pub fn reopen(alloc: Global, mut disk: D) -> Opening<D>
+    /// Syncs a disk and opens the journal on it, as it is then. After a stop this is what the stop
+    /// left.
+    pub fn reopen(alloc: Global, disk: D) -> Opening<D>
+        // by what it gives
         ensures opens { Opens D.told D.faults disk result }
         ensures finds { Tells (D.told disk) (λ c. FindsAll c.seen result) }
+        // at a stop, at any moment of the call: nothing that a stop might not have left before it
+        ensures any_moment { Tells (D.told disk) (λ c. LeavesOnly (λ octets. IsImage c.kept octets)
+            (D.told disk) (D.told (disk_of result))) }
+        // how many calls of the disk it makes
+        ensures calls { WhereArmed (D.fuse disk) (D.told disk) (λ c.
+            OpensBy (opening_calls (length c.seen)) D.fuse disk result) }
     {
-        let Ok(()) = disk.sync() else {
-            return Opening::DiskFault(disk);
-        };
-        match read_whole(alloc, &mut disk) {
-            Ok(octets) => open(alloc, disk, octets.items()),
-            Err(ReadFault::Failed) => Opening::DiskFault(disk),
-            Err(ReadFault::NoMemory) => Opening::NoMemory(disk),
-        }
+        sync_and_open(alloc, disk)
     }
 }

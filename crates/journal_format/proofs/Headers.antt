@@ -5,10 +5,10 @@ use denote.Bor.{Bor}
 use Rattle.std.specs.Int.{w32, to_be_bytes}
 use Rattle.base_kinds.specs.declared.entry.Limits.{Limits}
 use Rattle.base_kinds.specs.Limits.{AreInRange}
-use Rattle.journal_record.specs.Reading.{number_at}
+use Rattle.journal_record.specs.inner.Reading.{number_at}
 use Rattle.journal_record.proofs.Forms.{IsBytes, Reads, sequence, wide32, numbers, some_is}
 use Rattle.journal_format.specs.Journal.{header, HasNoHeader}
-use Rattle.journal_format.specs.Progress.{limits_octets, limits_at, HasNoLimits}
+use Rattle.journal_format.specs.inner.Progress.{limits_octets, limits_at, HasNoLimits}
 
 record HaveOctets (limits : Limits) : Type 0 where
   entries : limits.entries < 2 ^ 32

@@ -12,9 +12,9 @@ use Rattle.base_kinds.specs.Step.{is_open}
 use Rattle.base_kinds.specs.Records.{record_octets}
 use Rattle.base_kinds.specs.Rules.{size_of}
 use Rattle.journal_record.proofs.Lengths.{record_length}
-use Rattle.journal_format.specs.Legal.{IsNext, FollowInTurn, IsLegalFor, has_trial, happens}
-use Rattle.journal_format.specs.Journal.{header, gated, front}
-use Rattle.journal_format.specs.Progress.{opens}
+use Rattle.journal_format.specs.Histories.{MayFollow, FollowInTurn, IsJournalHistory, has_trial, happens}
+use Rattle.journal_format.specs.Journal.{header, gated_record, journal_prefix}
+use Rattle.journal_format.specs.inner.Progress.{opens}
 
 world_more : (world : World) (h : List Entry) (entry : Entry) → world_from world (h ++ entry ∷ []) ≡ world_after entry.kind (world_from world h)
 world_more world [] entry = refl
@@ -56,44 +56,44 @@ length_more h entry = omega (arith, length-append h (entry ∷ []))
 
 -- ---- the octets in front of the gate
 
-gated_more : (h : List Entry) (entry : Entry) → flat_map gated (h ++ entry ∷ []) ≡ flat_map gated h ++ gated entry
+gated_more : (h : List Entry) (entry : Entry) → flat_map gated_record (h ++ entry ∷ []) ≡ flat_map gated_record h ++ gated_record entry
 gated_more [] entry = simp append-nil
-gated_more (first ∷ h) entry = ap (λ (l : List ℕ). gated first ++ l) (gated_more h entry) ∙ sym (append_assoc (gated first) (flat_map gated h) (gated entry))
+gated_more (first ∷ h) entry = ap (λ (l : List ℕ). gated_record first ++ l) (gated_more h entry) ∙ sym (append_assoc (gated_record first) (flat_map gated_record h) (gated_record entry))
 
-pub front_more : (limits : Limits) (h : List Entry) (entry : Entry) → front limits (h ++ entry ∷ []) ≡ front limits h ++ gated entry
-front_more limits h entry = ap (λ (l : List ℕ). header limits ++ l) (gated_more h entry) ∙ sym (append_assoc (header limits) (flat_map gated h) (gated entry))
+pub front_more : (limits : Limits) (h : List Entry) (entry : Entry) → journal_prefix limits (h ++ entry ∷ []) ≡ journal_prefix limits h ++ gated_record entry
+front_more limits h entry = ap (λ (l : List ℕ). header limits ++ l) (gated_more h entry) ∙ sym (append_assoc (header limits) (flat_map gated_record h) (gated_record entry))
 
 pub header_length : (limits : Limits) → length (header limits) ≡ 16
 unfolding header
 header_length limits = refl
 
-gated_length : (h : List Entry) → length (flat_map gated h) ≡ sum_by gated_octets h
+gated_length : (h : List Entry) → length (flat_map gated_record h) ≡ sum_by gated_octets h
 gated_length [] = refl
-gated_length (first ∷ h) = omega (arith, length-append (gated first) (flat_map gated h), record_length first, gated_length h, sum_by-cons gated_octets first h)
+gated_length (first ∷ h) = omega (arith, length-append (gated_record first) (flat_map gated_record h), record_length first, gated_length h, sum_by-cons gated_octets first h)
 
-pub front_length : (limits : Limits) (h : List Entry) → length (front limits h) + 1 ≡ size_of h
-front_length limits h = omega (arith, length-append (header limits) (flat_map gated h), header_length limits, gated_length h)
+pub front_length : (limits : Limits) (h : List Entry) → length (journal_prefix limits h) + 1 ≡ size_of h
+front_length limits h = omega (arith, length-append (header limits) (flat_map gated_record h), header_length limits, gated_length h)
 
 -- ---- legal histories
 
-turn_more : (limits : Limits) (h entries : List Entry) (entry : Entry) → FollowInTurn limits h entries → IsNext limits (h ++ entries) entry → FollowInTurn limits h (entries ++ entry ∷ [])
-turn_more limits h [] entry turn next = (subst (λ (l : List Entry). IsNext limits l entry) (append-nil h) next, tt)
+turn_more : (limits : Limits) (h entries : List Entry) (entry : Entry) → FollowInTurn limits h entries → MayFollow limits (h ++ entries) entry → FollowInTurn limits h (entries ++ entry ∷ [])
+turn_more limits h [] entry turn next = (subst (λ (l : List Entry). MayFollow limits l entry) (append-nil h) next, tt)
 turn_more limits h (first ∷ entries) entry turn next =
-    (turn.0, turn_more limits (h ++ first ∷ []) entries entry turn.1 (subst (λ (l : List Entry). IsNext limits l entry) (sym (append_assoc h (first ∷ []) entries)) next))
+    (turn.0, turn_more limits (h ++ first ∷ []) entries entry turn.1 (subst (λ (l : List Entry). MayFollow limits l entry) (sym (append_assoc h (first ∷ []) entries)) next))
 
-turn_less : (limits : Limits) (h entries : List Entry) (entry : Entry) → FollowInTurn limits h (entries ++ entry ∷ []) → FollowInTurn limits h entries × IsNext limits (h ++ entries) entry
-turn_less limits h [] entry turn = (tt, subst (λ (l : List Entry). IsNext limits l entry) (sym (append-nil h)) turn.0)
+turn_less : (limits : Limits) (h entries : List Entry) (entry : Entry) → FollowInTurn limits h (entries ++ entry ∷ []) → FollowInTurn limits h entries × MayFollow limits (h ++ entries) entry
+turn_less limits h [] entry turn = (tt, subst (λ (l : List Entry). MayFollow limits l entry) (sym (append-nil h)) turn.0)
 turn_less limits h (first ∷ entries) entry turn =
     let t = turn_less limits (h ++ first ∷ []) entries entry turn.1 in
-    ((turn.0, t.0), subst (λ (l : List Entry). IsNext limits l entry) (append_assoc h (first ∷ []) entries) t.1)
+    ((turn.0, t.0), subst (λ (l : List Entry). MayFollow limits l entry) (append_assoc h (first ∷ []) entries) t.1)
 
-pub legal_more : (limits : Limits) (h : List Entry) (entry : Entry) → IsLegalFor limits h → IsNext limits h entry → IsLegalFor limits (h ++ entry ∷ [])
+pub legal_more : (limits : Limits) (h : List Entry) (entry : Entry) → IsJournalHistory limits h → MayFollow limits h entry → IsJournalHistory limits (h ++ entry ∷ [])
 legal_more limits h entry legal next = record { in_range = legal.in_range; in_turn = turn_more limits [] h entry legal.in_turn next }
 
-pub legal_less : (limits : Limits) (h : List Entry) (entry : Entry) → IsLegalFor limits (h ++ entry ∷ []) → IsLegalFor limits h × IsNext limits h entry
+pub legal_less : (limits : Limits) (h : List Entry) (entry : Entry) → IsJournalHistory limits (h ++ entry ∷ []) → IsJournalHistory limits h × MayFollow limits h entry
 legal_less limits h entry legal =
     let t = turn_less limits [] h entry legal.in_turn in
     (record { in_range = legal.in_range; in_turn = t.0 }, t.1)
 
-pub turn_one_more : (limits : Limits) (h : List Entry) (entry : Entry) → FollowInTurn limits [] h → IsNext limits h entry → FollowInTurn limits [] (h ++ entry ∷ [])
+pub turn_one_more : (limits : Limits) (h : List Entry) (entry : Entry) → FollowInTurn limits [] h → MayFollow limits h entry → FollowInTurn limits [] (h ++ entry ∷ [])
 turn_one_more limits h entry turn next = turn_more limits [] h entry turn next

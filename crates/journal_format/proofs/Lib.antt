@@ -3,3 +3,4 @@ pub mod Next
 pub mod Runs
 pub mod Headers
 pub mod Loop
+pub mod Following

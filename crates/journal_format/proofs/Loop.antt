@@ -4,21 +4,22 @@ use Rattle.std.proofs.lemmas.List.{append-nil}
 use Rattle.base_kinds.specs.declared.entry.Entry.{Entry}
 use Rattle.base_kinds.specs.declared.entry.Limits.{Limits}
 use Rattle.base_kinds.specs.Limits.{AreInRange}
-use Rattle.journal_record.specs.Kept.{IsKept}
+use Rattle.journal_record.specs.Representable.{IsRepresentable}
 use Rattle.journal_format.specs.declared.progress.Progress.{Progress}
-use Rattle.journal_format.specs.Legal.{FollowInTurn}
-use Rattle.journal_format.specs.Journal.{header, gated, front, AreKept, IsNoGate, IsDamaged}
+use Rattle.journal_format.specs.Histories.{FollowInTurn}
+use Rattle.journal_format.specs.Journal.{header, gated_record, journal_prefix, AreRepresentable, IsNoGate, IsDamaged}
 use Rattle.journal_record.specs.declared.fault.RecordFault.{RecordFault}
 use Rattle.journal_record.specs.declared.fault.RecordFault.TheVariants as records
 use Rattle.journal_format.specs.declared.journal.JournalFault.{JournalFault}
-use Rattle.journal_format.specs.Answered.{IsReadFrom, IsCauseOf, CauseAt}
-use Rattle.journal_format.specs.Progress.{Stands, IsWithin, IsFollowed, IsFollowedByNone}
+use Rattle.journal_format.specs.Answers.{IsCauseOf}
+use Rattle.journal_format.specs.inner.Read.{IsReadFrom, CauseAt}
+use Rattle.journal_format.specs.inner.Progress.{Stands, IsWithin, IsFollowed, IsFollowedByNone}
 use Rattle.journal_format.proofs.Histories.{front_more, front_length, turn_one_more}
 
 pub record SoFar (limits : Limits) (octets : List ℕ) (so_far : Progress) (entries : List Entry) (rest : List ℕ) : Type 0 where
-  pub parts : header limits ++ octets ≡ front limits entries ++ rest
+  pub parts : header limits ++ octets ≡ journal_prefix limits entries ++ rest
   pub in_turn : FollowInTurn limits [] entries
-  pub kept : AreKept entries
+  pub kept : AreRepresentable entries
   pub stands : Stands so_far entries
   pub within : IsWithin limits so_far
 
@@ -31,27 +32,27 @@ starts limits octets so_far entries none range stands = subst (λ (es : List Ent
   within = record { entries_within = omega (arith, stands.count_is); octets_within = omega (arith, stands.octets_are, range.least_octets) };
 })
 
-kept_more : (h : List Entry) (entry : Entry) → AreKept h → IsKept entry → AreKept (h ++ entry ∷ [])
+kept_more : (h : List Entry) (entry : Entry) → AreRepresentable h → IsRepresentable entry → AreRepresentable (h ++ entry ∷ [])
 kept_more [] entry all is = (is, tt)
 kept_more (first ∷ h) entry all is = (all.0, kept_more h entry all.1 is)
 
-pub kept_one_more : (h : List Entry) (entry : Entry) → AreKept h → IsKept entry → AreKept (h ++ entry ∷ [])
+pub kept_one_more : (h : List Entry) (entry : Entry) → AreRepresentable h → IsRepresentable entry → AreRepresentable (h ++ entry ∷ [])
 kept_one_more h entry all is = kept_more h entry all is
 
 pub goes_on : (limits : Limits) (octets : List ℕ) (so_far : Progress) (entries : List Entry) (gate : ℕ) (behind : List ℕ) (rest : List ℕ) (entry : Entry) (next : Progress) (after : List ℕ) (entries' : List Entry) → SoFar limits octets so_far entries rest
     → rest ≡ gate ∷ behind → gate ≡ 165 → IsFollowed limits so_far behind entry next after → entries' ≡ entries ++ entry ∷ [] → SoFar limits octets next entries' after
 goes_on limits octets so_far entries gate behind rest entry next after entries' s is opened followed pushed =
     let f = followed entries s.stands in
-    let cells : rest ≡ gated entry ++ after = is ∙ ap (λ (k : ℕ). k ∷ behind) opened ∙ ap (λ (l : List ℕ). 165 ∷ l) f.parts in
+    let cells : rest ≡ gated_record entry ++ after = is ∙ ap (λ (k : ℕ). k ∷ behind) opened ∙ ap (λ (l : List ℕ). 165 ∷ l) f.parts in
     subst (λ (es : List Entry). SoFar limits octets next es after) (sym pushed) (record {
-      parts = s.parts ∙ ap (λ (l : List ℕ). front limits entries ++ l) cells ∙ sym (append_assoc (front limits entries) (gated entry) after) ∙ ap (λ (l : List ℕ). l ++ after) (sym (front_more limits entries entry));
+      parts = s.parts ∙ ap (λ (l : List ℕ). journal_prefix limits entries ++ l) cells ∙ sym (append_assoc (journal_prefix limits entries) (gated_record entry) after) ∙ ap (λ (l : List ℕ). l ++ after) (sym (front_more limits entries entry));
       in_turn = turn_one_more limits entries entry s.in_turn f.is_next;
-      kept = kept_one_more entries entry s.kept f.is_kept;
+      kept = kept_one_more entries entry s.kept f.is_representable;
       stands = f.stands;
       within = f.is_within;
     })
 
-gate_place : (limits : Limits) (so_far : Progress) (entries : List Entry) (place : ℕ) → Stands so_far entries → place + 1 ≡ so_far.octets → place ≡ length (front limits entries)
+gate_place : (limits : Limits) (so_far : Progress) (entries : List Entry) (place : ℕ) → Stands so_far entries → place + 1 ≡ so_far.octets → place ≡ length (journal_prefix limits entries)
 gate_place limits so_far entries place stands is = omega (arith, stands.octets_are, front_length limits entries)
 
 pub has_gate : (limits : Limits) (octets : List ℕ) (so_far : Progress) (entries : List Entry) (rest : List ℕ) → SoFar limits octets so_far entries rest → 1 ≤ so_far.octets
@@ -63,7 +64,7 @@ closes limits octets so_far entries rest gate behind place range s is closed at 
   is = record {
     gate = gate;
     rest = behind;
-    parts = s.parts ∙ ap (λ (l : List ℕ). front limits entries ++ l) is;
+    parts = s.parts ∙ ap (λ (l : List ℕ). journal_prefix limits entries ++ l) is;
     is_closed = closed;
     legal = record { in_range = range; in_turn = s.in_turn };
     kept = s.kept;

@@ -6,18 +6,18 @@ use Rattle.base_kinds.specs.declared.entry.Entry.{Entry}
 use Rattle.base_kinds.specs.declared.entry.Limits.{Limits}
 use Rattle.base_kinds.specs.declared.entry.Kind.{Kind}
 use Rattle.base_kinds.specs.declared.entry.Kind.TheVariants as kinds
-use Rattle.base_kinds.specs.Limits.{AreInRange}
+use Rattle.base_kinds.specs.Limits.{AreInRange, latest_reading}
 use Rattle.base_kinds.specs.History.{stamp_of}
-use Rattle.base_kinds.specs.Legal.{is_fit_op, AreFitOps}
+use Rattle.base_kinds.specs.Legal.{is_fit_op, is_fit_id, AreFitOps}
 use Rattle.base_kinds.specs.Records.{record_octets}
 use Rattle.base_kinds.specs.Rules.{size_of, limited}
 use Rattle.journal_record.specs.Spelling.{ops_of, record_of}
-use Rattle.journal_record.specs.Kept.{IsKept, HasRecord, IsReadAs}
+use Rattle.journal_record.specs.Representable.{IsRepresentable, HasRecord, IsReadAs}
 use Rattle.journal_record.proofs.Lengths.{record_length}
 use Rattle.std.proofs.lemmas.List.{length-append}
 use Rattle.journal_format.specs.declared.progress.Progress.{Progress}
-use Rattle.journal_format.specs.Legal.{IsNext, is_author_of, happens, is_fit_kind, is_fit_id, is_fit_deadline, has_trial, has_room}
-use Rattle.journal_format.specs.Progress.{Stands, IsWithin, is_fit_but_for_ops, is_later, may_happen, with_entry, leaves_room, follow, IsFollowed, IsFollowedByNone}
+use Rattle.journal_format.specs.Histories.{MayFollow, is_author_of, happens, is_fit_kind, is_fit_deadline, has_trial, has_room}
+use Rattle.journal_format.specs.inner.Progress.{Stands, IsWithin, is_fit_but_for_ops, is_later, may_happen, with_entry, leaves_room, follow, IsFollowed, IsFollowedByNone}
 use Rattle.journal_format.proofs.Histories.{has_trial_more, stamp_more, size_more, length_more}
 
 -- ---- room
@@ -82,7 +82,7 @@ kind_fits_from stamp kinds.Restart fit e = refl
 kind_fits_from stamp (kinds.Extend deadline) fit e = e
 
 -- what may follow has a record
-pub next_has_record : (limits : Limits) (h : List Entry) (entry : Entry) → AreInRange limits → IsNext limits h entry → IsKept entry → HasRecord entry
+pub next_has_record : (limits : Limits) (h : List Entry) (entry : Entry) → AreInRange limits → MayFollow limits h entry → IsRepresentable entry → HasRecord entry
 next_has_record limits h entry range next kept =
     let small = size_within limits (h ++ entry ∷ []) next.room in
     record { kept = kept; fits = ops_fit entry.stamp entry.kind next.kind_fits; short = omega (arith, small, size_more h entry, range.most_octets) }
@@ -103,7 +103,7 @@ split_test false true p q e = (refl, refl, cc)
 split_test false false p q e = absurd cc
 
 pub follows_is : (limits : Limits) (so_far : Progress) (entry : Entry) (octets : ℕ) (next : Progress) (h : List Entry) → Stands so_far h → entry.number ≡ so_far.count + 1 → octets ≡ record_octets entry → AreFitOps (ops_of entry.kind)
-    → follow limits so_far entry octets ≡ Some next → IsNext limits h entry × Stands next (h ++ entry ∷ []) × IsWithin limits next
+    → follow limits so_far entry octets ≡ Some next → MayFollow limits h entry × Stands next (h ++ entry ∷ []) × IsWithin limits next
 follows_is limits so_far entry octets next h stands number is fit e =
     let made = with_entry so_far entry octets in
     let t = split_test (ltb limits.octets octets) (may_happen so_far entry && leaves_room limits made) made next e in
@@ -111,7 +111,7 @@ follows_is limits so_far entry octets next h stands number is fit e =
     let c = and_parts (is_later so_far.stamp entry && is_author_of entry.kind entry.author && happens entry.kind so_far.is_open) (is_fit_but_for_ops entry.stamp entry.kind) both.0 in
     let b = and_parts (is_later so_far.stamp entry && is_author_of entry.kind entry.author) (happens entry.kind so_far.is_open) c.0 in
     let a = and_parts (is_later so_far.stamp entry) (is_author_of entry.kind entry.author) b.0 in
-    let later = and_parts (ltb so_far.stamp entry.stamp) (leb entry.stamp (4102444800000000000 + entry.number)) a.0 in
+    let later = and_parts (ltb so_far.stamp entry.stamp) (leb entry.stamp (latest_reading + entry.number)) a.0 in
     let happened : happens entry.kind (has_trial h) ≡ true = ap (happens entry.kind) (sym stands.open_is) ∙ b.1 in
     let stands' = stands_more so_far h entry octets stands happened is in (
       record {
@@ -132,14 +132,14 @@ not_none true b p ea eb e = cc
 not_none false true p ea eb e = cc
 not_none false false p ea eb e = cc
 
-pub follows_not : (limits : Limits) (so_far : Progress) (entry : Entry) (octets : ℕ) (h : List Entry) → Stands so_far h → octets ≡ record_octets entry → follow limits so_far entry octets ≡ None → IsNext limits h entry → ⊥
+pub follows_not : (limits : Limits) (so_far : Progress) (entry : Entry) (octets : ℕ) (h : List Entry) → Stands so_far h → octets ≡ record_octets entry → follow limits so_far entry octets ≡ None → MayFollow limits h entry → ⊥
 follows_not limits so_far entry octets h stands is e next =
     let made = with_entry so_far entry octets in
     let happened : happens entry.kind so_far.is_open ≡ true = ap (happens entry.kind) stands.open_is ∙ next.can_happen in
     let stands' = stands_more so_far h entry octets stands next.can_happen is in
     let room : leaves_room limits made ≡ true = room_is limits made (h ++ entry ∷ []) stands' ∙ next.room in
     let less : ltb limits.octets octets ≡ false = le-ltb _ _ (omega (arith, size_within limits (h ++ entry ∷ []) next.room, size_more h entry, is)) in
-    let later : is_later so_far.stamp entry ≡ true = and_from (ltb so_far.stamp entry.stamp) (leb entry.stamp (4102444800000000000 + entry.number)) (lt-ltb _ _ (omega (arith, next.later, stands.stamp_is))) (le-leb _ _ next.bounded) in
+    let later : is_later so_far.stamp entry ≡ true = and_from (ltb so_far.stamp entry.stamp) (leb entry.stamp (latest_reading + entry.number)) (lt-ltb _ _ (omega (arith, next.later, stands.stamp_is))) (le-leb _ _ next.bounded) in
     let can : may_happen so_far entry ≡ true = and_from (is_later so_far.stamp entry && is_author_of entry.kind entry.author && happens entry.kind so_far.is_open) (is_fit_but_for_ops entry.stamp entry.kind)
     (and_from (is_later so_far.stamp entry && is_author_of entry.kind entry.author) (happens entry.kind so_far.is_open) (and_from (is_later so_far.stamp entry) (is_author_of entry.kind entry.author) later next.author_is) happened)
     (rest_fits entry.stamp entry.kind next.kind_fits) in
@@ -154,14 +154,14 @@ pub next_found : (limits : Limits) (so_far : Progress) (octets : List ℕ) (entr
     → follow limits so_far entry len ≡ Some next → IsFollowed limits so_far octets entry next rest
 next_found limits so_far octets entry next rest len read is e h stands =
     let t = follows_is limits so_far entry len next h stands read.numbered (took_length octets entry rest len read.parts is) read.ops_fit e in
-    record { parts = read.parts; is_kept = read.is_kept; is_next = t.0; stands = t.1; is_within = t.2 }
+    record { parts = read.parts; is_representable = read.is_representable; is_next = t.0; stands = t.1; is_within = t.2 }
 
 pub next_none : (limits : Limits) (so_far : Progress) (octets : List ℕ) (entry : Entry) (rest : List ℕ) (len : ℕ) → AreInRange limits → IsReadAs (so_far.count + 1) octets entry rest
     → ((other : Entry) (more : List ℕ) → HasRecord other → other.number ≡ so_far.count + 1 → octets ≡ record_of other ++ more → (other ≡ entry) × (more ≡ rest))
     → len ≡ length octets - length rest → follow limits so_far entry len ≡ None → IsFollowedByNone limits so_far octets
 next_none limits so_far octets entry rest len range read only is e h stands other more next kept parts =
     let same = only other more (next_has_record limits h other range next kept) (omega (arith, next.number_is, stands.count_is)) parts in
-    follows_not limits so_far entry len h stands (took_length octets entry rest len read.parts is) e (subst (λ (x : Entry). IsNext limits h x) same.0 next)
+    follows_not limits so_far entry len h stands (took_length octets entry rest len read.parts is) e (subst (λ (x : Entry). MayFollow limits h x) same.0 next)
 
 pub next_bad : (limits : Limits) (so_far : Progress) (octets : List ℕ) → AreInRange limits → ((other : Entry) (more : List ℕ) → HasRecord other → other.number ≡ so_far.count + 1 → octets ≡ record_of other ++ more → ⊥) → IsFollowedByNone limits so_far octets
 next_bad limits so_far octets range none h stands other more next kept parts =

@@ -8,16 +8,17 @@ use Rattle.base_kinds.specs.declared.entry.Entry.{Entry}
 use Rattle.base_kinds.specs.declared.entry.Limits.{Limits}
 use Rattle.base_kinds.specs.Limits.{AreInRange}
 use Rattle.journal_record.specs.Spelling.{record_of}
-use Rattle.journal_record.specs.Kept.{IsKept}
-use Rattle.journal_record.specs.Reading.{number_at}
+use Rattle.journal_record.specs.Representable.{IsRepresentable}
+use Rattle.journal_record.specs.inner.Reading.{number_at}
 use Rattle.journal_record.proofs.Forms.{some_is, wide32, numbers}
 use Rattle.journal_record.proofs.Entries.{alike}
 use Rattle.journal_format.specs.declared.journal.Journal.{Journal}
 use Rattle.journal_format.specs.declared.journal.JournalFault.{JournalFault}
 use Rattle.journal_format.specs.declared.journal.JournalFault.TheVariants as faults
-use Rattle.journal_format.specs.Legal.{IsNext, FollowInTurn, IsLegalFor}
-use Rattle.journal_format.specs.Journal.{header, gated, front, AreKept, IsJournal, HasNoHeader, IsNoGate, IsCutAt, IsDamaged}
-use Rattle.journal_format.specs.Answered.{IsReadFrom, IsCauseOf, GivesJournal, GivesDamage}
+use Rattle.journal_format.specs.Histories.{MayFollow, FollowInTurn, IsJournalHistory}
+use Rattle.journal_format.specs.Journal.{header, gated_record, journal_prefix, AreRepresentable, IsJournal, HasNoHeader, IsNoGate, IsCutAt, IsDamaged}
+use Rattle.journal_format.specs.Answers.{IsCauseOf, GivesJournal, GivesDamage}
+use Rattle.journal_format.specs.inner.Read.{IsReadFrom}
 use Rattle.journal_format.proofs.Next.{next_has_record}
 
 one_number : (n m : ℕ) (a b : List ℕ) → n < 2 ^ 32 → m < 2 ^ 32 → to_be_bytes w32 n ++ a ≡ to_be_bytes w32 m ++ b → (n ≡ m) × (a ≡ b)
@@ -39,7 +40,7 @@ one_header l m a b p q e =
 -- ---- where entries end
 
 abbrev IsEnd : Limits → List Entry → List ℕ → Type 0
-IsEnd limits h rest = (entry : Entry) (more : List ℕ) → IsNext limits h entry → IsKept entry → rest ≡ gated entry ++ more → ⊥
+IsEnd limits h rest = (entry : Entry) (more : List ℕ) → MayFollow limits h entry → IsRepresentable entry → rest ≡ gated_record entry ++ more → ⊥
 
 closed_end : (limits : Limits) (h : List Entry) (gate : ℕ) (rest : List ℕ) → gate ≢ 165 → IsEnd limits h (gate ∷ rest)
 closed_end limits h gate rest closed entry more next kept e = let same : gate ≡ 165 = cc in closed same
@@ -50,20 +51,20 @@ no_gate_end limits h (gate ∷ rest) none entry more next kept e =
     let behind : rest ≡ record_of entry ++ more = cc in
     none.1 entry more next kept behind
 
-joined : (first : Entry) (others : List Entry) (x : List ℕ) → flat_map gated (first ∷ others) ++ x ≡ 165 ∷ (record_of first ++ (flat_map gated others ++ x))
-joined first others x = append_assoc (gated first) (flat_map gated others) x
+joined : (first : Entry) (others : List Entry) (x : List ℕ) → flat_map gated_record (first ∷ others) ++ x ≡ 165 ∷ (record_of first ++ (flat_map gated_record others ++ x))
+joined first others x = append_assoc (gated_record first) (flat_map gated_record others) x
 
-one_run : (limits : Limits) (h es fs : List Entry) (x y : List ℕ) → AreInRange limits → FollowInTurn limits h es → AreKept es → FollowInTurn limits h fs → AreKept fs
-    → flat_map gated es ++ x ≡ flat_map gated fs ++ y → IsEnd limits (h ++ es) x → IsEnd limits (h ++ fs) y → (es ≡ fs) × (x ≡ y)
+one_run : (limits : Limits) (h es fs : List Entry) (x y : List ℕ) → AreInRange limits → FollowInTurn limits h es → AreRepresentable es → FollowInTurn limits h fs → AreRepresentable fs
+    → flat_map gated_record es ++ x ≡ flat_map gated_record fs ++ y → IsEnd limits (h ++ es) x → IsEnd limits (h ++ fs) y → (es ≡ fs) × (x ≡ y)
 one_run limits h [] [] x y range te ke tf kf e ends_x ends_y = (refl, e)
 one_run limits h [] (f ∷ fs) x y range te ke tf kf e ends_x ends_y =
-    absurd (ends_x f (flat_map gated fs ++ y) (subst (λ (l : List Entry). IsNext limits l f) (sym (append-nil h)) tf.0) kf.0 (e ∙ joined f fs y))
+    absurd (ends_x f (flat_map gated_record fs ++ y) (subst (λ (l : List Entry). MayFollow limits l f) (sym (append-nil h)) tf.0) kf.0 (e ∙ joined f fs y))
 one_run limits h (g ∷ es) [] x y range te ke tf kf e ends_x ends_y =
-    absurd (ends_y g (flat_map gated es ++ x) (subst (λ (l : List Entry). IsNext limits l g) (sym (append-nil h)) te.0) ke.0 (sym e ∙ joined g es x))
+    absurd (ends_y g (flat_map gated_record es ++ x) (subst (λ (l : List Entry). MayFollow limits l g) (sym (append-nil h)) te.0) ke.0 (sym e ∙ joined g es x))
 one_run limits h (g ∷ es) (f ∷ fs) x y range te ke tf kf e ends_x ends_y =
-    let cells : 165 ∷ (record_of g ++ (flat_map gated es ++ x)) ≡ 165 ∷ (record_of f ++ (flat_map gated fs ++ y)) = sym (joined g es x) ∙ e ∙ joined f fs y in
-    let records : record_of g ++ (flat_map gated es ++ x) ≡ record_of f ++ (flat_map gated fs ++ y) = ap (drop 1) cells in
-    let t = alike g f (flat_map gated es ++ x) (flat_map gated fs ++ y) (next_has_record limits h g range te.0 ke.0) (next_has_record limits h f range tf.0 kf.0) records in
+    let cells : 165 ∷ (record_of g ++ (flat_map gated_record es ++ x)) ≡ 165 ∷ (record_of f ++ (flat_map gated_record fs ++ y)) = sym (joined g es x) ∙ e ∙ joined f fs y in
+    let records : record_of g ++ (flat_map gated_record es ++ x) ≡ record_of f ++ (flat_map gated_record fs ++ y) = ap (drop 1) cells in
+    let t = alike g f (flat_map gated_record es ++ x) (flat_map gated_record fs ++ y) (next_has_record limits h g range te.0 ke.0) (next_has_record limits h f range tf.0 kf.0) records in
     let number : f.number ≡ g.number = tf.0.number_is ∙ sym te.0.number_is in
     let same : g ≡ f = ap (λ (n : ℕ). record g { number = n }) (sym number) ∙ t.0 in
     let turn : FollowInTurn limits (h ++ g ∷ []) fs = subst (λ (b : Entry). FollowInTurn limits (h ++ b ∷ []) fs) (sym same) tf.1 in
@@ -75,15 +76,15 @@ one_run limits h (g ∷ es) (f ∷ fs) x y range te ke tf kf e ends_x ends_y =
 
 -- all of a legal history, and then no more of one
 record Ends (octets : List ℕ) (limits : Limits) (h : List Entry) (rest : List ℕ) : Type 0 where
-  parts : octets ≡ front limits h ++ rest
-  legal : IsLegalFor limits h
-  kept : AreKept h
+  parts : octets ≡ journal_prefix limits h ++ rest
+  legal : IsJournalHistory limits h
+  kept : AreRepresentable h
   ends : IsEnd limits h rest
 
 one_ending : (octets : List ℕ) (l m : Limits) (h g : List Entry) (x y : List ℕ) → Ends octets l h x → Ends octets m g y → (l ≡ m) × (h ≡ g) × (x ≡ y)
 one_ending octets l m h g x y p q =
-    let whole : header l ++ (flat_map gated h ++ x) ≡ header m ++ (flat_map gated g ++ y) = sym (append_assoc (header l) (flat_map gated h) x) ∙ sym p.parts ∙ q.parts ∙ append_assoc (header m) (flat_map gated g) y in
-    let t = one_header l m (flat_map gated h ++ x) (flat_map gated g ++ y) p.legal.in_range q.legal.in_range whole in
+    let whole : header l ++ (flat_map gated_record h ++ x) ≡ header m ++ (flat_map gated_record g ++ y) = sym (append_assoc (header l) (flat_map gated_record h) x) ∙ sym p.parts ∙ q.parts ∙ append_assoc (header m) (flat_map gated_record g) y in
+    let t = one_header l m (flat_map gated_record h ++ x) (flat_map gated_record g ++ y) p.legal.in_range q.legal.in_range whole in
     let turn : FollowInTurn l [] g = subst (λ (k : Limits). FollowInTurn k [] g) (sym t.0) q.legal.in_turn in
     let ends : IsEnd l g y = subst (λ (k : Limits). IsEnd k g y) (sym t.0) q.ends in
     let u = one_run l [] h g x y p.legal.in_range p.legal.in_turn p.kept turn q.kept t.1 p.ends ends in
@@ -103,7 +104,7 @@ one_history octets l m h g p q =
     (t.0, t.1)
 
 has_header : (octets : List ℕ) (limits : Limits) (h : List Entry) (rest : List ℕ) → Ends octets limits h rest → HasNoHeader octets → ⊥
-has_header octets limits h rest p none = none limits (flat_map gated h ++ rest) p.legal.in_range (p.parts ∙ append_assoc (header limits) (flat_map gated h) rest)
+has_header octets limits h rest p none = none limits (flat_map gated_record h ++ rest) p.legal.in_range (p.parts ∙ append_assoc (header limits) (flat_map gated_record h) rest)
 
 no_cut : (octets : List ℕ) (limits : Limits) (h : List Entry) (place : ℕ) → IsJournal octets limits h → IsCutAt octets place → ⊥
 no_cut octets limits h place p c =
@@ -118,7 +119,7 @@ not_both octets limits h place p (inr cut) = no_cut octets limits h place p cut
 one_cut : (octets : List ℕ) (p q : ℕ) → IsCutAt octets p → IsCutAt octets q → p ≡ q
 one_cut octets p q c d =
     let t = one_ending octets c.limits d.limits c.before d.before c.rest d.rest (cut_ends octets p c) (cut_ends octets q d) in
-    c.place_is ∙ ap (λ (k : Limits). length (front k c.before)) t.0 ∙ ap (λ (l : List Entry). length (front d.limits l)) t.1 ∙ sym d.place_is
+    c.place_is ∙ ap (λ (k : Limits). length (journal_prefix k c.before)) t.0 ∙ ap (λ (l : List Entry). length (journal_prefix d.limits l)) t.1 ∙ sym d.place_is
 
 pub one_damage : (octets : List ℕ) (p q : ℕ) → IsDamaged octets p → IsDamaged octets q → p ≡ q
 one_damage octets p q (inl a) (inl b) = a.0 ∙ sym b.0

@@ -1,5 +1,7 @@
-pub mod Legal
+pub mod Gates
+pub mod Histories
 pub mod Journal
-pub mod Progress
-pub mod Answered
-pub mod Worked
+pub mod Answers
+pub mod inner
+pub mod laws
+pub mod worked

@@ -3,11 +3,10 @@ ghost use Rattle.std.specs.Prelude.{◌≡◌, ◌++◌, ℕ, List, MatchOption,
 ghost use Rattle.std.specs.Int.{w32};
 ghost use Rattle.base_kinds.specs.Limits.{AreInRange};
 ghost use Rattle.journal_format.specs.Journal.{header, HasNoHeader};
-ghost use Rattle.journal_record.specs.Reading.{number_at};
-ghost use Rattle.journal_format.specs.Progress.{limits_at, limits_octets, HasNoLimits};
+ghost use Rattle.journal_record.specs.inner.Reading.{number_at};
+ghost use Rattle.journal_format.specs.inner.Progress.{limits_at, limits_octets, HasNoLimits};
 
 use base_kinds::{Bytes, Limits, NoMemory};
-use std::alloc::Global;
 
 const MARK: &[u8; 8] = b"GNMIJRN1";
 
@@ -24,13 +23,14 @@ fn four_in(octets: &[u8]) -> Option<(u32, &[u8])>
 
 /// What follows the front, where the octets begin with it.
 fn after<'a>(octets: &'a [u8], front: &[u8]) -> Option<&'a [u8]>
-    ensures { MatchOption result ((rest : List ℕ) → octets.now ≡ front.now ++ rest → ⊥) (λ rest. octets.now ≡ front.now ++ rest.now) }
+    ensures { MatchOption result ((rest : List ℕ) → octets.now ≡ front.now ++ rest → ⊥)
+        (λ rest. octets.now ≡ front.now ++ rest.now) }
 {
     octets.strip_prefix(front)
 }
 
 /// The two limits behind the mark.
-#[tactic(auto, unfolding(crate::specs::Progress::limits_at))]
+#[tactic(auto, unfolding(crate::specs::inner::Progress::limits_at))]
 fn limits_in(octets: &[u8]) -> Option<(Limits, &[u8])>
     ensures { option_map (λ x. (x.0, x.1.now)) result ≡ limits_at octets.now }
 {
@@ -41,7 +41,8 @@ fn limits_in(octets: &[u8]) -> Option<(Limits, &[u8])>
 
 /// The same, where they are in range.
 fn legal_limits_in(octets: &[u8]) -> Option<(Limits, &[u8])>
-    ensures { MatchOption result (HasNoLimits octets.now) (λ x. AreInRange x.0 × (octets.now ≡ limits_octets x.0 ++ x.1.now)) }
+    ensures { MatchOption result (HasNoLimits octets.now)
+        (λ x. AreInRange x.0 × (octets.now ≡ limits_octets x.0 ++ x.1.now)) }
 {
     let (limits, rest) = limits_in(octets)?;
     if !limits.in_range() {
@@ -52,7 +53,8 @@ fn legal_limits_in(octets: &[u8]) -> Option<(Limits, &[u8])>
 
 /// The limits of the header, and what stands behind it.
 pub(crate) fn header_in(octets: &[u8]) -> Option<(Limits, &[u8])>
-    ensures { MatchOption result (HasNoHeader octets.now) (λ x. AreInRange x.0 × (octets.now ≡ header x.0 ++ x.1.now)) }
+    ensures { MatchOption result (HasNoHeader octets.now)
+        (λ x. AreInRange x.0 × (octets.now ≡ header x.0 ++ x.1.now)) }
 {
     let rest = after(octets, MARK)?;
     legal_limits_in(rest)
@@ -70,8 +72,8 @@ fn header_octets(limits: &Limits) -> [u8; 16]
     ]
 }
 
-/// Writes the header of a journal with these limits behind what is there.
-pub fn write_header(_alloc: Global, limits: &Limits, out: &mut Bytes) -> Result<(), NoMemory>
+/// Writes the header of a journal with these limits behind what is there, which are 16 octets.
+pub fn write_header(limits: &Limits, out: &mut Bytes) -> Result<(), NoMemory>
     requires { AreInRange limits.now }
     ensures ok { OnOk result (out.new ≡ out.old ++ header limits.now) }
     ensures err { OnErr result (out.new ≡ out.old) }

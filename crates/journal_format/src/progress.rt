@@ -1,10 +1,14 @@
 // Whether an entry may follow those that were read.
 ghost use Rattle.std.specs.Prelude.{◌≡◌, ◌+◌, ◌^◌, ◌<◌, ◌≤◌, []};
-ghost use Rattle.base_kinds.specs.Limits.{AreInRange};
-ghost use Rattle.journal_format.specs.Legal.{is_author_of, happens, is_fit_id, is_fit_deadline};
-ghost use Rattle.journal_format.specs.Progress.{Stands, IsWithin, opens, is_fit_but_for_ops, is_later, may_happen, with_entry, has_so_much_room, leaves_room, follow};
+ghost use Rattle.base_kinds.specs.Legal.{is_fit_id};
+ghost use Rattle.base_kinds.specs.Limits.{AreInRange, closing_octets};
+ghost use Rattle.journal_format.specs.Histories.{is_author_of, happens, is_fit_deadline};
+ghost use Rattle.journal_format.specs.inner.Progress.{Stands, IsWithin, opens, is_fit_but_for_ops, is_later, may_happen, with_entry, has_so_much_room, leaves_room, follow};
 
-use base_kinds::{Entry, Kind, Limits, Text};
+use base_kinds::{
+    CLOSING_OCTETS, EMPTY_LOG_OCTETS, Entry, GATE_OCTETS, Kind, LATEST_READING, LONGEST_DURATION,
+    Limits, MOST_ID_OCTETS, SHORTEST_DURATION, Text,
+};
 
 /// What is known of the entries that were read.
 #[derive(Clone, Copy, Debug)]
@@ -24,7 +28,7 @@ impl Progress {
             count: 0,
             stamp: 0,
             is_open: false,
-            octets: 17,
+            octets: EMPTY_LOG_OCTETS,
         }
     }
 
@@ -72,18 +76,17 @@ fn is_fit_id(id: &Text) -> bool
     ensures { result ≡ is_fit_id id.now }
 {
     let length = id.octets().len();
-    length >= 1 && length <= 64
+    length >= 1 && length <= MOST_ID_OCTETS
 }
 
 fn is_fit_deadline(stamp: u64, deadline: u64) -> bool
-    requires { stamp < 2 ^ 63 }
     ensures { result ≡ is_fit_deadline stamp deadline }
 {
-    deadline >= stamp + 1_000_000_000 && deadline <= stamp + 86_400_000_000_000
+    let duration = deadline.saturating_sub(stamp);
+    duration >= SHORTEST_DURATION && duration <= LONGEST_DURATION
 }
 
 fn is_fit_but_for_ops(stamp: u64, kind: &Kind) -> bool
-    requires { stamp < 2 ^ 63 }
     ensures { result ≡ is_fit_but_for_ops stamp kind.now }
 {
     match kind {
@@ -97,7 +100,7 @@ fn is_later(stamp: u64, entry: &Entry) -> bool
     requires { entry.now.number < 2 ^ 33 }
     ensures { result ≡ is_later stamp entry.now }
 {
-    entry.stamp > stamp && entry.stamp <= 4_102_444_800_000_000_000 + entry.number
+    entry.stamp > stamp && entry.stamp <= LATEST_READING + entry.number
 }
 
 fn may_happen(so_far: &Progress, entry: &Entry) -> bool
@@ -121,11 +124,11 @@ fn has_so_much_room(limits: &Limits, so_far: &Progress, entries: u64, octets: u6
 
 fn leaves_room(limits: &Limits, so_far: &Progress) -> bool
     requires entries_fit { so_far.now.count + 1 < 2 ^ 64 }
-    requires octets_fit { so_far.now.octets + 14 < 2 ^ 64 }
+    requires octets_fit { so_far.now.octets + closing_octets < 2 ^ 64 }
     ensures { result ≡ leaves_room limits.now so_far.now }
 {
     if so_far.is_open {
-        has_so_much_room(limits, so_far, 1, 14)
+        has_so_much_room(limits, so_far, 1, CLOSING_OCTETS)
     } else {
         has_so_much_room(limits, so_far, 0, 0)
     }
@@ -150,7 +153,7 @@ pub(crate) fn follow(
         count: so_far.count + 1,
         stamp: entry.stamp,
         is_open: opens(&entry.kind),
-        octets: so_far.octets + 1 + octets as u64,
+        octets: so_far.octets + GATE_OCTETS + octets as u64,
     };
     if may_happen(so_far, entry) && leaves_room(limits, &next) {
         Some(next)

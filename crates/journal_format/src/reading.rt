@@ -3,11 +3,12 @@ ghost use Rattle.std.specs.Prelude.{◌≡◌, ◌+◌, ◌≤◌, ◌++◌, ℕ
 ghost use Rattle.base_kinds.specs.Limits.{AreInRange};
 ghost use Rattle.base_kinds.specs.declared.entry.Entry.{Entry as LogEntry};
 ghost use Rattle.base_kinds.specs.declared.entry.Limits.{Limits as LogLimits};
-ghost use Rattle.journal_format.specs.Journal.{header, front, IsJournal, IsDamaged};
-ghost use Rattle.journal_format.specs.Answered.{IsReadFrom, IsCauseOf, GivesJournal, GivesDamage, CauseAt};
-ghost use Rattle.journal_format.specs.Progress.{IsWithin, IsFollowed, IsFollowedByNone};
+ghost use Rattle.journal_format.specs.Journal.{header, journal_prefix, IsJournal, IsDamaged};
+ghost use Rattle.journal_format.specs.Answers.{IsCauseOf, GivesJournal, GivesDamage};
+ghost use Rattle.journal_format.specs.inner.Read.{IsReadFrom, CauseAt};
+ghost use Rattle.journal_format.specs.inner.Progress.{IsWithin, IsFollowed, IsFollowedByNone};
 
-use crate::OPEN_GATE;
+use crate::gates::OPEN_GATE;
 use crate::header::header_in;
 use crate::journal::{Journal, JournalFault};
 use crate::progress::{Progress, follow};
@@ -15,7 +16,8 @@ use base_kinds::{Entry, Limits, Seq};
 use journal_record::{RecordFault, read_entry};
 use std::alloc::Global;
 
-/// The entry that stands behind an open gate, if it may follow those before it; what is known with it, and what is left.
+/// The entry that stands behind an open gate, if it may follow those before it; what is known with
+/// it, and what is left.
 fn next_in<'a>(
     alloc: Global,
     limits: &Limits,
@@ -24,8 +26,10 @@ fn next_in<'a>(
 ) -> Result<(Entry, Progress, &'a [u8]), RecordFault>
     requires in_range { AreInRange limits.now }
     requires within { IsWithin limits.now so_far.now }
-    ensures found { IfOk result (λ x. IsFollowed limits.now so_far.now octets.now x.0 x.1 x.2.now) }
-    ensures none { IsErrOf result RecordFault.NoRecord → IsFollowedByNone limits.now so_far.now octets.now }
+    ensures found { IfOk result (λ x.
+        IsFollowed limits.now so_far.now octets.now x.0 x.1 x.2.now) }
+    ensures none { IsErrOf result RecordFault.NoRecord
+        → IsFollowedByNone limits.now so_far.now octets.now }
 {
     let (entry, rest) = read_entry(alloc, so_far.count + 1, octets)?;
     let length = octets.len() - rest.len();
@@ -88,13 +92,15 @@ pub fn read_journal(alloc: Global, octets: &[u8]) -> Result<Journal, JournalFaul
     // The octets are a journal of what is read.
     ensures found { IfOk result (λ j. IsJournal octets.now j.limits j.entries) }
     // The gate is the place of its closed gate.
-    ensures gate { IfOk result (λ j. j.gate ≡ length (front j.limits j.entries)) }
+    ensures gate { IfOk result (λ j. j.gate ≡ length (journal_prefix j.limits j.entries)) }
     // A fault's place is that of the damage.
     ensures damaged { IfErr result (λ e. IsCauseOf e octets.now) }
     // Whatever they are a journal of is read, unless memory runs out.
-    ensures every_journal { (limits : LogLimits) (h : List LogEntry) → IsJournal octets.now limits h → GivesJournal limits h result }
+    ensures every_journal { (limits : LogLimits) (h : List LogEntry)
+        → IsJournal octets.now limits h → GivesJournal limits h result }
     // And wherever they are damaged, that place is told.
-    ensures every_damage { (place : ℕ) → IsDamaged octets.now place → GivesDamage place result }
+    ensures every_damage { (place : ℕ) → IsDamaged octets.now place
+        → GivesDamage place result }
 {
     read(alloc, octets)
 }

@@ -6,8 +6,8 @@ use Rattle.base_kinds.specs.declared.entry.Entry.{Entry}
 use Rattle.journal_record.specs.declared.fault.RecordFault.{RecordFault}
 use Rattle.journal_record.specs.declared.fault.RecordFault.TheVariants as faults
 use Rattle.journal_record.specs.Spelling.{record_of}
-use Rattle.journal_record.specs.Kept.{HasRecord, IsReadAs}
-use Rattle.journal_record.specs.Reading.{Gives, entry_at}
+use Rattle.journal_record.specs.Representable.{HasRecord, IsReadAs}
+use Rattle.journal_record.specs.inner.Reading.{Gives, entry_at}
 use Rattle.journal_record.proofs.Forms.{IsBytes}
 use Rattle.journal_record.proofs.Entries.{entry_took, one_entry, no_entry}
 
@@ -17,7 +17,7 @@ Given number octets r = Gives (λ x. (x.0, x.1.now)) r (entry_at number octets)
 pub is_found : (number : ℕ) (octets : List ℕ) (r : Result (Entry × Bor (List ℕ)) RecordFault) → IsBytes octets → Given number octets r → IfOk r (λ x. IsReadAs number octets x.0 x.1.now)
 is_found number octets (Ok x) bytes given =
     let t = entry_took number octets x.0 x.1.now bytes given in
-    record { parts = t.parts; numbered = t.is.number_is; is_kept = t.is.kept; ops_fit = t.is.fits }
+    record { parts = t.parts; numbered = t.is.number_is; is_representable = t.is.kept; ops_fit = t.is.fits }
 is_found number octets (Err e) bytes given = tt
 
 pub is_only : (number : ℕ) (octets : List ℕ) (r : Result (Entry × Bor (List ℕ)) RecordFault) → Given number octets r

@@ -3,13 +3,13 @@ use Rattle.std.proofs.Common.{◌≡◌, ℕ, List, [], ◌++◌, Option, Some, 
 use Rattle.std.proofs.lemmas.List.{append-nil}
 use Rattle.base_kinds.specs.declared.entry.Entry.{Entry}
 use Rattle.journal_record.specs.Spelling.{record_of}
-use Rattle.journal_record.specs.Kept.{HasRecord}
-use Rattle.journal_record.specs.Reading.{entry_at}
+use Rattle.journal_record.specs.Representable.{HasRecord}
+use Rattle.journal_record.specs.inner.Reading.{entry_at}
 use Rattle.journal_record.proofs.Forms.{IsBytes, Took, some_is}
-use Rattle.journal_record.proofs.Records.{IsFitKept, entry_form}
+use Rattle.journal_record.proofs.Records.{IsFitRepresentable, entry_form}
 use Rattle.journal_record.proofs.Lengths.{record_length}
 
-pub entry_took : (number : ℕ) (octets : List ℕ) (entry : Entry) (rest : List ℕ) → IsBytes octets → entry_at number octets ≡ Some (entry, rest) → Took record_of (λ e. IsFitKept number e) octets entry rest
+pub entry_took : (number : ℕ) (octets : List ℕ) (entry : Entry) (rest : List ℕ) → IsBytes octets → entry_at number octets ≡ Some (entry, rest) → Took record_of (λ e. IsFitRepresentable number e) octets entry rest
 entry_took number octets entry rest bytes e = (entry_form number).takes octets entry rest bytes e
 
 pub entry_again : (number : ℕ) (octets : List ℕ) (entry : Entry) (rest : List ℕ) → HasRecord entry → entry.number ≡ number → octets ≡ record_of entry ++ rest → entry_at number octets ≡ Some (entry, rest)

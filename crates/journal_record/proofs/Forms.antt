@@ -7,7 +7,8 @@ use Rattle.std.proofs.lemmas.List.{take_at, drop_at, take-append-drop, length-ap
 use Rattle.std.proofs.lemmas.Bool.{cases_lt}
 use Rattle.std.proofs.lemmas.Nat.{be_bytes_2, be_bytes_4, be_bytes_8, from_be_bytes-to_be_bytes_2, from_be_bytes-to_be_bytes_4, from_be_bytes-to_be_bytes_8}
 use Rattle.std.proofs.Common.{inl, inr}
-use Rattle.journal_record.specs.Reading.{◌>>=◌, number_at, many_at, listed_at}
+use Rattle.base_lists.specs.Options.{◌>>=◌}
+use Rattle.journal_record.specs.inner.Reading.{number_at, many_at, listed_at}
 
 abbrev pub IsBytes : List ℕ → Type 0
 IsBytes octets = (i : ℕ) → get_or octets i 0 < 256

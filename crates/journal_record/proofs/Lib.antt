@@ -1,6 +1,5 @@
 pub mod Texts
 pub mod Loops
-pub mod Rises
 pub mod Forms
 pub mod Parts
 pub mod Records

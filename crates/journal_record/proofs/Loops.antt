@@ -3,7 +3,8 @@ use Rattle.std.proofs.Common.{◌≡◌, ℕ, suc, ◌-◌, ◌+◌, ◌≤◌, 
 use Rattle.std.proofs.lemmas.List.{append-nil}
 use Rattle.journal_record.specs.declared.fault.RecordFault.{RecordFault}
 use Rattle.journal_record.specs.declared.fault.RecordFault.TheVariants as faults
-use Rattle.journal_record.specs.Reading.{◌>>=◌, Fails, many_at}
+use Rattle.base_lists.specs.Options.{◌>>=◌}
+use Rattle.journal_record.specs.inner.Reading.{Fails, many_at}
 
 -- what was read before, and what is still read
 abbrev pub with_front : {A : Type 0} → List A → Option (List A × List ℕ) → Option (List A × List ℕ)

@@ -17,8 +17,9 @@ use Rattle.base_kinds.specs.Paths.{text_cmp}
 use Rattle.base_kinds.specs.Legal.{is_fit_elem, is_fit_path, is_fit_scalar}
 use Rattle.base_lists.specs.Rising.{rises}
 use Rattle.journal_record.specs.Spelling.{text_spelling, key_spelling, keys_spelling, elem_spelling, path_spelling, value_spelling, bool_octet}
-use Rattle.journal_record.specs.Kept.{IsKeptText, AreOctets, IsKeptKey, IsKeptElem, IsKeptPath, IsKeptValue}
-use Rattle.journal_record.specs.Reading.{◌>>=◌, number_at, octets_at, text_at, many_at, listed_at, key_at, keys_at, elem_at, path_at, bool_at, places_at, dec_at, int_at, uint_at, text_value_at, bin_at, enum_at, scalar_at, item_at, value_at}
+use Rattle.journal_record.specs.Representable.{IsRepresentableText, AreOctets, IsRepresentableKey, IsRepresentableElem, IsRepresentablePath, IsRepresentableValue}
+use Rattle.base_lists.specs.Options.{◌>>=◌}
+use Rattle.journal_record.specs.inner.Reading.{number_at, octets_at, text_at, many_at, listed_at, key_at, keys_at, elem_at, path_at, bool_at, places_at, dec_at, int_at, uint_at, text_value_at, bin_at, enum_at, scalar_at, item_at, value_at}
 use Rattle.journal_record.proofs.Forms.{IsBytes, IsBytes-rest, bind_some, some_is, passed, failed_not, Took, Reads, turned, said_so, guarded, sequence, wide16, wide32, wide64, numbers, counted}
 
 -- what holds of each, and a test that each passes
@@ -81,47 +82,47 @@ octet_form = record {
   again = λ x rest is short. octets_again x rest short;
 }
 
-pub text_form : Reads text_spelling IsKeptText text_at
+pub text_form : Reads text_spelling IsRepresentableText text_at
 unfolding text_at
-text_form = said_so text_spelling (λ t. Unit {0} × (is_utf8 t ≡ true)) IsKeptText (λ octets. octets_at octets >>= λ t. cond (is_utf8 t.0) (Some t) None)
+text_form = said_so text_spelling (λ t. Unit {0} × (is_utf8 t ≡ true)) IsRepresentableText (λ octets. octets_at octets >>= λ t. cond (is_utf8 t.0) (Some t) None)
     (λ x is. IsUtf8-from_is_utf8 x is.1) (λ x is. (tt, is_utf8-from_IsUtf8 x is)) (guarded text_spelling (λ t. Unit {0}) octets_at is_utf8 any_octets)
 
 -- ---- paths
 
-pub key_form : Reads key_spelling IsKeptKey key_at
+pub key_form : Reads key_spelling IsRepresentableKey key_at
 unfolding key_at key_spelling
-key_form = sequence text_spelling IsKeptText text_at text_spelling IsKeptText text_at (λ a b. (a, b)) (λ k. k.0) (λ k. k.1) IsKeptKey
+key_form = sequence text_spelling IsRepresentableText text_at text_spelling IsRepresentableText text_at (λ a b. (a, b)) (λ k. k.0) (λ k. k.1) IsRepresentableKey
     (λ c. refl) (λ a b. refl) (λ a b. refl) (λ c is. (is.name, is.value)) (λ a b p q. record { name = p; value = q }) text_form text_form
 
 abbrev names_rise : List (List ℕ × List ℕ) → Bool
 names_rise keys = rises (λ a b. text_cmp a.0 b.0) keys
 
 abbrev AreFitKeys : List (List ℕ × List ℕ) → Type 0
-AreFitKeys keys = ((length keys < 2 ^ 16) × AllByRecursion IsKeptKey keys) × (names_rise keys ≡ true)
+AreFitKeys keys = ((length keys < 2 ^ 16) × AllByRecursion IsRepresentableKey keys) × (names_rise keys ≡ true)
 
 keys_form : Reads keys_spelling AreFitKeys keys_at
 unfolding keys_at keys_spelling
-keys_form = guarded (λ xs. to_be_bytes w16 (length xs) ++ flat_map key_spelling xs) (λ xs. (length xs < 2 ^ 16) × AllByRecursion IsKeptKey xs) (listed_at w16 key_at) names_rise
-    (counted w16 (2 ^ 16) wide16 key_spelling IsKeptKey key_at key_form)
+keys_form = guarded (λ xs. to_be_bytes w16 (length xs) ++ flat_map key_spelling xs) (λ xs. (length xs < 2 ^ 16) × AllByRecursion IsRepresentableKey xs) (listed_at w16 key_at) names_rise
+    (counted w16 (2 ^ 16) wide16 key_spelling IsRepresentableKey key_at key_form)
 
-abbrev pub IsFitKeptElem : Elem → Type 0
-IsFitKeptElem elem = IsKeptElem elem × (is_fit_elem elem ≡ true)
+abbrev pub IsFitRepresentableElem : Elem → Type 0
+IsFitRepresentableElem elem = IsRepresentableElem elem × (is_fit_elem elem ≡ true)
 
-pub elem_form : Reads elem_spelling IsFitKeptElem elem_at
+pub elem_form : Reads elem_spelling IsFitRepresentableElem elem_at
 unfolding elem_at elem_spelling
-elem_form = sequence text_spelling IsKeptText text_at keys_spelling AreFitKeys keys_at (λ a b. record { name = a; keys = b }) (λ e. e.name) (λ e. e.keys) IsFitKeptElem
+elem_form = sequence text_spelling IsRepresentableText text_at keys_spelling AreFitKeys keys_at (λ a b. record { name = a; keys = b }) (λ e. e.name) (λ e. e.keys) IsFitRepresentableElem
     (λ c. refl) (λ a b. refl) (λ a b. refl)
     (λ c is. let t = and_parts (leb (length c.keys) 65535) (names_rise c.keys) is.1 in (is.0.name, ((omega (arith, leb-true _ _ t.0), is.0.keys), t.1)))
     (λ a b p q. (record { name = p; keys = q.0.1 }, and_from (leb (length b) 65535) (names_rise b) (le-leb _ _ (omega (arith, q.0.0))) q.1)) text_form keys_form
 
-abbrev pub IsFitKeptPath : List Elem → Type 0
-IsFitKeptPath path = IsKeptPath path × (is_fit_path path ≡ true)
+abbrev pub IsFitRepresentablePath : List Elem → Type 0
+IsFitRepresentablePath path = IsRepresentablePath path × (is_fit_path path ≡ true)
 
-elems_form : Reads path_spelling (λ xs. (length xs < 2 ^ 16) × AllByRecursion IsFitKeptElem xs) (listed_at w16 elem_at)
+elems_form : Reads path_spelling (λ xs. (length xs < 2 ^ 16) × AllByRecursion IsFitRepresentableElem xs) (listed_at w16 elem_at)
 unfolding path_spelling
-elems_form = counted w16 (2 ^ 16) wide16 elem_spelling IsFitKeptElem elem_at elem_form
+elems_form = counted w16 (2 ^ 16) wide16 elem_spelling IsFitRepresentableElem elem_at elem_form
 
-path_takes : (octets : List ℕ) (path : List Elem) (rest : List ℕ) → IsBytes octets → path_at octets ≡ Some (path, rest) → Took path_spelling IsFitKeptPath octets path rest
+path_takes : (octets : List ℕ) (path : List Elem) (rest : List ℕ) → IsBytes octets → path_at octets ≡ Some (path, rest) → Took path_spelling IsFitRepresentablePath octets path rest
 unfolding path_at
 path_takes octets path rest bytes e =
     let b = bind_some (number_at w16 octets) (λ n. cond (leb n.0 32) (many_at elem_at n.0 n.1) None) (path, rest) e in
@@ -129,7 +130,7 @@ path_takes octets path rest bytes e =
     let read : listed_at w16 elem_at octets ≡ Some (path, rest) = ap (λ (o : Option (ℕ × List ℕ)). o >>= λ n. many_at elem_at n.0 n.1) b.1 ∙ g.1 in
     let t = elems_form.takes octets path rest bytes read in
     let few : length path ≤ 32 = path_count octets b.0.0 b.0.1 path rest bytes b.1 (leb-true _ _ g.0) g.1 in
-    record { parts = t.parts; is = (each_of IsKeptElem is_fit_elem path t.is.1, and_from (leb (length path) 32) (list_all is_fit_elem path) (le-leb _ _ few) (pass_of IsKeptElem is_fit_elem path t.is.1)) }
+    record { parts = t.parts; is = (each_of IsRepresentableElem is_fit_elem path t.is.1, and_from (leb (length path) 32) (list_all is_fit_elem path) (le-leb _ _ few) (pass_of IsRepresentableElem is_fit_elem path t.is.1)) }
   where
     many_count : (n : ℕ) (octets : List ℕ) (path : List Elem) (rest : List ℕ) → many_at elem_at n octets ≡ Some (path, rest) → length path ≡ n
     many_count zero octets path rest e = sym (ap (λ (p : List Elem × List ℕ). length p.0) (some_is ([], octets) (path, rest) e))
@@ -141,21 +142,21 @@ path_takes octets path rest bytes e =
     path_count : (octets : List ℕ) (n : ℕ) (after : List ℕ) (path : List Elem) (rest : List ℕ) → IsBytes octets → number_at w16 octets ≡ Some (n, after) → n ≤ 32 → many_at elem_at n after ≡ Some (path, rest) → length path ≤ 32
     path_count octets n after path rest bytes e le many = let same : length path ≡ n = many_count n after path rest many in omega arith
 
-path_again : (path : List Elem) (rest : List ℕ) → IsFitKeptPath path → length (path_spelling path) < 2 ^ 32 → path_at (path_spelling path ++ rest) ≡ Some (path, rest)
+path_again : (path : List Elem) (rest : List ℕ) → IsFitRepresentablePath path → length (path_spelling path) < 2 ^ 32 → path_at (path_spelling path ++ rest) ≡ Some (path, rest)
 unfolding path_at path_spelling
 path_again path rest is short =
     let t = and_parts (leb (length path) 32) (list_all is_fit_elem path) is.1 in
     let few : length path < 2 ^ 16 = omega (arith, leb-true _ _ t.0) in
     let numbered = (numbers w16 (2 ^ 16) wide16).again (length path) (flat_map elem_spelling path ++ rest) few (omega arith) in
     let regrouped = append_assoc (to_be_bytes w16 (length path)) (flat_map elem_spelling path) rest in
-    let all : listed_at w16 elem_at (path_spelling path ++ rest) ≡ Some (path, rest) = elems_form.again path rest (few, both_of IsKeptElem is_fit_elem path is.0 t.1) short in
+    let all : listed_at w16 elem_at (path_spelling path ++ rest) ≡ Some (path, rest) = elems_form.again path rest (few, both_of IsRepresentableElem is_fit_elem path is.0 t.1) short in
     let many : many_at elem_at (length path) (flat_map elem_spelling path ++ rest) ≡ Some (path, rest) =
     sym (ap (λ (o : Option (ℕ × List ℕ)). o >>= λ n. many_at elem_at n.0 n.1) (ap (number_at w16) regrouped ∙ numbered)) ∙ all in
     ap (λ (o : Option (ℕ × List ℕ)). o >>= λ n. cond (leb n.0 32) (many_at elem_at n.0 n.1) None) (ap (number_at w16) regrouped ∙ numbered)
     ∙ ap (λ (b : Bool). cond b (many_at elem_at (length path) (flat_map elem_spelling path ++ rest)) None) t.0
     ∙ many
 
-pub path_form : Reads path_spelling IsFitKeptPath path_at
+pub path_form : Reads path_spelling IsFitRepresentablePath path_at
 path_form = record { takes = λ octets x rest bytes e. path_takes octets x rest bytes e; again = λ x rest is short. path_again x rest is short }
 
 -- ---- values
@@ -178,17 +179,17 @@ pub chosen : {A : Type 0} (b : Bool) (x y z : A) → cond b x y ≡ z → ((b �
 chosen true x y z e = inl (refl, e)
 chosen false x y z e = inr (refl, e)
 
-abbrev pub IsFitKeptScalar : Value → Type 0
-IsFitKeptScalar value = IsKeptValue value × (is_fit_scalar value ≡ true)
+abbrev pub IsFitRepresentableScalar : Value → Type 0
+IsFitRepresentableScalar value = IsRepresentableValue value × (is_fit_scalar value ≡ true)
 
-bool_takes : (octets : List ℕ) (x : Value) (rest : List ℕ) → bool_at octets ≡ Some (x, rest) → Took value_spelling IsFitKeptScalar (1 ∷ octets) x rest
+bool_takes : (octets : List ℕ) (x : Value) (rest : List ℕ) → bool_at octets ≡ Some (x, rest) → Took value_spelling IsFitRepresentableScalar (1 ∷ octets) x rest
 bool_takes [] x rest e = absurd cc
 bool_takes (octet ∷ octets) x rest e =
     elim (chosen (eqb octet 0) (Some (values.Bool false, octets)) (cond (eqb octet 1) (Some (values.Bool true, octets)) None) (Some (x, rest)) e) [
-      | inl c ↦ turned value_spelling IsFitKeptScalar (1 ∷ octet ∷ octets) (values.Bool false) x octets rest c.1 (record { parts = ap (λ (k : ℕ). 1 ∷ k ∷ octets) (eqb-true octet 0 c.0); is = (tt, refl) })
+      | inl c ↦ turned value_spelling IsFitRepresentableScalar (1 ∷ octet ∷ octets) (values.Bool false) x octets rest c.1 (record { parts = ap (λ (k : ℕ). 1 ∷ k ∷ octets) (eqb-true octet 0 c.0); is = (tt, refl) })
       | inr d ↦
           let g = passed (eqb octet 1) (Some (values.Bool true, octets)) (x, rest) d.1 in
-          turned value_spelling IsFitKeptScalar (1 ∷ octet ∷ octets) (values.Bool true) x octets rest g.1 (record { parts = ap (λ (k : ℕ). 1 ∷ k ∷ octets) (eqb-true octet 1 g.0); is = (tt, refl) })
+          turned value_spelling IsFitRepresentableScalar (1 ∷ octet ∷ octets) (values.Bool true) x octets rest g.1 (record { parts = ap (λ (k : ℕ). 1 ∷ k ∷ octets) (eqb-true octet 1 g.0); is = (tt, refl) })
     ]
 
 places_take : (octets : List ℕ) (places : ℕ) (rest : List ℕ) → places_at octets ≡ Some (places, rest) → Took (λ n. n ∷ []) (λ n. (leb 1 n && leb n 18) ≡ true) octets places rest
@@ -200,7 +201,7 @@ places_take (octet ∷ octets) places rest e =
 signed_fits : (n : ℕ) → n < 2 ^ 64 → FitsSigned w64 (cast_signed w64 n)
 signed_fits n lt = sfits_to_z (Fits-of_lt {w = w64} lt)
 
-dec_takes : (octets : List ℕ) (x : Value) (rest : List ℕ) → IsBytes octets → dec_at octets ≡ Some (x, rest) → Took value_spelling IsFitKeptScalar (4 ∷ octets) x rest
+dec_takes : (octets : List ℕ) (x : Value) (rest : List ℕ) → IsBytes octets → dec_at octets ≡ Some (x, rest) → Took value_spelling IsFitRepresentableScalar (4 ∷ octets) x rest
 unfolding dec_at
 dec_takes octets x rest bytes e =
     let d = bind_some (number_at w64 octets) (λ digits. places_at digits.1 >>= λ places. Some (values.Dec (cast_signed w64 digits.0) places.0, places.1)) (x, rest) e in
@@ -209,31 +210,31 @@ dec_takes octets x rest bytes e =
     let u = places_take d.0.1 p.0.0 p.0.1 p.1 in
     let few = and_parts (leb 1 p.0.0) (leb p.0.0 18) u.is in
     let small : p.0.0 < 2 ^ 8 = omega (arith, leb-true _ _ few.1) in
-    turned value_spelling IsFitKeptScalar (4 ∷ octets) (values.Dec (cast_signed w64 d.0.0) p.0.0) x p.0.1 rest p.2
+    turned value_spelling IsFitRepresentableScalar (4 ∷ octets) (values.Dec (cast_signed w64 d.0.0) p.0.0) x p.0.1 rest p.2
     (record {
       parts = ap (λ (l : List ℕ). 4 ∷ l) (t.parts ∙ ap (λ (l : List ℕ). to_be_bytes w64 d.0.0 ++ l) u.parts ∙ sym (append_assoc (to_be_bytes w64 d.0.0) (p.0.0 ∷ []) p.0.1)
           ∙ ap (λ (n : ℕ). (to_be_bytes w64 n ++ p.0.0 ∷ []) ++ p.0.1) (sym (of_z-to_z w64 d.0.0 t.is)));
       is = ((signed_fits d.0.0 t.is, small), u.is);
     })
 
-pub scalar_takes : (tag : ℕ) (octets : List ℕ) (x : Value) (rest : List ℕ) → IsBytes octets → scalar_at tag octets ≡ Some (x, rest) → Took value_spelling IsFitKeptScalar (tag ∷ octets) x rest
+pub scalar_takes : (tag : ℕ) (octets : List ℕ) (x : Value) (rest : List ℕ) → IsBytes octets → scalar_at tag octets ≡ Some (x, rest) → Took value_spelling IsFitRepresentableScalar (tag ∷ octets) x rest
 unfolding scalar_at
 scalar_takes tag octets x rest bytes e =
     elim (chosen (eqb tag 1) (bool_at octets) (not_1 tag octets) (Some (x, rest)) e) [
       | inl c ↦ at tag 1 c.0 (bool_takes octets x rest c.1)
       | inr d ↦ elim (chosen (eqb tag 2) (int_at octets) (not_2 tag octets) (Some (x, rest)) d.1) [
-        | inl c ↦ at tag 2 c.0 (tagged 2 (to_be_bytes w64) (λ n. n < 2 ^ 64) (number_at w64) (λ n. values.Int (cast_signed w64 n)) value_spelling IsFitKeptScalar (λ n lt. ap (λ (k : ℕ). 2 ∷ to_be_bytes w64 k) (of_z-to_z w64 n lt)) (λ n lt. (signed_fits n lt, refl)) (numbers w64 (2 ^ 64) wide64) octets x rest bytes c.1)
+        | inl c ↦ at tag 2 c.0 (tagged 2 (to_be_bytes w64) (λ n. n < 2 ^ 64) (number_at w64) (λ n. values.Int (cast_signed w64 n)) value_spelling IsFitRepresentableScalar (λ n lt. ap (λ (k : ℕ). 2 ∷ to_be_bytes w64 k) (of_z-to_z w64 n lt)) (λ n lt. (signed_fits n lt, refl)) (numbers w64 (2 ^ 64) wide64) octets x rest bytes c.1)
         | inr d ↦ elim (chosen (eqb tag 3) (uint_at octets) (not_3 tag octets) (Some (x, rest)) d.1) [
-          | inl c ↦ at tag 3 c.0 (tagged 3 (to_be_bytes w64) (λ n. n < 2 ^ 64) (number_at w64) values.Uint value_spelling IsFitKeptScalar (λ n lt. refl) (λ n lt. (lt, refl)) (numbers w64 (2 ^ 64) wide64) octets x rest bytes c.1)
+          | inl c ↦ at tag 3 c.0 (tagged 3 (to_be_bytes w64) (λ n. n < 2 ^ 64) (number_at w64) values.Uint value_spelling IsFitRepresentableScalar (λ n lt. refl) (λ n lt. (lt, refl)) (numbers w64 (2 ^ 64) wide64) octets x rest bytes c.1)
           | inr d ↦ elim (chosen (eqb tag 4) (dec_at octets) (not_4 tag octets) (Some (x, rest)) d.1) [
             | inl c ↦ at tag 4 c.0 (dec_takes octets x rest bytes c.1)
             | inr d ↦ elim (chosen (eqb tag 5) (text_value_at octets) (not_5 tag octets) (Some (x, rest)) d.1) [
-              | inl c ↦ at tag 5 c.0 (tagged 5 text_spelling IsKeptText text_at values.Text value_spelling IsFitKeptScalar (λ t is. refl) (λ t is. (is, refl)) text_form octets x rest bytes c.1)
+              | inl c ↦ at tag 5 c.0 (tagged 5 text_spelling IsRepresentableText text_at values.Text value_spelling IsFitRepresentableScalar (λ t is. refl) (λ t is. (is, refl)) text_form octets x rest bytes c.1)
               | inr d ↦ elim (chosen (eqb tag 6) (bin_at octets) (not_6 tag octets) (Some (x, rest)) d.1) [
-                | inl c ↦ at tag 6 c.0 (tagged 6 text_spelling AreOctets octets_at values.Bin value_spelling IsFitKeptScalar (λ t is. refl) (λ t is. (is, refl)) octet_form octets x rest bytes c.1)
+                | inl c ↦ at tag 6 c.0 (tagged 6 text_spelling AreOctets octets_at values.Bin value_spelling IsFitRepresentableScalar (λ t is. refl) (λ t is. (is, refl)) octet_form octets x rest bytes c.1)
                 | inr d ↦
                     let c = passed (eqb tag 7) (enum_at octets) (x, rest) d.1 in
-                    at tag 7 c.0 (tagged 7 text_spelling IsKeptText text_at values.Enum value_spelling IsFitKeptScalar (λ t is. refl) (λ t is. (is, refl)) text_form octets x rest bytes c.1)
+                    at tag 7 c.0 (tagged 7 text_spelling IsRepresentableText text_at values.Enum value_spelling IsFitRepresentableScalar (λ t is. refl) (λ t is. (is, refl)) text_form octets x rest bytes c.1)
               ]
             ]
           ]
@@ -241,8 +242,8 @@ scalar_takes tag octets x rest bytes e =
       ]
     ]
   where
-    at : (tag k : ℕ) → eqb tag k ≡ true → Took value_spelling IsFitKeptScalar (k ∷ octets) x rest → Took value_spelling IsFitKeptScalar (tag ∷ octets) x rest
-    at tag k e t = subst (λ (n : ℕ). Took value_spelling IsFitKeptScalar (n ∷ octets) x rest) (sym (eqb-true tag k e)) t
+    at : (tag k : ℕ) → eqb tag k ≡ true → Took value_spelling IsFitRepresentableScalar (k ∷ octets) x rest → Took value_spelling IsFitRepresentableScalar (tag ∷ octets) x rest
+    at tag k e t = subst (λ (n : ℕ). Took value_spelling IsFitRepresentableScalar (n ∷ octets) x rest) (sym (eqb-true tag k e)) t
 
     not_6 : ℕ → List ℕ → Option (Value × List ℕ)
     not_6 tag octets = cond (eqb tag 7) (enum_at octets) None
@@ -275,7 +276,7 @@ unfolding dec_at
 dec_again digits places rest fits few =
     rw ((numbers w64 (2 ^ 64) wide64).again (cast_unsigned w64 digits) (places ∷ rest) (Fits-lt-pow (Fits-of_z fits)) (omega arith), few, to_z-of_z w64 digits fits) refl
 
-pub scalar_again : (x : Value) (rest : List ℕ) → IsFitKeptScalar x → length (value_spelling x) < 2 ^ 32 → Again x rest
+pub scalar_again : (x : Value) (rest : List ℕ) → IsFitRepresentableScalar x → length (value_spelling x) < 2 ^ 32 → Again x rest
 unfolding item_at value_at scalar_at
 scalar_again (v.Bool b) rest is short = (bool_again b rest, bool_again b rest)
 scalar_again (v.Int n) rest is short =
@@ -304,10 +305,10 @@ scalar_again (v.Enum t) rest is short =
     (same, same)
 scalar_again (v.List' n inner) rest is short = absurd (let no = is.1 in cc)
 
-item_takes : (octets : List ℕ) (x : Value) (rest : List ℕ) → IsBytes octets → item_at octets ≡ Some (x, rest) → Took value_spelling IsFitKeptScalar octets x rest
+item_takes : (octets : List ℕ) (x : Value) (rest : List ℕ) → IsBytes octets → item_at octets ≡ Some (x, rest) → Took value_spelling IsFitRepresentableScalar octets x rest
 unfolding item_at
 item_takes [] x rest bytes e = absurd cc
 item_takes (tag ∷ octets) x rest bytes e = scalar_takes tag octets x rest (λ i. bytes (suc i)) e
 
-pub item_form : Reads value_spelling IsFitKeptScalar item_at
+pub item_form : Reads value_spelling IsFitRepresentableScalar item_at
 item_form = record { takes = λ octets x rest bytes e. item_takes octets x rest bytes e; again = λ x rest is short. (scalar_again x rest is short).0 }

@@ -1,4 +1,4 @@
 pub mod Spelling
-pub mod Kept
-pub mod Reading
-pub mod Worked
+pub mod Representable
+pub mod inner
+pub mod worked

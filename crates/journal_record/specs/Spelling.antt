@@ -1,5 +1,6 @@
--- The octets of an entry of the commit log in its journal. The format is this project's own. Numbers have their highest octet
--- first; what tells a variant has one octet, a count or a length stands in front of what it counts.
+-- The octets of an entry of the commit log in its journal. The format is this project's own.
+-- Numbers have their highest octet first; what tells a variant has one octet, a count or a length
+-- stands in front of what it counts.
 use Rattle.std.specs.Prelude.{ℕ, List, [], ◌∷◌, ◌++◌, Bool, true, false, length}
 use Rattle.std.specs.List.{flat_map}
 use Rattle.std.specs.Int.{w16, w32, w64, to_be_bytes, cast_unsigned}
@@ -39,18 +40,20 @@ abbrev pub bool_octet : Bool → ℕ
 bool_octet true = 1
 bool_octet false = 0
 
--- A tag, and then the value. Signed numbers are in two's complement; a decimal has its digits and how many of them stand
--- behind the point; a list has four octets of count, and its values.
+-- A tag, and then the value. Signed numbers are in two's complement; a decimal has its digits and
+-- how many of them stand behind the point; a list has four octets of count, and its values.
 abbrev mutual
   pub value_spelling : Value → List ℕ
   value_spelling (v.Bool b) = 1 ∷ bool_octet b ∷ []
   value_spelling (v.Int number) = 2 ∷ to_be_bytes w64 (cast_unsigned w64 number)
   value_spelling (v.Uint number) = 3 ∷ to_be_bytes w64 number
-  value_spelling (v.Dec digits places) = 4 ∷ (to_be_bytes w64 (cast_unsigned w64 digits) ++ places ∷ [])
+  value_spelling (v.Dec digits places) =
+      4 ∷ (to_be_bytes w64 (cast_unsigned w64 digits) ++ places ∷ [])
   value_spelling (v.Text octets) = 5 ∷ text_spelling octets
   value_spelling (v.Bin octets) = 6 ∷ text_spelling octets
   value_spelling (v.Enum octets) = 7 ∷ text_spelling octets
-  value_spelling (v.List' n inner) = 8 ∷ (to_be_bytes w32 (length (row_values inner)) ++ inner_values inner)
+  value_spelling (v.List' n inner) =
+      8 ∷ (to_be_bytes w32 (length (row_values inner)) ++ inner_values inner)
 
   pub inner_values : {n : _} → Row_of-Value n → List ℕ
   inner_values end_of-Value = []
@@ -79,16 +82,19 @@ ops_spelling os = to_be_bytes w32 (length os) ++ flat_map op_spelling os
 -- the kind's number, and what it has: operations, a trial's id, and a deadline in eight octets
 unfoldable pub kind_spelling : Kind → List ℕ
 kind_spelling (kinds.Apply os) = 1 ∷ ops_spelling os
-kind_spelling (kinds.Trial id os deadline) = 2 ∷ (text_spelling id ++ (to_be_bytes w64 deadline ++ ops_spelling os))
+kind_spelling (kinds.Trial id os deadline) =
+    2 ∷ (text_spelling id ++ (to_be_bytes w64 deadline ++ ops_spelling os))
 kind_spelling kinds.Confirm = 3 ∷ []
 kind_spelling kinds.Cancel = 4 ∷ []
 kind_spelling kinds.Expire = 5 ∷ []
 kind_spelling kinds.Restart = 6 ∷ []
 kind_spelling (kinds.Extend deadline) = 7 ∷ to_be_bytes w64 deadline
 
--- The record of an entry: four octets of author, eight of stamp, and the kind. Its number isn't there: it is that of its place.
+-- The record of an entry: four octets of author, eight of stamp, and the kind. Its number isn't
+-- there: it is that of its place.
 unfoldable pub record_of : Entry → List ℕ
-record_of entry = to_be_bytes w32 entry.author ++ (to_be_bytes w64 entry.stamp ++ kind_spelling entry.kind)
+record_of entry =
+    to_be_bytes w32 entry.author ++ (to_be_bytes w64 entry.stamp ++ kind_spelling entry.kind)
 
 -- the operations that a kind has
 abbrev pub ops_of : Kind → List Op

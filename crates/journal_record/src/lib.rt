@@ -1,4 +1,8 @@
 //! The record of an entry of the commit log: read exactly, and written in its one spelling.
+//!
+//! Start at `record_of` (specs/Spelling.antt), which is the format, and at `read_entry`
+//! (reading.rt) and `put_entry` (writing.rt). specs/Representable.antt says which entries the types
+//! can hold; specs/worked has records worked out by hand. journal_format makes journals of records.
 #![tactic(auto)]
 
 mod fault;
@@ -8,8 +12,6 @@ mod part;
 mod paths;
 mod putting;
 mod reading;
-#[cfg(test)]
-mod tests;
 mod values;
 mod writing;
 

@@ -1,23 +1,21 @@
 // Reading rows and operations.
 ghost use Rattle.std.specs.Prelude.{◌≡◌};
-ghost use Rattle.base_kinds.specs.Paths.{path_cmp};
 ghost use Rattle.base_kinds.specs.Legal.{has_fit_rows, is_empty};
-ghost use Rattle.base_lists.specs.Rising.{rises};
-ghost use Rattle.journal_record.specs.Reading.{Gives, act_at, rows_at, op_parts_at, ops_at};
+ghost use Rattle.journal_record.specs.inner.Reading.{Gives, act_at, rows_at, op_parts_at, ops_at};
 
 use crate::fault::RecordFault;
 use crate::part::{Part, four_in, many};
 use crate::paths::path_in;
 use crate::values::value_in;
-use base_kinds::{Act, Op, Ops, Row, Rows};
+use base_kinds::{Act, Op, Ops, Row, Rows, rises};
 use std::alloc::Global;
 
 impl Part for Row {
-    ghost use Rattle.journal_record.specs.Reading.{row_at};
+    ghost use Rattle.journal_record.specs.inner.Reading.{row_at};
 
     ghost at = { row_at };
 
-    #[tactic(auto, unfolding(crate::specs::Reading::row_at))]
+    #[tactic(auto, unfolding(crate::specs::inner::Reading::row_at))]
     fn read(alloc: Global, octets: &[u8]) -> Result<(Row, &[u8]), RecordFault> {
         let (path, rest) = path_in(alloc, octets)?;
         let (value, rest) = value_in(alloc, rest)?;
@@ -25,25 +23,13 @@ impl Part for Row {
     }
 }
 
-/// Whether each row's path is above the one before it.
-fn rows_rise(rows: &[Row]) -> bool
-    ensures { result ≡ rises (λ a b. path_cmp a.path b.path) rows.now }
-{
-    for at in 1..rows.len() {
-        if !rows[at - 1].path.cmp(&rows[at].path).is_lt() {
-            return false;
-        }
-    }
-    true
-}
-
-#[tactic(auto, unfolding(crate::specs::Reading::rows_at))]
+#[tactic(auto, unfolding(crate::specs::inner::Reading::rows_at))]
 fn rows_in(alloc: Global, octets: &[u8]) -> Result<(Rows, &[u8]), RecordFault>
     ensures { Gives (λ x. (x.0, x.1.now)) result (rows_at octets.now) }
 {
     let (count, rest) = four_in(octets)?;
     let (rows, rest) = many(alloc, count as usize, rest)?;
-    if !rows_rise(rows.items()) {
+    if !rises(rows.items()) {
         return Err(RecordFault::NoRecord);
     }
     Ok((rows, rest))
@@ -70,7 +56,7 @@ fn has_fit_rows(act: Act, rows: &[Row]) -> bool
     }
 }
 
-#[tactic(auto, unfolding(crate::specs::Reading::op_parts_at))]
+#[tactic(auto, unfolding(crate::specs::inner::Reading::op_parts_at))]
 fn op_parts_in(alloc: Global, octets: &[u8]) -> Result<(Op, &[u8]), RecordFault>
     ensures { Gives (λ x. (x.0, x.1.now)) result (op_parts_at octets.now) }
 {
@@ -81,11 +67,11 @@ fn op_parts_in(alloc: Global, octets: &[u8]) -> Result<(Op, &[u8]), RecordFault>
 }
 
 impl Part for Op {
-    ghost use Rattle.journal_record.specs.Reading.{op_at};
+    ghost use Rattle.journal_record.specs.inner.Reading.{op_at};
 
     ghost at = { op_at };
 
-    #[tactic(auto, unfolding(crate::specs::Reading::op_at))]
+    #[tactic(auto, unfolding(crate::specs::inner::Reading::op_at))]
     fn read(alloc: Global, octets: &[u8]) -> Result<(Op, &[u8]), RecordFault> {
         let (op, rest) = op_parts_in(alloc, octets)?;
         if !has_fit_rows(op.act, op.rows.items()) {
@@ -95,7 +81,7 @@ impl Part for Op {
     }
 }
 
-#[tactic(auto, unfolding(crate::specs::Reading::ops_at))]
+#[tactic(auto, unfolding(crate::specs::inner::Reading::ops_at))]
 pub(crate) fn ops_in(alloc: Global, octets: &[u8]) -> Result<(Ops, &[u8]), RecordFault>
     ensures { Gives (λ x. (x.0, x.1.now)) result (ops_at octets.now) }
 {

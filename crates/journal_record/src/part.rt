@@ -1,7 +1,8 @@
-// Reading the parts of a record from the left. What a part answers beside itself is the octets after it.
+// Reading the parts of a record from the left. What a part answers beside itself is the octets
+// after it.
 ghost use Rattle.std.specs.Prelude.{◌≡◌, ℕ, List, Option};
 ghost use Rattle.std.specs.Int.{w16, w32, w64};
-ghost use Rattle.journal_record.specs.Reading.{Gives, number_at, many_at};
+ghost use Rattle.journal_record.specs.inner.Reading.{Gives, number_at, many_at};
 
 use crate::fault::RecordFault;
 use base_lists::Seq;

@@ -1,19 +1,15 @@
 // Reading texts, and paths of elements with keys.
 ghost use Rattle.std.specs.Prelude.{◌≡◌, ◌↔◌, IsTrue, Some, None, if◌then◌else◌};
 ghost use Rattle.std.specs.Str.{is_utf8};
-ghost use Rattle.base_kinds.specs.Paths.{text_cmp};
-ghost use Rattle.base_lists.specs.Rising.{rises};
-ghost use Rattle.journal_record.specs.Reading.{Gives, octets_at, text_at, key_at, keys_at, elem_at, path_at};
+ghost use Rattle.journal_record.specs.inner.Reading.{Gives, octets_at, text_at, key_at, keys_at, elem_at, path_at};
 
 use crate::fault::RecordFault;
 use crate::part::{Part, four_in, many, two_in};
-use base_kinds::{Elem, Keys, Path, Text, TextOfFault};
+use base_kinds::{Elem, Keys, MOST_ELEMENTS, Path, Text, TextOfFault, rises};
 use std::alloc::Global;
 
-const MOST_ELEMENTS: u16 = 32;
-
 /// A length, and so many octets.
-#[tactic(auto, unfolding(crate::specs::Reading::octets_at))]
+#[tactic(auto, unfolding(crate::specs::inner::Reading::octets_at))]
 pub(crate) fn octets_in(octets: &[u8]) -> Result<(&[u8], &[u8]), RecordFault>
     ensures { Gives (λ x. (x.0.now, x.1.now)) result (octets_at octets.now) }
 {
@@ -36,7 +32,7 @@ fn text_of(alloc: Global, octets: &[u8]) -> Result<Text, RecordFault>
     }
 }
 
-#[tactic(auto, unfolding(crate::specs::Reading::text_at))]
+#[tactic(auto, unfolding(crate::specs::inner::Reading::text_at))]
 pub(crate) fn text_in(alloc: Global, octets: &[u8]) -> Result<(Text, &[u8]), RecordFault>
     ensures { Gives (λ x. (x.0, x.1.now)) result (text_at octets.now) }
 {
@@ -46,11 +42,11 @@ pub(crate) fn text_in(alloc: Global, octets: &[u8]) -> Result<(Text, &[u8]), Rec
 }
 
 impl Part for (Text, Text) {
-    ghost use Rattle.journal_record.specs.Reading.{key_at};
+    ghost use Rattle.journal_record.specs.inner.Reading.{key_at};
 
     ghost at = { key_at };
 
-    #[tactic(auto, unfolding(crate::specs::Reading::key_at))]
+    #[tactic(auto, unfolding(crate::specs::inner::Reading::key_at))]
     fn read(alloc: Global, octets: &[u8]) -> Result<((Text, Text), &[u8]), RecordFault> {
         let (name, rest) = text_in(alloc, octets)?;
         let (value, rest) = text_in(alloc, rest)?;
@@ -58,36 +54,24 @@ impl Part for (Text, Text) {
     }
 }
 
-/// Whether each key's name is above the one before it.
-fn keys_rise(keys: &[(Text, Text)]) -> bool
-    ensures { result ≡ rises (λ a b. text_cmp a.0 b.0) keys.now }
-{
-    for at in 1..keys.len() {
-        if !keys[at - 1].0.cmp(&keys[at].0).is_lt() {
-            return false;
-        }
-    }
-    true
-}
-
-#[tactic(auto, unfolding(crate::specs::Reading::keys_at))]
+#[tactic(auto, unfolding(crate::specs::inner::Reading::keys_at))]
 fn keys_in(alloc: Global, octets: &[u8]) -> Result<(Keys, &[u8]), RecordFault>
     ensures { Gives (λ x. (x.0, x.1.now)) result (keys_at octets.now) }
 {
     let (count, rest) = two_in(octets)?;
     let (keys, rest) = many(alloc, count as usize, rest)?;
-    if !keys_rise(keys.items()) {
+    if !rises(keys.items()) {
         return Err(RecordFault::NoRecord);
     }
     Ok((keys, rest))
 }
 
 impl Part for Elem {
-    ghost use Rattle.journal_record.specs.Reading.{elem_at};
+    ghost use Rattle.journal_record.specs.inner.Reading.{elem_at};
 
     ghost at = { elem_at };
 
-    #[tactic(auto, unfolding(crate::specs::Reading::elem_at))]
+    #[tactic(auto, unfolding(crate::specs::inner::Reading::elem_at))]
     fn read(alloc: Global, octets: &[u8]) -> Result<(Elem, &[u8]), RecordFault> {
         let (name, rest) = text_in(alloc, octets)?;
         let (keys, rest) = keys_in(alloc, rest)?;
@@ -95,12 +79,12 @@ impl Part for Elem {
     }
 }
 
-#[tactic(auto, unfolding(crate::specs::Reading::path_at))]
+#[tactic(auto, unfolding(crate::specs::inner::Reading::path_at))]
 pub(crate) fn path_in(alloc: Global, octets: &[u8]) -> Result<(Path, &[u8]), RecordFault>
     ensures { Gives (λ x. (x.0, x.1.now)) result (path_at octets.now) }
 {
     let (count, rest) = two_in(octets)?;
-    if count > MOST_ELEMENTS {
+    if count as usize > MOST_ELEMENTS {
         return Err(RecordFault::NoRecord);
     }
     many(alloc, count as usize, rest)

@@ -4,7 +4,7 @@ ghost use Rattle.std.specs.List.{flat_map, AllByRecursion};
 ghost use Rattle.std.specs.Int.{w16, w32, w64, to_be_bytes, cast_unsigned};
 ghost use Rattle.base_kinds.specs.Records.{text_octets};
 ghost use Rattle.journal_record.specs.Spelling.{text_spelling};
-ghost use Rattle.journal_record.specs.Kept.{IsKeptText, AreOctets};
+ghost use Rattle.journal_record.specs.Representable.{IsRepresentableText, AreOctets};
 
 use base_kinds::Text;
 
@@ -14,14 +14,14 @@ pub(crate) trait Spelled {
 
     ghost octets: { Self → ℕ };
 
-    ghost is_kept: { Self → Type 0 };
+    ghost is_representable: { Self → Type 0 };
 
     fn put(&self, out: &mut Vec<u8>)
         requires { vec_len out.old + octets self.now ≤ vec_capacity out.old }
         ensures items { out.new.items ≡ out.old.items ++ spelling self.now }
         ensures len { vec_len out.new ≡ vec_len out.old + octets self.now }
         ensures capacity { vec_capacity out.old ≤ vec_capacity out.new }
-        ensures kept { is_kept self.now };
+        ensures kept { is_representable self.now };
 }
 
 /// Writes each of the parts.
@@ -30,7 +30,7 @@ pub(crate) fn put_all<T: Spelled>(parts: &[T], out: &mut Vec<u8>)
     ensures items { out.new.items ≡ out.old.items ++ flat_map T.spelling parts.now }
     ensures len { vec_len out.new ≡ vec_len out.old + sum_by T.octets parts.now }
     ensures capacity { vec_capacity out.old ≤ vec_capacity out.new }
-    ensures kept { AllByRecursion T.is_kept parts.now }
+    ensures kept { AllByRecursion T.is_representable parts.now }
 {
     for part in parts {
         part.put(out);
@@ -111,7 +111,7 @@ pub(crate) fn put_text(text: &Text, out: &mut Vec<u8>)
     ensures items { out.new.items ≡ out.old.items ++ text_spelling text.now }
     ensures len { vec_len out.new ≡ vec_len out.old + text_octets text.now }
     ensures capacity { vec_capacity out.old ≤ vec_capacity out.new }
-    ensures kept { IsKeptText text.now }
+    ensures kept { IsRepresentableText text.now }
 {
     put_counted(text.octets(), out);
 }

@@ -2,8 +2,8 @@
 ghost use Rattle.std.specs.Prelude.{◌≡◌, ◌++◌, ℕ, List, IfOk, IsErrOf};
 ghost use Rattle.base_kinds.specs.declared.entry.Entry.{Entry as LogEntry};
 ghost use Rattle.journal_record.specs.Spelling.{record_of};
-ghost use Rattle.journal_record.specs.Kept.{HasRecord, IsReadAs};
-ghost use Rattle.journal_record.specs.Reading.{Gives, apply_at, trial_at, extend_at, content_at, kind_at, entry_at};
+ghost use Rattle.journal_record.specs.Representable.{HasRecord, IsReadAs};
+ghost use Rattle.journal_record.specs.inner.Reading.{Gives, apply_at, trial_at, extend_at, content_at, kind_at, entry_at};
 
 use crate::fault::RecordFault;
 use crate::operations::ops_in;
@@ -19,7 +19,7 @@ fn apply_in(alloc: Global, octets: &[u8]) -> Result<(Kind, &[u8]), RecordFault>
     Ok((Kind::Apply(ops), rest))
 }
 
-#[tactic(auto, unfolding(crate::specs::Reading::trial_at))]
+#[tactic(auto, unfolding(crate::specs::inner::Reading::trial_at))]
 fn trial_in(alloc: Global, octets: &[u8]) -> Result<(Kind, &[u8]), RecordFault>
     ensures { Gives (λ x. (x.0, x.1.now)) result (trial_at octets.now) }
 {
@@ -37,7 +37,7 @@ fn extend_in(octets: &[u8]) -> Result<(Kind, &[u8]), RecordFault>
 }
 
 /// What follows the number of a kind.
-#[tactic(auto, unfolding(crate::specs::Reading::content_at))]
+#[tactic(auto, unfolding(crate::specs::inner::Reading::content_at))]
 fn content_in(alloc: Global, number: u8, octets: &[u8]) -> Result<(Kind, &[u8]), RecordFault>
     ensures { Gives (λ x. (x.0, x.1.now)) result (content_at number octets.now) }
 {
@@ -53,7 +53,7 @@ fn content_in(alloc: Global, number: u8, octets: &[u8]) -> Result<(Kind, &[u8]),
     }
 }
 
-#[tactic(auto, unfolding(crate::specs::Reading::kind_at))]
+#[tactic(auto, unfolding(crate::specs::inner::Reading::kind_at))]
 fn kind_in(alloc: Global, octets: &[u8]) -> Result<(Kind, &[u8]), RecordFault>
     ensures { Gives (λ x. (x.0, x.1.now)) result (kind_at octets.now) }
 {
@@ -63,7 +63,7 @@ fn kind_in(alloc: Global, octets: &[u8]) -> Result<(Kind, &[u8]), RecordFault>
     }
 }
 
-#[tactic(auto, unfolding(crate::specs::Reading::entry_at))]
+#[tactic(auto, unfolding(crate::specs::inner::Reading::entry_at))]
 fn entry_in(alloc: Global, number: u64, octets: &[u8]) -> Result<(Entry, &[u8]), RecordFault>
     ensures { Gives (λ x. (x.0, x.1.now)) result (entry_at number octets.now) }
 {
@@ -79,16 +79,18 @@ fn entry_in(alloc: Global, number: u64, octets: &[u8]) -> Result<(Entry, &[u8]),
     Ok((entry, rest))
 }
 
-/// The entry with this number whose record stands at the front of the octets, and the octets after it.
+/// The entry with this number whose record stands at the front of the octets, and the octets after
+/// it. Its number is not among the octets.
 pub fn read_entry(alloc: Global, number: u64, octets: &[u8]) -> Result<(Entry, &[u8]), RecordFault>
     // What is read is the record of an entry whose operations fit.
     ensures found { IfOk result (λ x. IsReadAs number octets.now x.0 x.1.now) }
     // No other entry's record stands there.
-    ensures only { IfOk result (λ x. (entry : LogEntry) (rest : List ℕ) → HasRecord entry → entry.number ≡ number
-        → octets.now ≡ record_of entry ++ rest → (entry ≡ x.0) × (rest ≡ x.1.now)) }
+    ensures only { IfOk result (λ x. (entry : LogEntry) (rest : List ℕ) → HasRecord entry
+        → entry.number ≡ number → octets.now ≡ record_of entry ++ rest
+        → (entry ≡ x.0) × (rest ≡ x.1.now)) }
     // And where none is read, none stands there.
-    ensures none { IsErrOf result RecordFault.NoRecord → (entry : LogEntry) (rest : List ℕ) → HasRecord entry
-        → entry.number ≡ number → octets.now ≡ record_of entry ++ rest → ⊥ }
+    ensures none { IsErrOf result RecordFault.NoRecord → (entry : LogEntry) (rest : List ℕ)
+        → HasRecord entry → entry.number ≡ number → octets.now ≡ record_of entry ++ rest → ⊥ }
 {
     entry_in(alloc, number, octets)
 }

@@ -1,11 +1,11 @@
 // Reading values.
-ghost use Rattle.std.specs.Prelude.{◌≡◌, Some};
-ghost use Rattle.journal_record.specs.Reading.{Gives, bool_at, int_at, uint_at, bin_at, text_value_at, enum_at, places_at, dec_at, scalar_at, item_at, list_at, value_at};
+ghost use Rattle.std.specs.Prelude.{◌≡◌};
+ghost use Rattle.journal_record.specs.inner.Reading.{Gives, bool_at, int_at, uint_at, bin_at, text_value_at, enum_at, places_at, dec_at, scalar_at, item_at, list_at, value_at};
 
 use crate::fault::RecordFault;
 use crate::part::{Part, eight_in, four_in, many};
 use crate::paths::{octets_in, text_in};
-use base_kinds::{Bytes, Seq, Value};
+use base_kinds::{Bytes, MOST_FRACTION_DIGITS, Value};
 use std::alloc::Global;
 
 /// The tag of a list, whose values have other tags.
@@ -42,13 +42,13 @@ fn places_in(octets: &[u8]) -> Result<(u8, &[u8]), RecordFault>
     let [places, rest @ ..] = octets else {
         return Err(RecordFault::NoRecord);
     };
-    if *places < 1 || *places > 18 {
+    if *places < 1 || *places > MOST_FRACTION_DIGITS {
         return Err(RecordFault::NoRecord);
     }
     Ok((*places, rest))
 }
 
-#[tactic(auto, unfolding(crate::specs::Reading::dec_at))]
+#[tactic(auto, unfolding(crate::specs::inner::Reading::dec_at))]
 fn dec_in(octets: &[u8]) -> Result<(Value, &[u8]), RecordFault>
     ensures { Gives (λ x. (x.0, x.1.now)) result (dec_at octets.now) }
 {
@@ -57,19 +57,11 @@ fn dec_in(octets: &[u8]) -> Result<(Value, &[u8]), RecordFault>
     Ok((Value::Dec(digits.cast_signed(), places), rest))
 }
 
-fn bytes_of(alloc: Global, octets: &[u8]) -> Result<Bytes, RecordFault>
-    ensures { Gives (λ bytes. bytes) result (Some octets.now) }
-{
-    let mut bytes = Seq::empty(alloc);
-    bytes.extend_from_slice(octets)?;
-    Ok(bytes)
-}
-
 fn bin_in(alloc: Global, octets: &[u8]) -> Result<(Value, &[u8]), RecordFault>
     ensures { Gives (λ x. (x.0, x.1.now)) result (bin_at octets.now) }
 {
     let (octets, rest) = octets_in(octets)?;
-    let bytes = bytes_of(alloc, octets)?;
+    let bytes = Bytes::of(alloc, octets)?;
     Ok((Value::Bin(bytes), rest))
 }
 
@@ -88,7 +80,7 @@ fn enum_in(alloc: Global, octets: &[u8]) -> Result<(Value, &[u8]), RecordFault>
 }
 
 /// What follows the tag of a value that is no list.
-#[tactic(auto, unfolding(crate::specs::Reading::scalar_at))]
+#[tactic(auto, unfolding(crate::specs::inner::Reading::scalar_at))]
 fn scalar_in(alloc: Global, tag: u8, octets: &[u8]) -> Result<(Value, &[u8]), RecordFault>
     ensures { Gives (λ x. (x.0, x.1.now)) result (scalar_at tag octets.now) }
 {
@@ -106,11 +98,11 @@ fn scalar_in(alloc: Global, tag: u8, octets: &[u8]) -> Result<(Value, &[u8]), Re
 
 /// A value of a list: no list itself.
 impl Part for Value {
-    ghost use Rattle.journal_record.specs.Reading.{item_at};
+    ghost use Rattle.journal_record.specs.inner.Reading.{item_at};
 
     ghost at = { item_at };
 
-    #[tactic(auto, unfolding(crate::specs::Reading::item_at))]
+    #[tactic(auto, unfolding(crate::specs::inner::Reading::item_at))]
     fn read(alloc: Global, octets: &[u8]) -> Result<(Value, &[u8]), RecordFault> {
         match octets {
             [] => Err(RecordFault::NoRecord),
@@ -119,7 +111,7 @@ impl Part for Value {
     }
 }
 
-#[tactic(auto, unfolding(crate::specs::Reading::list_at))]
+#[tactic(auto, unfolding(crate::specs::inner::Reading::list_at))]
 fn list_in(alloc: Global, octets: &[u8]) -> Result<(Value, &[u8]), RecordFault>
     ensures { Gives (λ x. (x.0, x.1.now)) result (list_at octets.now) }
 {
@@ -128,7 +120,7 @@ fn list_in(alloc: Global, octets: &[u8]) -> Result<(Value, &[u8]), RecordFault>
     Ok((Value::List(values), rest))
 }
 
-#[tactic(auto, unfolding(crate::specs::Reading::value_at))]
+#[tactic(auto, unfolding(crate::specs::inner::Reading::value_at))]
 pub(crate) fn value_in(alloc: Global, octets: &[u8]) -> Result<(Value, &[u8]), RecordFault>
     ensures { Gives (λ x. (x.0, x.1.now)) result (value_at octets.now) }
 {

@@ -3,7 +3,7 @@ ghost use Rattle.std.specs.Prelude.{◌≡◌, ◌+◌, ◌^◌, ◌<◌, ◌≤
 ghost use Rattle.std.specs.List.{flat_map, AllByRecursion};
 ghost use Rattle.base_kinds.specs.Records.{path_octets, value_octets, row_octets, ops_octets, kind_octets, record_octets};
 ghost use Rattle.journal_record.specs.Spelling.{act_octet, path_spelling, value_spelling, rows_spelling, ops_spelling, kind_spelling, record_of};
-ghost use Rattle.journal_record.specs.Kept.{IsKeptPath, IsKeptValue, IsKeptRow, AreKeptOps, IsKeptKind, IsKept};
+ghost use Rattle.journal_record.specs.Representable.{IsRepresentablePath, IsRepresentableValue, IsRepresentableRow, AreRepresentableOps, IsRepresentableKind, IsRepresentable};
 
 use crate::putting::{
     Spelled, put_all, put_counted, put_eight, put_four, put_octets, put_signed, put_text, put_two,
@@ -17,13 +17,13 @@ use std::mem;
 impl Spelled for (Text, Text) {
     ghost use Rattle.base_kinds.specs.Records.{key_octets};
     ghost use Rattle.journal_record.specs.Spelling.{key_spelling};
-    ghost use Rattle.journal_record.specs.Kept.{IsKeptKey};
+    ghost use Rattle.journal_record.specs.Representable.{IsRepresentableKey};
 
     ghost spelling = { key_spelling };
 
     ghost octets = { key_octets };
 
-    ghost is_kept = { IsKeptKey };
+    ghost is_representable = { IsRepresentableKey };
 
     #[tactic(auto, unfolding(crate::specs::Spelling::key_spelling))]
     fn put(&self, out: &mut Vec<u8>) {
@@ -35,13 +35,13 @@ impl Spelled for (Text, Text) {
 impl Spelled for Elem {
     ghost use Rattle.base_kinds.specs.Records.{elem_octets};
     ghost use Rattle.journal_record.specs.Spelling.{elem_spelling};
-    ghost use Rattle.journal_record.specs.Kept.{IsKeptElem};
+    ghost use Rattle.journal_record.specs.Representable.{IsRepresentableElem};
 
     ghost spelling = { elem_spelling };
 
     ghost octets = { elem_octets };
 
-    ghost is_kept = { IsKeptElem };
+    ghost is_representable = { IsRepresentableElem };
 
     #[tactic(auto, unfolding(crate::specs::Spelling::elem_spelling, crate::specs::Spelling::keys_spelling))]
     fn put(&self, out: &mut Vec<u8>) {
@@ -57,7 +57,7 @@ fn put_path(path: &Path, out: &mut Vec<u8>)
     ensures items { out.new.items ≡ out.old.items ++ path_spelling path.now }
     ensures len { vec_len out.new ≡ vec_len out.old + path_octets path.now }
     ensures capacity { vec_capacity out.old ≤ vec_capacity out.new }
-    ensures kept { IsKeptPath path.now }
+    ensures kept { IsRepresentablePath path.now }
 {
     put_two(path.len(), out);
     put_all(path.items(), out);
@@ -79,7 +79,7 @@ fn put_value(value: &Value, out: &mut Vec<u8>)
     ensures items { out.new.items ≡ out.old.items ++ value_spelling value.now }
     ensures len { vec_len out.new ≡ vec_len out.old + value_octets value.now }
     ensures capacity { vec_capacity out.old ≤ vec_capacity out.new }
-    ensures kept { IsKeptValue value.now }
+    ensures kept { IsRepresentableValue value.now }
 {
     match value {
         Value::Bool(is) => {
@@ -125,7 +125,7 @@ fn put_values(values: &[Value], out: &mut Vec<u8>)
     ensures items { out.new.items ≡ out.old.items ++ flat_map value_spelling values.now }
     ensures len { vec_len out.new ≡ vec_len out.old + sum_by value_octets values.now }
     ensures capacity { vec_capacity out.old ≤ vec_capacity out.new }
-    ensures kept { AllByRecursion IsKeptValue values.now }
+    ensures kept { AllByRecursion IsRepresentableValue values.now }
 {
     for value in values {
         put_value(value, out);
@@ -135,13 +135,13 @@ fn put_values(values: &[Value], out: &mut Vec<u8>)
 impl Spelled for Row {
     ghost use Rattle.base_kinds.specs.Records.{row_octets};
     ghost use Rattle.journal_record.specs.Spelling.{row_spelling};
-    ghost use Rattle.journal_record.specs.Kept.{IsKeptRow};
+    ghost use Rattle.journal_record.specs.Representable.{IsRepresentableRow};
 
     ghost spelling = { row_spelling };
 
     ghost octets = { row_octets };
 
-    ghost is_kept = { IsKeptRow };
+    ghost is_representable = { IsRepresentableRow };
 
     #[tactic(auto, unfolding(crate::specs::Spelling::row_spelling))]
     fn put(&self, out: &mut Vec<u8>) {
@@ -156,7 +156,7 @@ fn put_rows(rows: &Rows, out: &mut Vec<u8>)
     ensures items { out.new.items ≡ out.old.items ++ rows_spelling rows.now }
     ensures len { vec_len out.new ≡ vec_len out.old + 4 + sum_by row_octets rows.now }
     ensures capacity { vec_capacity out.old ≤ vec_capacity out.new }
-    ensures kept { AllByRecursion IsKeptRow rows.now }
+    ensures kept { AllByRecursion IsRepresentableRow rows.now }
 {
     put_four(rows.len(), out);
     put_all(rows.items(), out);
@@ -175,13 +175,13 @@ fn act_octet(act: Act) -> u8
 impl Spelled for Op {
     ghost use Rattle.base_kinds.specs.Records.{op_octets};
     ghost use Rattle.journal_record.specs.Spelling.{op_spelling};
-    ghost use Rattle.journal_record.specs.Kept.{IsKeptOp};
+    ghost use Rattle.journal_record.specs.Representable.{IsRepresentableOp};
 
     ghost spelling = { op_spelling };
 
     ghost octets = { op_octets };
 
-    ghost is_kept = { IsKeptOp };
+    ghost is_representable = { IsRepresentableOp };
 
     #[tactic(auto, unfolding(crate::specs::Spelling::op_spelling))]
     fn put(&self, out: &mut Vec<u8>) {
@@ -197,7 +197,7 @@ fn put_ops(ops: &Ops, out: &mut Vec<u8>)
     ensures items { out.new.items ≡ out.old.items ++ ops_spelling ops.now }
     ensures len { vec_len out.new ≡ vec_len out.old + ops_octets ops.now }
     ensures capacity { vec_capacity out.old ≤ vec_capacity out.new }
-    ensures kept { AreKeptOps ops.now }
+    ensures kept { AreRepresentableOps ops.now }
 {
     put_four(ops.len(), out);
     put_all(ops.items(), out);
@@ -209,7 +209,7 @@ fn put_kind(kind: &Kind, out: &mut Vec<u8>)
     ensures items { out.new.items ≡ out.old.items ++ kind_spelling kind.now }
     ensures len { vec_len out.new ≡ vec_len out.old + 1 + kind_octets kind.now }
     ensures capacity { vec_capacity out.old ≤ vec_capacity out.new }
-    ensures kept { IsKeptKind kind.now }
+    ensures kept { IsRepresentableKind kind.now }
 {
     match kind {
         Kind::Apply(ops) => {
@@ -238,21 +238,23 @@ fn put_record(entry: &Entry, out: &mut Vec<u8>)
     requires { vec_len out.old + record_octets entry.now ≤ vec_capacity out.old }
     ensures items { out.new.items ≡ out.old.items ++ record_of entry.now }
     ensures capacity { vec_capacity out.old ≤ vec_capacity out.new }
-    ensures kept { IsKept entry.now }
+    ensures kept { IsRepresentable entry.now }
 {
     put_octets(&entry.author.to_be_bytes(), out);
     put_eight(entry.stamp, out);
     put_kind(&entry.kind, out);
 }
 
-/// Writes the record of the entry behind what is there. Where there is room for it, this takes no memory.
+/// Writes the record of the entry behind what is there. Where there is room for it, this takes no
+/// memory.
 pub fn put_entry(entry: &Entry, out: &mut Vec<u8>) -> Result<(), NoMemory>
     ensures ok { OnOk result (out.new.items ≡ out.old.items ++ record_of entry.now) }
     // What the types of the entry keep.
-    ensures kept { OnOk result (IsKept entry.now) }
+    ensures kept { OnOk result (IsRepresentable entry.now) }
     ensures err { OnErr result (out.new.items ≡ out.old.items) }
     ensures capacity { vec_capacity out.old ≤ vec_capacity out.new }
-    ensures within { record_octets entry.now < 2 ^ 32 → vec_len out.old + record_octets entry.now ≤ vec_capacity out.old → IsOk result }
+    ensures within { record_octets entry.now < 2 ^ 32
+        → vec_len out.old + record_octets entry.now ≤ vec_capacity out.old → IsOk result }
 {
     let octets = entry.record_octets();
     if octets == u64::MAX {
@@ -267,7 +269,7 @@ pub fn put_entry(entry: &Entry, out: &mut Vec<u8>) -> Result<(), NoMemory>
 pub fn write_entry(alloc: Global, entry: &Entry, out: &mut Bytes) -> Result<(), NoMemory>
     ensures ok { OnOk result (out.new ≡ out.old ++ record_of entry.now) }
     // What the types of the entry keep.
-    ensures kept { OnOk result (IsKept entry.now) }
+    ensures kept { OnOk result (IsRepresentable entry.now) }
     ensures err { OnErr result (out.new ≡ out.old) }
 {
     let mut octets = mem::replace(out, Seq::empty(alloc)).into_vec();

@@ -1,4 +1,4 @@
-use Rattle.journal_format.specs.Worked.{first_gate, second_gate, whole_front}
+use Rattle.journal_format.specs.worked.Journals.{first_gate, second_gate, whole_front}
 use Rattle.journal_format.proofs.laws.worked_journal.Goals as goal
 
 pub returns-clause-octets : goal.returns-clause-octets

@@ -1,5 +1,5 @@
 use Rattle.std.proofs.Common.{refl}
-use Rattle.journal_record.specs.Worked.{hostname_is}
+use Rattle.journal_record.specs.worked.Records.{hostname_is}
 use Rattle.journal_record.proofs.laws.worked_record.Goals as goal
 
 pub returns-clause-octets : goal.returns-clause-octets

@@ -1,5 +1,5 @@
 use Rattle.std.proofs.Common.{◌≡◌, ◌-◌}
-use Rattle.journal_record.specs.Reading.{many_at}
+use Rattle.journal_record.specs.inner.Reading.{many_at}
 use Rattle.journal_record.proofs.Loops.{with_front}
 use Rattle.journal_record.proofs.part.many.Given as goal
 

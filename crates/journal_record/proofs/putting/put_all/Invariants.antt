@@ -10,5 +10,5 @@ invariant-loop-part g l =
       items : l.out.items ++ flat_map g.T.Spelled.spelling left ≡ l.fn.out.items ++ flat_map g.T.Spelled.spelling l.parts;
       len : vec_len l.out + sum_by g.T.Spelled.octets left ≡ vec_len l.fn.out + sum_by g.T.Spelled.octets l.parts;
       capacity : vec_capacity l.fn.out ≤ vec_capacity l.out;
-      kept : AllByRecursion g.T.Spelled.is_kept left → AllByRecursion g.T.Spelled.is_kept l.parts;
+      kept : AllByRecursion g.T.Spelled.is_representable left → AllByRecursion g.T.Spelled.is_representable l.parts;
     }

@@ -1,4 +1,6 @@
 use Rattle.std.proofs.Common.{◌≡◌, ◌+◌, ◌<◌, ◌^◌, [], ◌∷◌, ◌++◌, true, false, Some, inl, inr, length, vec_capacity, refl, ap, ◌∙◌, arith}
+use Rattle.disk_model.proofs.Calls.{fails_within_then}
+use Rattle.commit_journal.proofs.AppendCalls.{fails_of}
 use Rattle.base_kinds.specs.Records.{record_octets}
 use Rattle.journal_record.specs.Spelling.{record_of}
 use Rattle.commit_journal.specs.Ledgers.{LedgerView}
@@ -76,3 +78,6 @@ returns-in_default-clause-failed g c = λ is.
       ap Some c.of.ensures,
       (ends_at_gate (g.D.Disk.told) c.self.view_is c.self.invariant _ c.requires.settled c.requires.next _ (c.deref.ensures.value ∙ c.in_ok-put_record.ensures.ok) c.in_ok-put_record.ensures.kept _ _ c.in_ok-put_synced.ensures.ok _ _ c.of.ensures refl c.in_default.ensures.err).moved,
     )
+
+pub returns-in_default-clause-failed_call : goal.returns-in_default-clause-failed_call
+returns-in_default-clause-failed_call g c = λ is. fails_of (g.D.Disk.fuse) c.self.view_is 4 _ (fails_within_then 2 2 _ _ _ c.in_ok-put_synced.ensures.calls c.in_default.ensures.calls)
