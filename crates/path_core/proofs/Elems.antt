@@ -3,9 +3,9 @@ use Rattle.std.proofs.Common.{◌≡◌, ◌≢◌, ℕ, ◌<◌, List, [], ◌�
 use Rattle.std.specs.List.{flat_map, AllByRecursion}
 use Rattle.base_kinds.specs.declared.path.Elem.{Elem}
 use Rattle.base_kinds.specs.Texts.{octet_text, escaped, key_part, elem_text, is_name_octet, is_key_octet}
-use Rattle.path_core.specs.declared.octets.Part.TheVariants.{Name}
+use Rattle.path_core.specs.declared.escapes.Part.TheVariants.{Name}
 use Rattle.path_core.specs.PathText.{IsElem, AreElems, IsPathText}
-use Rattle.path_core.specs.Reading.{NoOctet, Lacks, BeginsOrEnds, IsTextAt, AreKeysAt, IsElemAt}
+use Rattle.path_core.specs.inner.Reading.{NoOctet, Lacks, BeginsOrEnds, IsTextAt, AreKeysAt, IsElemAt}
 use Rattle.path_core.proofs.Runs.{IsCode, Ended, run_left, same_runs}
 use Rattle.path_core.proofs.Spellings.{same_text_at, no_octet, no_octet_in_nothing, small_text}
 use Rattle.path_core.proofs.Keys.{same_keys_at}

@@ -4,9 +4,9 @@ use Rattle.std.specs.List.{AllByRecursion, flat_map}
 use Rattle.base_kinds.specs.declared.path.Elem.{Elem}
 use Rattle.base_lists.specs.Rising.{rises}
 use Rattle.base_kinds.specs.Texts.{escaped, key_part, elem_text}
-use Rattle.path_core.specs.declared.octets.Part.{Part}
+use Rattle.path_core.specs.declared.escapes.Part.{Part}
 use Rattle.path_core.specs.PathText.{name_cmp, IsKey, AreElems}
-use Rattle.path_core.specs.Reading.{test_of, BeginsOrEnds}
+use Rattle.path_core.specs.inner.Reading.{test_of, BeginsOrEnds}
 
 pub record OctetsRead (part : Part) (text octets rest : List ℕ) : Type 0 where
   pub spelled : text ≡ escaped (test_of part) octets ++ rest

@@ -5,9 +5,9 @@ use Rattle.std.specs.Ordering.{is_lt}
 use Rattle.std.proofs.lemmas.Bool.{true≢false, and_parts, and_from}
 use Rattle.base_lists.specs.Rising.{rises}
 use Rattle.base_kinds.specs.Texts.{escaped, key_part, is_name_octet, is_key_octet}
-use Rattle.path_core.specs.declared.octets.Part.TheVariants.{Name, Value}
+use Rattle.path_core.specs.declared.escapes.Part.TheVariants.{Name, Value}
 use Rattle.path_core.specs.PathText.{name_cmp, IsKey}
-use Rattle.path_core.specs.Reading.{NoOctet, Lacks, ends_below, IsTextAt, IsKeyAt, AreKeysAt}
+use Rattle.path_core.specs.inner.Reading.{NoOctet, Lacks, ends_below, IsTextAt, IsKeyAt, AreKeysAt}
 use Rattle.path_core.proofs.Runs.{IsCode, Ended, run_left, same_runs}
 use Rattle.path_core.proofs.Spellings.{Anything, same_text_at, small_text, no_octet}
 

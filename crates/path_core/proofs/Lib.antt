@@ -1,5 +1,4 @@
 pub mod Elems
-pub mod Fronts
 pub mod Kept
 pub mod Keys
 pub mod Passed

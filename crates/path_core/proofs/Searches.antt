@@ -5,9 +5,9 @@ use Rattle.std.specs.Str.{bytes_eq}
 use Rattle.std.proofs.lemmas.Bool.{or_parts, or_from, and_left, and_right}
 use Rattle.base_kinds.specs.declared.path.Elem.{Elem}
 use Rattle.base_kinds.specs.Match.{suffixes, prefixes, elem_matches, first_matches, matches, covers}
-use Rattle.path_core.specs.declared.matching.Extent.{Extent}
-use Rattle.path_core.specs.declared.matching.Extent.TheVariants.{Whole, Front}
-use Rattle.path_core.specs.Searching.{test_by, IsSkip}
+use Rattle.path_core.specs.declared.patterns.Extent.{Extent}
+use Rattle.path_core.specs.declared.patterns.Extent.TheVariants.{Whole, Front}
+use Rattle.path_core.specs.inner.Searching.{test_by, IsSkip}
 
 -- ---- tests of some item
 

@@ -7,9 +7,9 @@ use Rattle.std.proofs.Math.Utf8.{scalar, scalars, scalar_cases}
 use Rattle.std.proofs.lemmas.Bool.{true≢false, cases_Bool, cases_lt, lt-ltb, le-ltb, and_parts}
 use Rattle.std.proofs.lemmas.Bool.Decides.{nat_tests}
 use Rattle.base_kinds.specs.Texts.{hex_digit, escape, octet_text}
-use Rattle.path_core.specs.declared.octets.Part.{Part}
-use Rattle.path_core.specs.declared.octets.Part.TheVariants.{Name, Value}
-use Rattle.path_core.specs.Reading.{test_of, hex_pair, NoOctet, AreOctetsAt, IsTextAt}
+use Rattle.path_core.specs.declared.escapes.Part.{Part}
+use Rattle.path_core.specs.declared.escapes.Part.TheVariants.{Name, Value}
+use Rattle.path_core.specs.inner.Reading.{test_of, hex_pair, NoOctet, AreOctetsAt, IsTextAt}
 use Rattle.path_core.proofs.Runs.{IsCode, same_runs, all_both}
 
 -- ---- octets of a text are below 256

@@ -2,9 +2,9 @@
 use Rattle.std.proofs.Common.{◌≡◌, List, ℕ, [], ◌++◌, ap, sym, ◌∙◌}
 use Rattle.std.proofs.lemmas.List.{append-nil}
 use Rattle.base_kinds.specs.Texts.{is_key_octet, escaped}
-use Rattle.path_core.specs.declared.octets.Part.TheVariants.{Value}
+use Rattle.path_core.specs.declared.escapes.Part.TheVariants.{Value}
 use Rattle.path_core.specs.PathText.{IsValueText}
-use Rattle.path_core.specs.Reading.{IsTextAt}
+use Rattle.path_core.specs.inner.Reading.{IsTextAt}
 use Rattle.path_core.proofs.Spellings.{small_text, no_octet_in_nothing, same_text_at}
 
 pub value_at : (text value : List ℕ) → IsValueText text value → IsTextAt Value text value []

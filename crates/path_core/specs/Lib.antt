@@ -1,5 +1,3 @@
 pub mod PathText
-pub mod Reading
-pub mod Searching
-pub mod WorkedTexts
-pub mod Writing
+pub mod inner
+pub mod worked

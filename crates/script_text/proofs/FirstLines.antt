@@ -7,10 +7,10 @@ use Rattle.std.proofs.lemmas.Bool.{and_parts, and_from, not-true, eqb-true, eqb-
 use Rattle.std.proofs.Math.Seq.{take-length}
 use Rattle.std.proofs.lemmas.List.{append-nil}
 use Rattle.std.proofs.lemmas.List.Folds.{list_all-append}
-use Rattle.script_text.specs.Lines.{lines_of, without_empty_last}
-use Rattle.script_text.specs.Parts.{lacks, IsCut}
-use Rattle.script_text.specs.Stay.{IsFirstCut, FirstLineStays}
-use Rattle.script_text.proofs.Cuts.{cut_there}
+use Rattle.script_text.specs.Lines.{lines_of, without_empty_last, IsFirstCut}
+use Rattle.plain_texts.specs.Splits.{lacks, IsCut}
+use Rattle.script_text.specs.laws.FirstLines.{FirstLineStays}
+use Rattle.plain_texts.proofs.Cuts.{cut_there}
 
 abbrev is_line_feed : ℕ → Bool
 is_line_feed octet = eqb octet 10

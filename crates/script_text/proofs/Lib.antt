@@ -1,11 +1,8 @@
 pub mod Authors
-pub mod Cuts
-pub mod Decimals
 pub mod Faults
 pub mod FirstLines
-pub mod LinesMeant
+pub mod Ranges
 pub mod Meanings
-pub mod NameTexts
 pub mod OneMeanings
 pub mod Spaceless
 pub mod WordByWord

@@ -11,7 +11,7 @@ use Rattle.script_text.specs.declared.keywords.Keyword.{Keyword}
 use Rattle.script_text.specs.declared.keywords.Keyword.TheVariants as keywords
 use Rattle.script_text.specs.declared.line.Line.{Line}
 use Rattle.script_text.specs.declared.line.Line.TheVariants as lines
-use Rattle.script_text.specs.Fields.{IsKeyword, IsNumber, IsAuthor, IsName, IsSpan, IsSubMode, IsListMode, IsFlag, IsFill, IsRest}
+use Rattle.script_text.specs.Words.{IsKeyword, IsNumber, IsAuthor, IsName, IsSpan, IsSubMode, IsListMode, IsFlag, IsFill, IsRest}
 use Rattle.script_text.specs.Grammar.{Then, Last, IsChange, IsNamed, IsTimed, IsSubscription, Says, IsLine}
 use Rattle.script_text.proofs.OneMeanings.{one_number, number_kind, author_kind, name_kind, one_fill, one_span, sub_mode_kind, list_mode_kind, one_flag, keyword_kind, one_rest}
 use Rattle.script_text.proofs.Spaceless.{path_kind, id_kind}

@@ -5,7 +5,7 @@ use Rattle.std.specs.Str.{bytes_eq}
 use Rattle.std.specs.Fmt.{decimal}
 use Rattle.std.proofs.lemmas.Fmt.{decimal_injective}
 use Rattle.std.proofs.lemmas.Bool.{true≢false}
-use Rattle.base_kinds.specs.Texts.{is_within}
+use Rattle.std.specs.Char.{is_ascii_digit}
 use Rattle.base_kinds.specs.declared.fill.Fill.{Fill}
 use Rattle.base_kinds.specs.declared.fill.Fill.TheVariants.{Old, New, Octet}
 use Rattle.base_kinds.specs.declared.request.ListMode.{ListMode}
@@ -15,19 +15,11 @@ use Rattle.base_kinds.specs.declared.request.SubMode.{SubMode}
 use Rattle.base_kinds.specs.declared.request.SubMode.TheVariants as sub_modes
 use Rattle.script_text.specs.declared.keywords.Keyword.{Keyword}
 use Rattle.script_text.specs.declared.keywords.Keyword.TheVariants as keywords
-use Rattle.script_text.specs.Fields.{IsKeyword, IsNumber, IsAuthor, IsName, IsSeconds, IsSpan, IsSubMode, IsListMode, IsFlag, IsFill, IsRest}
-use Rattle.script_text.specs.Parts.{lacks}
-use Rattle.script_text.proofs.Decimals.{all_digits}
-use Rattle.script_text.proofs.NameTexts.{lacks_by, name_lacks_space}
-
--- the octets say one thing at most
-abbrev pub SaysOne : {A : Type 0} → (List ℕ → A → Type 0) → Type 0
-SaysOne {A} Word = (text : List ℕ) (a b : A) → Word text a → Word text b → a ≡ b
-
--- a word before a space
-pub record IsWordKind {A : Type 0} (Word : List ℕ → A → Type 0) : Type 0 where
-  pub one : SaysOne Word
-  pub spaceless : (text : List ℕ) (a : A) → Word text a → lacks 32 text ≡ true
+use Rattle.script_text.specs.Words.{IsKeyword, IsNumber, IsAuthor, IsName, IsSeconds, IsSpan, IsSubMode, IsListMode, IsFlag, IsFill, IsRest}
+use Rattle.plain_texts.specs.Splits.{lacks}
+use Rattle.script_text.specs.inner.FirstWords.{SaysOne, IsWordKind}
+use Rattle.plain_texts.proofs.Decimals.{all_digits}
+use Rattle.plain_texts.proofs.NameTexts.{lacks_by, name_lacks}
 
 -- what a text decides, it decides the same of both
 by_decoding : {A : Type 0} (Word : List ℕ → A → Type 0) (decoded : List ℕ → A) → ((text : List ℕ) (a : A) → Word text a → decoded text ≡ a) → SaysOne Word
@@ -37,14 +29,14 @@ by_decoding Word decoded each text a b is is' = sym (each text a is) ∙ each te
 told_apart : (p : ℕ → Bool) (text other : List ℕ) → list_all p text ≡ true → list_all p other ≡ false → text ≡ other → ⊥
 told_apart p text other all some same = true≢false (sym all ∙ ap (list_all p) same ∙ some)
 
-pub no_digits : (text : List ℕ) → list_all (is_within 48 57) text ≡ false → (number : ℕ) → IsNumber text number → ⊥
-no_digits text some number is = told_apart (is_within 48 57) (decimal number) text (all_digits number is.0) some (sym is.1)
+pub no_digits : (text : List ℕ) → list_all is_ascii_digit text ≡ false → (number : ℕ) → IsNumber text number → ⊥
+no_digits text some number is = told_apart is_ascii_digit (decimal number) text (all_digits number is.0) some (sym is.1)
 
 pub one_number : SaysOne IsNumber
 one_number text a b is is' = decimal_injective a b is.0 is'.0 (sym is.1 ∙ is'.1)
 
 pub number_kind : IsWordKind IsNumber
-number_kind = record { one = one_number; spaceless = λ text a is. ap (lacks 32) is.1 ∙ lacks_by (is_within 48 57) 32 refl (decimal a) (all_digits a is.0) }
+number_kind = record { one = one_number; spaceless = λ text a is. ap (lacks 32) is.1 ∙ lacks_by is_ascii_digit 32 refl (decimal a) (all_digits a is.0) }
 
 pub author_number : (text : List ℕ) (author : ℕ) → IsAuthor text author → IsNumber text author
 author_number text author is = (omega (arith, is.1), is.2)
@@ -56,13 +48,13 @@ author_kind = record {
 }
 
 pub name_kind : IsWordKind IsName
-name_kind = record { one = λ text a b is is'. sym is.1 ∙ is'.1; spaceless = λ text a is. ap (lacks 32) is.1 ∙ name_lacks_space a is.0 }
+name_kind = record { one = λ text a b is is'. sym is.1 ∙ is'.1; spaceless = λ text a is. ap (lacks 32) is.1 ∙ name_lacks 32 refl a is.0 }
 
 pub octet_number : (text : List ℕ) (octet : ℕ) → IsFill text (Octet octet) → IsNumber text octet
 octet_number text octet is = (omega (arith, is.0), is.1)
 
-no_octet : (text : List ℕ) (octet : ℕ) (word : List ℕ) → list_all (is_within 48 57) word ≡ false → text ≡ word → IsFill text (Octet octet) → ⊥
-no_octet text octet word some same is = no_digits text (ap (list_all (is_within 48 57)) same ∙ some) octet (octet_number text octet is)
+no_octet : (text : List ℕ) (octet : ℕ) (word : List ℕ) → list_all is_ascii_digit word ≡ false → text ≡ word → IsFill text (Octet octet) → ⊥
+no_octet text octet word some same is = no_digits text (ap (list_all is_ascii_digit) same ∙ some) octet (octet_number text octet is)
 
 pub one_fill : SaysOne IsFill
 one_fill text Old Old is is' = refl
@@ -81,7 +73,7 @@ one_seconds text a b is is' =
     is.bounded ∙ ap (λ n. pos (min n (2 ^ 63 - 1))) same ∙ sym is'.bounded
 
 no_seconds : (text : List ℕ) (a : ℤ) → text ≡ codes "-" → IsSeconds text a → ⊥
-no_seconds text a absent is = no_digits text (ap (list_all (is_within 48 57)) absent) is.number is.is
+no_seconds text a absent is = no_digits text (ap (list_all is_ascii_digit) absent) is.number is.is
 
 pub one_span : SaysOne IsSpan
 one_span text Absent Absent is is' = refl
@@ -207,6 +199,6 @@ no_author text number is out author is' =
     ⊎_elim (λ none. omega (arith, is'.0)) (λ above. omega (arith, is'.1)) out
 
 pub no_fill : (text : List ℕ) (number : ℕ) → IsNumber text number → 255 < number → (fill : Fill) → IsFill text fill → ⊥
-no_fill text number is above Old is' = no_digits text (ap (list_all (is_within 48 57)) is') number is
-no_fill text number is above New is' = no_digits text (ap (list_all (is_within 48 57)) is') number is
+no_fill text number is above Old is' = no_digits text (ap (list_all is_ascii_digit) is') number is
+no_fill text number is above New is' = no_digits text (ap (list_all is_ascii_digit) is') number is
 no_fill text number is above (Octet octet) is' = let same = one_number text number octet is (octet_number text octet is') in omega (arith, is'.0)

@@ -9,8 +9,8 @@ use Rattle.base_kinds.specs.Texts.{is_name_octet, is_key_octet, hex_digit, escap
 use Rattle.path_core.specs.PathText.{IsPathText, IsValueText}
 use Rattle.path_core.proofs.Elems.{one_path}
 use Rattle.path_core.proofs.ValueTexts.{one_value}
-use Rattle.script_text.specs.Parts.{lacks}
-use Rattle.script_text.proofs.OneMeanings.{IsWordKind}
+use Rattle.plain_texts.specs.Splits.{lacks}
+use Rattle.script_text.specs.inner.FirstWords.{IsWordKind}
 
 abbrev Spaceless : List ℕ → Type 0
 Spaceless text = lacks 32 text ≡ true

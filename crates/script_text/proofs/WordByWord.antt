@@ -4,9 +4,9 @@ use Rattle.std.proofs.lemmas.Bool.{and_parts, false≢true}
 use Rattle.std.proofs.lemmas.List.Folds.{list_all-append}
 use Rattle.script_text.specs.declared.line.Line.{Line}
 use Rattle.script_text.specs.Grammar.{IsFront, Then, Last}
-use Rattle.script_text.specs.Parts.{lacks, IsFirstWord}
-use Rattle.script_text.proofs.Cuts.{same_parts}
-use Rattle.script_text.proofs.OneMeanings.{SaysOne, IsWordKind}
+use Rattle.plain_texts.specs.Splits.{lacks}
+use Rattle.script_text.specs.inner.FirstWords.{IsFirstWord, SaysOne, IsWordKind}
+use Rattle.plain_texts.proofs.Cuts.{same_parts}
 
 no_space : (word rest : List ℕ) → lacks 32 (word ++ 32 ∷ rest) ≡ true → ⊥
 no_space word rest lacking =

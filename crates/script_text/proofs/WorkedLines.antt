@@ -9,9 +9,9 @@ use Rattle.base_kinds.specs.worked.Samples.{plain}
 use Rattle.path_core.specs.PathText.{IsPathText}
 use Rattle.script_text.specs.declared.keywords.Keyword.TheVariants as keywords
 use Rattle.script_text.specs.declared.line.Line.TheVariants as lines
-use Rattle.script_text.specs.Fields.{IsAuthor}
+use Rattle.script_text.specs.Words.{IsAuthor}
 use Rattle.script_text.specs.Grammar.{IsLine}
-use Rattle.script_text.proofs.NameTexts.{name_is_utf8}
+use Rattle.plain_texts.proofs.NameTexts.{name_is_utf8}
 
 author_1 : IsAuthor (codes "1") 1
 unfolding digits

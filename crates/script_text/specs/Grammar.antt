@@ -1,5 +1,5 @@
 -- Which octets are a line of a script, and what it says: a keyword and what belongs to it, with one space between two
--- words.
+-- words. The lines are this project's own.
 use Rattle.std.specs.Prelude.{◌≡◌, ℕ, ◌≤◌, List, [], ◌∷◌, ◌++◌, false, length}
 use Rattle.base_kinds.specs.declared.path.Elem.{Elem}
 use Rattle.base_kinds.specs.declared.operation.Act.{Act}
@@ -12,7 +12,7 @@ use Rattle.script_text.specs.declared.keywords.Keyword.{Keyword}
 use Rattle.script_text.specs.declared.keywords.Keyword.TheVariants as keywords
 use Rattle.script_text.specs.declared.line.Line.{Line}
 use Rattle.script_text.specs.declared.line.Line.TheVariants as lines
-use Rattle.script_text.specs.Fields.{IsKeyword, IsNumber, IsAuthor, IsName, IsSpan, IsSubMode, IsListMode, IsFlag, IsFill, IsRest}
+use Rattle.script_text.specs.Words.{IsKeyword, IsNumber, IsAuthor, IsName, IsSpan, IsSubMode, IsListMode, IsFlag, IsFill, IsRest}
 
 -- a word that says this, a space, and the rest
 pub record IsFront {A : Type 0} (Word : List ℕ → A → Type 0) (octets : List ℕ) (value : A) (rest : List ℕ) : Type 0 where
@@ -47,8 +47,11 @@ IsTimed make = Then IsAuthor (λ author. Then IsValueText (λ id. Last IsSpan (�
 
 -- `HEARTBEAT` behind `change`, and `INTERVAL HEARTBEAT SUPPRESS` behind `sample`
 abbrev pub IsSubscription : List Elem → SubMode → List ℕ → Line → Type 0
-IsSubscription path sub_modes.Change = Last IsNumber (λ heartbeat. lines.Sub (record { path = path; mode = sub_modes.Change; interval = 0; suppress = false; heartbeat = heartbeat }))
-IsSubscription path sub_modes.Sample = Then IsNumber (λ interval. Then IsNumber (λ heartbeat. Last IsFlag (λ suppress. lines.Sub (record { path = path; mode = sub_modes.Sample; interval = interval; suppress = suppress; heartbeat = heartbeat }))))
+IsSubscription path sub_modes.Change =
+    Last IsNumber (λ heartbeat. lines.Sub (record { path = path; mode = sub_modes.Change; interval = 0; suppress = false; heartbeat = heartbeat }))
+IsSubscription path sub_modes.Sample =
+    Then IsNumber (λ interval. Then IsNumber (λ heartbeat. Last IsFlag (λ suppress.
+      lines.Sub (record { path = path; mode = sub_modes.Sample; interval = interval; suppress = suppress; heartbeat = heartbeat }))))
 IsSubscription path sub_modes.Other = λ octets line. ⊥
 
 -- what follows each keyword
@@ -64,14 +67,20 @@ Says keywords.Cancel = IsNamed (λ author id. lines.Cancel author id)
 Says keywords.Extend = IsTimed (λ author id span. lines.Extend author id span)
 Says keywords.Get = Then IsAuthor (λ author. Last IsPathText (λ path. lines.Get author path))
 Says keywords.Sub = Then IsPathText (λ path. Then IsSubMode (λ mode. IsSubscription path mode))
-Says keywords.Open = Then IsAuthor (λ author. Then IsName (λ name. Then IsListMode (λ mode. Last IsFlag (λ only. lines.Open author name mode only))))
+Says keywords.Open =
+    Then IsAuthor (λ author. Then IsName (λ name. Then IsListMode (λ mode. Last IsFlag (λ only.
+      lines.Open author name mode only))))
 Says keywords.Turn = Last IsName (λ name. lines.Turn name)
 Says keywords.Poll = Last IsName (λ name. lines.Poll name)
 Says keywords.End = Last IsName (λ name. lines.End name)
 Says keywords.Stop = Then IsNumber (λ calls. Last IsFill (λ fill. lines.Stop calls fill))
 Says keywords.Fail = Last IsNumber (λ calls. lines.Fail calls)
 
--- the octets are this line, at most 1,048,576 of them without the line feed
+-- so many octets has a line at most, without its line feed
+abbrev pub longest_line : ℕ
+longest_line = 1048576
+
+-- the octets are this line
 pub record IsLine (octets : List ℕ) (line : Line) : Type 0 where
-  pub short : length octets ≤ 1048576
+  pub short : length octets ≤ longest_line
   pub said : Then IsKeyword Says octets line

@@ -1,8 +1,7 @@
-pub mod Examples
-pub mod Fields
 pub mod Grammar
 pub mod Lines
-pub mod Meant
-pub mod Numbers
-pub mod Parts
-pub mod Stay
+pub mod Ranges
+pub mod Words
+pub mod inner
+pub mod laws
+pub mod worked

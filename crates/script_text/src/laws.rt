@@ -1,8 +1,8 @@
 ghost use Rattle.std.specs.Prelude.{◌≡◌, ◌<◌, List, ℕ, length};
 ghost use Rattle.script_text.specs.declared.line.Line.{Line as ScriptLine};
 ghost use Rattle.script_text.specs.Grammar.{IsLine};
-ghost use Rattle.script_text.specs.Meant.{IsMeant};
-ghost use Rattle.script_text.specs.Stay.{FirstLineStays};
+ghost use Rattle.script_text.specs.Ranges.{IsInRange};
+ghost use Rattle.script_text.specs.laws.FirstLines.{FirstLineStays};
 
 /// Octets are one line at most.
 pub fn one_meaning()
@@ -10,8 +10,8 @@ pub fn one_meaning()
 {}
 
 /// The numbers, texts and paths of a line are in their ranges.
-pub fn line_meant()
-    ensures { (octets : List ℕ) (line : ScriptLine) → IsLine octets line → IsMeant line }
+pub fn lines_are_in_range()
+    ensures { (octets : List ℕ) (line : ScriptLine) → IsLine octets line → IsInRange line }
 {}
 
 /// The front of a text decides about its first line the same whatever follows, or that line is at least as long.

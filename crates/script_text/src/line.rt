@@ -19,7 +19,7 @@ pub enum Line {
     Cancel(u32, Text),
     /// `extend A ID SECONDS`: the trial lasts so long from now on.
     Extend(u32, Text, Span),
-    /// `get A PATH`: the rows that this pattern matches are read.
+    /// `get A PATH`: the rows that this pattern covers are read, those at and below what it matches (gNMI 3.3).
     Get(u32, Path),
     /// `sub PATH change HEARTBEAT` or `sub PATH sample INTERVAL HEARTBEAT SUPPRESS`: the pending subscriptions are one
     /// more, with times in nanoseconds.

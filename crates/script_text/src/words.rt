@@ -1,189 +1,202 @@
+// The words of a line: what each kind says.
 ghost use Rattle.std.specs.Prelude.{IfOk, IsErrOf, List, ℕ};
-ghost use Rattle.base_kinds.specs.declared.operation.Act.{Act as Doing};
-ghost use Rattle.base_kinds.specs.declared.path.Elem.{Elem as PathElem};
-ghost use Rattle.base_kinds.specs.declared.request.Span.{Span as Duration};
-ghost use Rattle.script_text.specs.declared.keywords.Keyword.TheVariants as keywords;
-ghost use Rattle.script_text.specs.declared.line.Line.{Line as ScriptLine};
-ghost use Rattle.script_text.specs.Grammar.{IsChange, IsNamed, IsTimed, IsSubscription, Says, IsLine};
+ghost use Rattle.path_core.specs.PathText.{IsPathText, IsValueText};
+ghost use Rattle.script_text.specs.Words.{IsNumber, IsAuthor, IsName, IsSpan, IsSubMode, IsListMode, IsFlag, IsFill};
 
-use crate::fields::{
-    read_author, read_fill, read_flag, read_id, read_number, read_path, read_span,
-};
-use crate::fronts::{
-    first_author, first_id, first_keyword, first_list_mode, first_name, first_number, first_path,
-    first_sub_mode,
-};
-use crate::keywords::Keyword;
-use crate::line::{Line, LineFault};
-use crate::names::read_name;
-use base_kinds::{Act, Bytes, Path, Span, SubLine, SubMode, Text};
+use crate::line::LineFault;
+use base_kinds::{Fill, ListMode, Path, Span, SubMode, Text};
+use path_core::{PathFault, read_path_text, read_value_text};
+use plain_texts::{name_text, natural_of};
 use std::alloc::Global;
 
-/// `PATH`, what follows `delete`.
-fn read_delete(alloc: Global, octets: &[u8]) -> Result<Line, LineFault>
-    ensures ok { IfOk result (λ line. Says keywords.Delete octets.now line) }
-    ensures no_line { IsErrOf result LineFault.NoLine → (line : ScriptLine) → Says keywords.Delete octets.now line → ⊥ }
-{
-    let path = read_path(alloc, octets)?;
-    Ok(Line::Add(Act::Delete, path, Bytes::empty(alloc)))
+/// A kind of word.
+pub(crate) trait Word {
+    /// What such a word says.
+    type Value: Drop;
+
+    ghost spells: { List ℕ → Self.Value → Type 0 };
+
+    fn read(alloc: Global, octets: &[u8]) -> Result<Self::Value, LineFault>
+        ensures ok { IfOk result (λ value. spells octets.now value) }
+        ensures no_line {
+            IsErrOf result LineFault.NoLine → (value : Self.Value) → spells octets.now value → ⊥
+        };
 }
 
-/// `PATH VALUE`, what follows `replace` and `update`.
-fn read_change(alloc: Global, act: Act, octets: &[u8]) -> Result<Line, LineFault>
-    ensures ok { IfOk result (λ line. IsChange act octets.now line) }
-    ensures no_line { IsErrOf result LineFault.NoLine → (line : ScriptLine) → IsChange act octets.now line → ⊥ }
-{
-    let (path, rest) = first_path(alloc, octets)?;
-    let mut value = Bytes::empty(alloc);
-    value.extend_from_slice(rest)?;
-    Ok(Line::Add(act, path, value))
-}
+/// A number of 64 bits.
+pub(crate) struct Number;
 
-/// `A ID`, what follows `confirm` and `cancel`.
-fn read_named(alloc: Global, octets: &[u8]) -> Result<(u32, Text), LineFault>
-    ensures ok { IfOk result (λ read. (make : ℕ → List ℕ → ScriptLine) → IsNamed make octets.now (make read.0 read.1)) }
-    ensures no_line { IsErrOf result LineFault.NoLine → (make : ℕ → List ℕ → ScriptLine) (line : ScriptLine) → IsNamed make octets.now line → ⊥ }
-{
-    let (author, rest) = first_author(octets)?;
-    let id = read_id(alloc, rest)?;
-    Ok((author, id))
-}
+impl Word for Number {
+    type Value = u64;
 
-/// `A ID SECONDS`, what follows `trial` and `extend`.
-fn read_timed(alloc: Global, octets: &[u8]) -> Result<(u32, Text, Span), LineFault>
-    ensures ok { IfOk result (λ read. (make : ℕ → List ℕ → Duration → ScriptLine) → IsTimed make octets.now (make read.0 read.1 read.2)) }
-    ensures no_line { IsErrOf result LineFault.NoLine → (make : ℕ → List ℕ → Duration → ScriptLine) (line : ScriptLine) → IsTimed make octets.now line → ⊥ }
-{
-    let (author, rest) = first_author(octets)?;
-    let (id, seconds) = first_id(alloc, rest)?;
-    let span = read_span(seconds)?;
-    Ok((author, id, span))
-}
+    ghost spells = { IsNumber };
 
-/// `A PATH`, what follows `get`.
-fn read_get(alloc: Global, octets: &[u8]) -> Result<Line, LineFault>
-    ensures ok { IfOk result (λ line. Says keywords.Get octets.now line) }
-    ensures no_line { IsErrOf result LineFault.NoLine → (line : ScriptLine) → Says keywords.Get octets.now line → ⊥ }
-{
-    let (author, rest) = first_author(octets)?;
-    let path = read_path(alloc, rest)?;
-    Ok(Line::Get(author, path))
-}
-
-/// `HEARTBEAT`, what follows `change`.
-fn read_on_change(path: Path, octets: &[u8]) -> Result<Line, LineFault>
-    ensures ok { IfOk result (λ line. IsSubscription path SubMode.Change octets.now line) }
-    ensures no_line { IsErrOf result LineFault.NoLine → (line : ScriptLine) → IsSubscription path SubMode.Change octets.now line → ⊥ }
-{
-    let heartbeat = read_number(octets)?;
-    Ok(Line::Sub(SubLine {
-        path,
-        mode: SubMode::Change,
-        interval: 0,
-        suppress: false,
-        heartbeat,
-    }))
-}
-
-/// `INTERVAL HEARTBEAT SUPPRESS`, what follows `sample`.
-fn read_sampled(path: Path, octets: &[u8]) -> Result<Line, LineFault>
-    ensures ok { IfOk result (λ line. IsSubscription path SubMode.Sample octets.now line) }
-    ensures no_line { IsErrOf result LineFault.NoLine → (line : ScriptLine) → IsSubscription path SubMode.Sample octets.now line → ⊥ }
-{
-    let (interval, rest) = first_number(octets)?;
-    let (heartbeat, flag) = first_number(rest)?;
-    let suppress = read_flag(flag)?;
-    Ok(Line::Sub(SubLine {
-        path,
-        mode: SubMode::Sample,
-        interval,
-        suppress,
-        heartbeat,
-    }))
-}
-
-/// What follows `sub`.
-fn read_sub(alloc: Global, octets: &[u8]) -> Result<Line, LineFault>
-    ensures ok { IfOk result (λ line. Says keywords.Sub octets.now line) }
-    ensures no_line { IsErrOf result LineFault.NoLine → (line : ScriptLine) → Says keywords.Sub octets.now line → ⊥ }
-{
-    let (path, sent) = first_path(alloc, octets)?;
-    let (mode, times) = first_sub_mode(sent)?;
-    match mode {
-        SubMode::Change => read_on_change(path, times),
-        SubMode::Sample => read_sampled(path, times),
-        SubMode::Other => Err(LineFault::NoLine),
+    fn read(_alloc: Global, octets: &[u8]) -> Result<u64, LineFault> {
+        match natural_of(octets) {
+            Some(number) => Ok(number),
+            None => Err(LineFault::NoLine),
+        }
     }
 }
 
-/// `A NAME MODE ONLY`, what follows `open`.
-fn read_open(alloc: Global, octets: &[u8]) -> Result<Line, LineFault>
-    ensures ok { IfOk result (λ line. Says keywords.Open octets.now line) }
-    ensures no_line { IsErrOf result LineFault.NoLine → (line : ScriptLine) → Says keywords.Open octets.now line → ⊥ }
-{
-    let (author, rest) = first_author(octets)?;
-    let (name, rest) = first_name(alloc, rest)?;
-    let (mode, flag) = first_list_mode(rest)?;
-    let only = read_flag(flag)?;
-    Ok(Line::Open(author, name, mode, only))
-}
+/// The author of a request.
+pub(crate) struct Author;
 
-/// `K F`, what follows `stop`.
-fn read_stop(octets: &[u8]) -> Result<Line, LineFault>
-    ensures ok { IfOk result (λ line. Says keywords.Stop octets.now line) }
-    ensures no_line { IsErrOf result LineFault.NoLine → (line : ScriptLine) → Says keywords.Stop octets.now line → ⊥ }
-{
-    let (calls, rest) = first_number(octets)?;
-    let fill = read_fill(rest)?;
-    Ok(Line::Stop(calls, fill))
-}
+impl Word for Author {
+    type Value = u32;
 
-/// What follows the keyword.
-fn read_said(alloc: Global, keyword: Keyword, octets: &[u8]) -> Result<Line, LineFault>
-    ensures ok { IfOk result (λ line. Says keyword octets.now line) }
-    ensures no_line { IsErrOf result LineFault.NoLine → (line : ScriptLine) → Says keyword octets.now line → ⊥ }
-{
-    match keyword {
-        Keyword::At => Ok(Line::At(read_number(octets)?)),
-        Keyword::Delete => read_delete(alloc, octets),
-        Keyword::Replace => read_change(alloc, Act::Replace, octets),
-        Keyword::Update => read_change(alloc, Act::Update, octets),
-        Keyword::Set => Ok(Line::Set(read_author(octets)?)),
-        Keyword::Trial => {
-            let (author, id, span) = read_timed(alloc, octets)?;
-            Ok(Line::Trial(author, id, span))
+    ghost spells = { IsAuthor };
+
+    #[tactic(auto, using(crate::proofs::OneMeanings::no_author))]
+    fn read(alloc: Global, octets: &[u8]) -> Result<u32, LineFault> {
+        let number = Number::read(alloc, octets)?;
+        if number == 0 || number > 4_294_967_295 {
+            return Err(LineFault::NoLine);
         }
-        Keyword::Confirm => {
-            let (author, id) = read_named(alloc, octets)?;
-            Ok(Line::Confirm(author, id))
-        }
-        Keyword::Cancel => {
-            let (author, id) = read_named(alloc, octets)?;
-            Ok(Line::Cancel(author, id))
-        }
-        Keyword::Extend => {
-            let (author, id, span) = read_timed(alloc, octets)?;
-            Ok(Line::Extend(author, id, span))
-        }
-        Keyword::Get => read_get(alloc, octets),
-        Keyword::Sub => read_sub(alloc, octets),
-        Keyword::Open => read_open(alloc, octets),
-        Keyword::Turn => Ok(Line::Turn(read_name(alloc, octets)?)),
-        Keyword::Poll => Ok(Line::Poll(read_name(alloc, octets)?)),
-        Keyword::End => Ok(Line::End(read_name(alloc, octets)?)),
-        Keyword::Stop => read_stop(octets),
-        Keyword::Fail => Ok(Line::Fail(read_number(octets)?)),
+        Ok(number as u32)
     }
 }
 
-/// The line that the octets are.
-pub fn read_line(alloc: Global, octets: &[u8]) -> Result<Line, LineFault>
-    ensures ok { IfOk result (λ line. IsLine octets.now line) }
-    ensures no_line { IsErrOf result LineFault.NoLine → (line : ScriptLine) → IsLine octets.now line → ⊥ }
-{
-    if octets.len() > 1_048_576 {
-        return Err(LineFault::NoLine);
+/// The id of a trial.
+pub(crate) struct Id;
+
+impl Word for Id {
+    type Value = Text;
+
+    ghost spells = { IsValueText };
+
+    fn read(alloc: Global, octets: &[u8]) -> Result<Text, LineFault> {
+        match read_value_text(alloc, octets) {
+            Ok(id) => Ok(id),
+            Err(PathFault::BadPath) => Err(LineFault::NoLine),
+            Err(PathFault::NoMemory) => Err(LineFault::NoMemory),
+        }
     }
-    let (keyword, rest) = first_keyword(octets)?;
-    read_said(alloc, keyword, rest)
+}
+
+/// A path.
+pub(crate) struct PathText;
+
+impl Word for PathText {
+    type Value = Path;
+
+    ghost spells = { IsPathText };
+
+    fn read(alloc: Global, octets: &[u8]) -> Result<Path, LineFault> {
+        match read_path_text(alloc, octets) {
+            Ok(path) => Ok(path),
+            Err(PathFault::BadPath) => Err(LineFault::NoLine),
+            Err(PathFault::NoMemory) => Err(LineFault::NoMemory),
+        }
+    }
+}
+
+/// The name of a call.
+pub(crate) struct Name;
+
+impl Word for Name {
+    type Value = Text;
+
+    ghost spells = { IsName };
+
+    fn read(alloc: Global, octets: &[u8]) -> Result<Text, LineFault> {
+        match name_text(alloc, octets)? {
+            Some(name) => Ok(name),
+            None => Err(LineFault::NoLine),
+        }
+    }
+}
+
+/// A duration.
+pub(crate) struct Seconds;
+
+impl Word for Seconds {
+    type Value = Span;
+
+    ghost spells = { IsSpan };
+
+    fn read(alloc: Global, octets: &[u8]) -> Result<Span, LineFault> {
+        if octets == b"-".as_slice() {
+            return Ok(Span::Absent);
+        }
+        let number = Number::read(alloc, octets)?;
+        let seconds = number.min(9_223_372_036_854_775_807) as i64;
+        Ok(Span::Of(seconds, 0))
+    }
+}
+
+/// When a subscription sends.
+pub(crate) struct SendMode;
+
+impl Word for SendMode {
+    type Value = SubMode;
+
+    ghost spells = { IsSubMode };
+
+    fn read(_alloc: Global, octets: &[u8]) -> Result<SubMode, LineFault> {
+        match octets {
+            b"change" => Ok(SubMode::Change),
+            b"sample" => Ok(SubMode::Sample),
+            _ => Err(LineFault::NoLine),
+        }
+    }
+}
+
+/// The mode of a call.
+pub(crate) struct CallMode;
+
+impl Word for CallMode {
+    type Value = ListMode;
+
+    ghost spells = { IsListMode };
+
+    fn read(_alloc: Global, octets: &[u8]) -> Result<ListMode, LineFault> {
+        match octets {
+            b"stream" => Ok(ListMode::Stream),
+            b"once" => Ok(ListMode::Once),
+            b"poll" => Ok(ListMode::Poll),
+            _ => Err(LineFault::NoLine),
+        }
+    }
+}
+
+/// 0 or 1.
+pub(crate) struct Flag;
+
+impl Word for Flag {
+    type Value = bool;
+
+    ghost spells = { IsFlag };
+
+    fn read(_alloc: Global, octets: &[u8]) -> Result<bool, LineFault> {
+        match octets {
+            b"0" => Ok(false),
+            b"1" => Ok(true),
+            _ => Err(LineFault::NoLine),
+        }
+    }
+}
+
+/// What a stop leaves.
+pub(crate) struct DiskFill;
+
+impl Word for DiskFill {
+    type Value = Fill;
+
+    ghost spells = { IsFill };
+
+    #[tactic(auto, using(crate::proofs::OneMeanings::no_fill))]
+    fn read(alloc: Global, octets: &[u8]) -> Result<Fill, LineFault> {
+        if octets == b"old".as_slice() {
+            return Ok(Fill::Old);
+        }
+        if octets == b"new".as_slice() {
+            return Ok(Fill::New);
+        }
+        let octet = Number::read(alloc, octets)?;
+        if octet > 255 {
+            return Err(LineFault::NoLine);
+        }
+        Ok(Fill::Octet(octet as u8))
+    }
 }

@@ -2,7 +2,7 @@ use Rattle.std.proofs.Common.{sym, ap, ◌∙◌, arith}
 use Rattle.std.proofs.lemmas.Result.{err_from_is_err_and}
 use Rattle.base_kinds.specs.Texts.{key_part}
 use Rattle.path_core.specs.PathText.{name_cmp, IsKey}
-use Rattle.path_core.specs.Reading.{ends_below}
+use Rattle.path_core.specs.inner.Reading.{ends_below}
 use Rattle.path_core.proofs.Runs.{run_more, all_more}
 use Rattle.path_core.proofs.Passed.{passed_on}
 use Rattle.path_core.proofs.Keys.{no_key_left, key_out_of_order, rises_more}

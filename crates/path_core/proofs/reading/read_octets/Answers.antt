@@ -1,6 +1,6 @@
 use Rattle.std.proofs.Common.{◌<◌, arith}
 use Rattle.base_kinds.specs.Texts.{octet_text}
-use Rattle.path_core.specs.Reading.{test_of}
+use Rattle.path_core.specs.inner.Reading.{test_of}
 use Rattle.path_core.proofs.Runs.{run_more, all_more}
 use Rattle.path_core.proofs.reading.read_octets.Goals as goal
 

@@ -1,6 +1,6 @@
 use Rattle.std.proofs.Common.{◌≡◌, ◌++◌, take}
 use Rattle.base_kinds.specs.Texts.{escaped}
-use Rattle.path_core.specs.Reading.{test_of}
+use Rattle.path_core.specs.inner.Reading.{test_of}
 use Rattle.path_core.proofs.writing.write_octets.Given as goal
 
 abbrev pub invariant-loop-octet : goal.invariant-loop-octet

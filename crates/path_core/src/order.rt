@@ -1,0 +1,14 @@
+// The order of paths.
+ghost use Rattle.std.specs.Prelude.{◌≡◌};
+ghost use Rattle.base_kinds.specs.Paths.{path_cmp};
+
+use base_kinds::Path;
+use std::cmp::Ordering;
+
+/// Compares element by element: by name, and then by the keys, pair by pair, all as octets. A front of a path comes
+/// before it. Takes no memory.
+pub fn cmp_paths(a: &Path, b: &Path) -> Ordering
+    ensures { result ≡ path_cmp a.now b.now }
+{
+    a.cmp(b)
+}

@@ -1,0 +1,318 @@
+// The texts of schemas: each cause, each limit, and a schema that is read.
+use schema_text::{Cause, SchemaError, read_schema};
+use std::alloc::Global;
+use std::test::Fail;
+
+/// The line and the cause of a text's fault, where it has one; line 0 stands for want of memory.
+fn fault_of(alloc: Global, text: &[u8]) -> Option<(u32, Cause)> {
+    match read_schema(alloc, text) {
+        Ok(_) => None,
+        Err(SchemaError::Fault(fault)) => Some((fault.line, fault.cause)),
+        Err(SchemaError::NoMemory) => Some((0, Cause::TooLarge)),
+    }
+}
+
+const FAULTS: &[(&str, u32, Cause)] = &[
+    ("\n# c\nmodule m\nnode /a\n", 4, Cause::Syntax),
+    ("container a\n", 1, Cause::Syntax),
+    ("container /a\n", 1, Cause::NoModule),
+    ("\nleaf /a/b string\nmodule m\n", 2, Cause::NoModule),
+    ("module m\nleaf /a/b string\n", 2, Cause::NoParent),
+    (
+        "module m\nleaf /a string\nleaf /a/b string\n",
+        3,
+        Cause::NoParent,
+    ),
+    (
+        "module m\nleaf-list /a string\nleaf /a/b string\n",
+        3,
+        Cause::NoParent,
+    ),
+    (
+        "module m\ncontainer /a/b\ncontainer /a\n",
+        2,
+        Cause::NoParent,
+    ),
+    ("module m\nleaf /a/b string\nnode\n", 2, Cause::NoParent),
+    ("module m\nnode\nleaf /a/b string\n", 2, Cause::Syntax),
+    ("module m\ncontainer /a\nleaf /a string\n", 3, Cause::Twice),
+    (
+        "module m\nleaf /a int8\nmodule n\nleaf /a int8\n",
+        4,
+        Cause::Twice,
+    ),
+    (
+        "module m\nleaf /a int8\nleaf /a int8\nleaf /b/c int8\n",
+        3,
+        Cause::Twice,
+    ),
+    ("module m\nlist /a k\n", 2, Cause::NoKey),
+    (
+        "module m\nlist /a k\nmodule n\nleaf /a/k string\n",
+        2,
+        Cause::NoKey,
+    ),
+    ("module m\nlist /a k\ncontainer /a/k\n", 2, Cause::NoKey),
+    (
+        "module m\nlist /a k,j\nleaf /a/k string\nleaf /j string\n",
+        2,
+        Cause::NoKey,
+    ),
+    ("module m\nlist /a a,b,c,d,e,f,g,h\n", 2, Cause::NoKey),
+    ("module m\nleaf /a string ref /b\n", 2, Cause::BadRef),
+    (
+        "module m\nleaf /a string ref /b\nleaf /b binary\n",
+        2,
+        Cause::BadRef,
+    ),
+    (
+        "module m\nleaf /a uint8 ref /b\nleaf /b int8\n",
+        2,
+        Cause::BadRef,
+    ),
+    (
+        "module m\nleaf /a enum(x|y) ref /b\nleaf /b enum(y|x)\n",
+        2,
+        Cause::BadRef,
+    ),
+    (
+        "module m\nleaf /a string ref /b\nleaf-list /b string\n",
+        2,
+        Cause::BadRef,
+    ),
+    (
+        "module m\nleaf /r int8 ref /x\nlist /a k\n",
+        2,
+        Cause::BadRef,
+    ),
+    (
+        "module m\nlist /a k\nleaf /r int8 ref /x\n",
+        2,
+        Cause::NoKey,
+    ),
+    (
+        "module m\nlist /a k\nleaf /r int8 ref /x\nnode\n",
+        4,
+        Cause::Syntax,
+    ),
+];
+
+#[test]
+fn the_first_fault_is_told(rt: HostRuntime) {
+    for (text, line, cause) in FAULTS.iter().copied() {
+        assert_eq!(rt;
+            fault_of(rt.alloc(), text.as_bytes()),
+            Some((line, cause)),
+            "{text}"
+        );
+    }
+}
+
+const NO_LINES: &[&str] = &[
+    "module m\r\n",
+    "module\tm\n",
+    "module  m\n",
+    "module m \n",
+    " module m\n",
+    "Module m\n",
+    "module\n",
+    "module m n\n",
+    "module 1m\n",
+    "module é\n",
+    "module m",
+    "#",
+    "container\n",
+    "container /\n",
+    "container a\n",
+    "container //a\n",
+    "container /a/\n",
+    "container /a//b\n",
+    "container /-a\n",
+    "container /a max 1\n",
+    "list /a\n",
+    "list /a \n",
+    "list /a k,\n",
+    "list /a ,k\n",
+    "list /a k,k\n",
+    "list /a k, j\n",
+    "list /a a,b,c,d,e,f,g,h,i\n",
+    "list /a k max\n",
+    "list /a k max 0\n",
+    "list /a k max 01\n",
+    "list /a k max +1\n",
+    "list /a k max 65537\n",
+    "list /a k max 18446744073709551617\n",
+    "list /a k max 1 1\n",
+    "list /a k min 1\n",
+    "leaf /a\n",
+    "leaf /a bool8\n",
+    "leaf /a int7\n",
+    "leaf /a int\n",
+    "leaf /a dec\n",
+    "leaf /a dec0\n",
+    "leaf /a dec01\n",
+    "leaf /a dec19\n",
+    "leaf /a enum\n",
+    "leaf /a enum()\n",
+    "leaf /a enum(\n",
+    "leaf /a enum)\n",
+    "leaf /a enum(a|)\n",
+    "leaf /a enum(a||b)\n",
+    "leaf /a enum(a|b|a)\n",
+    "leaf /a enum(a b)\n",
+    "leaf /a enum(a/b)\n",
+    "leaf /a enum(a))\n",
+    "leaf /a string max 1\n",
+    "leaf /a string mandatory mandatory\n",
+    "leaf /a string ref\n",
+    "leaf /a string ref b\n",
+    "leaf /a string ref /b mandatory\n",
+    "leaf-list /a string mandatory\n",
+    "leaf-list /a string ref /b\n",
+];
+
+#[test]
+fn other_lines_are_no_lines(rt: HostRuntime) {
+    for text in NO_LINES.iter().copied() {
+        assert_eq!(rt;
+            fault_of(rt.alloc(), text.as_bytes()),
+            Some((1, Cause::Syntax)),
+            "{text}"
+        );
+    }
+}
+
+/// The front, so many middles and the end.
+fn joined(
+    alloc: Global,
+    front: &[u8],
+    middle: &[u8],
+    times: u32,
+    end: &[u8],
+) -> Result<Vec<u8>, Fail> {
+    let mut text = Vec::new(alloc);
+    text.extend_from_slice(front)?;
+    for _ in 0..times {
+        text.extend_from_slice(middle)?;
+    }
+    text.extend_from_slice(end)?;
+    Ok(text)
+}
+
+const LIMITS: &[(&str, &str, u32, &str, Option<(u32, Cause)>)] = &[
+    ("module ", "n", 64, "\n", None),
+    ("module ", "n", 65, "\n", Some((1, Cause::Syntax))),
+    (
+        "module m\nleaf ",
+        "/a",
+        32,
+        " bool\n",
+        Some((2, Cause::NoParent)),
+    ),
+    (
+        "module m\nleaf ",
+        "/a",
+        33,
+        " bool\n",
+        Some((2, Cause::Syntax)),
+    ),
+    ("#", "x", 1023, "\n", None),
+    ("#", "x", 1024, "\n", Some((1, Cause::TooLarge))),
+    ("?", "x", 1024, "\n", Some((1, Cause::TooLarge))),
+    ("#", "x", 1023, "", Some((1, Cause::Syntax))),
+    ("#", "x", 1024, "", Some((1, Cause::TooLarge))),
+];
+
+#[test]
+fn limits_of_names_paths_and_lines(rt: HostRuntime) -> Result<(), Fail> {
+    for (front, middle, times, end, fault) in LIMITS.iter().copied() {
+        let text = joined(
+            rt.alloc(),
+            front.as_bytes(),
+            middle.as_bytes(),
+            times,
+            end.as_bytes(),
+        )?;
+        assert_eq!(rt;
+            fault_of(rt.alloc(), &text),
+            fault,
+            "{front}{middle} x {times}"
+        );
+    }
+    Ok(())
+}
+
+const LONG_TEXTS: &[(&str, &str, Option<(u32, Cause)>)] = &[
+    ("", "", None),
+    ("", "\n", Some((1025, Cause::TooLarge))),
+    ("", "x", Some((1025, Cause::TooLarge))),
+    ("\n", "", Some((1025, Cause::TooLarge))),
+];
+
+/// 1,024 lines of 1,023 octets and a line feed are the longest text.
+#[test]
+fn limits_of_a_text(rt: HostRuntime) -> Result<(), Fail> {
+    let line = joined(rt.alloc(), b"#", b"x", 1022, b"\n")?;
+    for (front, end, fault) in LONG_TEXTS.iter().copied() {
+        let text = joined(rt.alloc(), front.as_bytes(), &line, 1024, end.as_bytes())?;
+        assert_eq!(rt; fault_of(rt.alloc(), &text), fault, "{front}{end}");
+    }
+    Ok(())
+}
+
+const LETTERS: &[u8; 64] = b"ABCDEFGHIJKLMNOPQRSTUVWXYZabcdefghijklmnopqrstuvwxyz0123456789_.";
+
+/// So many different texts of two octets, each between these.
+fn letters(alloc: Global, front: &[u8], count: u32, behind: &[u8]) -> Result<Vec<u8>, Fail> {
+    let mut text = Vec::new(alloc);
+    for number in 0..count {
+        text.extend_from_slice(front)?;
+        text.push(LETTERS[(number / 64 % 64) as usize])?;
+        text.push(LETTERS[(number % 64) as usize])?;
+        text.extend_from_slice(behind)?;
+    }
+    Ok(text)
+}
+
+const ENUMS: &[(u32, Option<(u32, Cause)>)] = &[(255, None), (256, Some((2, Cause::Syntax)))];
+
+#[test]
+fn limits_of_enums(rt: HostRuntime) -> Result<(), Fail> {
+    for (count, fault) in ENUMS.iter().copied() {
+        let texts = letters(rt.alloc(), b"", count, b"|")?;
+        let text = joined(rt.alloc(), b"module m\nleaf /a enum(", &texts, 1, b"z)\n")?;
+        assert_eq!(rt; fault_of(rt.alloc(), &text), fault, "{count}");
+    }
+    Ok(())
+}
+
+const LAST_LINES: &[(&str, Option<(u32, Cause)>)] = &[
+    ("# c\n\nmodule n\n", None),
+    ("leaf /z bool\n", Some((4098, Cause::TooLarge))),
+    ("leaf /z/z bool\n", Some((4098, Cause::TooLarge))),
+    ("leaf /aAA bool\n", Some((4098, Cause::TooLarge))),
+    ("leaf /z bol\n", Some((4098, Cause::Syntax))),
+];
+
+#[test]
+fn limits_of_nodes(rt: HostRuntime) -> Result<(), Fail> {
+    let leaves = letters(rt.alloc(), b"leaf /a", 4096, b" bool\n")?;
+    for (more, fault) in LAST_LINES.iter().copied() {
+        let text = joined(rt.alloc(), b"module m\n", &leaves, 1, more.as_bytes())?;
+        assert_eq!(rt; fault_of(rt.alloc(), &text), fault, "{more}");
+    }
+    Ok(())
+}
+
+const SYSTEM: &str =
+    "module openconfig-system\ncontainer /system\ncontainer /system/config\nleaf /system/config/hostname string\nleaf /system/config/motd string\nmodule openconfig-interfaces\ncontainer /interfaces\nlist /interfaces/interface name\nleaf /interfaces/interface/name string\ncontainer /interfaces/interface/config\nleaf /interfaces/interface/config/mtu uint16\nleaf /interfaces/interface/config/description string\nleaf /interfaces/interface/config/enabled bool\nmodule lab\ncontainer /lab\nleaf /lab/big uint64\nleaf /lab/rate dec2\nleaf /lab/blob binary\nleaf-list /lab/tags string\nleaf /lab/via string ref /interfaces/interface/name\n";
+
+#[test]
+fn a_schema_of_three_modules_has_17_nodes(rt: HostRuntime) -> Result<(), Fail> {
+    let schema = read_schema(rt.alloc(), SYSTEM.as_bytes())
+        .ok()
+        .ok_or("a schema")?;
+    assert_eq!(rt; schema.nodes(), 17);
+    assert_eq!(rt; Cause::NoParent.text(), b"no parent".as_slice());
+    Ok(())
+}

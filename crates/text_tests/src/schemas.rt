@@ -1,0 +1,190 @@
+// Schemas: nodes by their names.
+use schema_core::{MOST_NODES, Node, NodeId, Schema};
+use base_kinds::{Copied, Elem, Keys, Path, Same, Shape, Text, Texts};
+use std::alloc::Global;
+use std::process::Abort;
+use std::test::Fail;
+
+/// The module, the names and the sort or the shape of each node: parts of two OpenConfig modules, and the other shapes.
+const EXAMPLE: &[(&str, &str, &str)] = &[
+    ("system", "system", "container"),
+    ("system", "system config", "container"),
+    ("system", "system config hostname", "string"),
+    ("system", "system config motd", "string"),
+    ("interfaces", "interfaces", "container"),
+    ("interfaces", "interfaces interface", "list"),
+    ("interfaces", "interfaces interface name", "string"),
+    ("interfaces", "interfaces interface config", "container"),
+    ("interfaces", "interfaces interface config mtu", "uint16"),
+    (
+        "interfaces",
+        "interfaces interface config description",
+        "string",
+    ),
+    ("interfaces", "interfaces interface config enabled", "bool"),
+    ("lab", "lab", "container"),
+    ("lab", "lab big", "uint64"),
+    ("lab", "lab rate", "dec2"),
+    ("lab", "lab blob", "binary"),
+    ("lab", "lab tags", "leaf-list"),
+    ("lab", "lab via", "reference"),
+];
+
+fn text_of(rt: &impl Abort, alloc: Global, word: &str) -> Text {
+    Text::of(alloc, word.as_bytes()).expect(rt, "a text")
+}
+
+fn texts_of(rt: &impl Abort, alloc: Global, line: &str) -> Texts {
+    let mut texts = Texts::empty(alloc);
+    for word in line.split_whitespace() {
+        texts.push(text_of(rt, alloc, word)).expect(rt, "memory");
+    }
+    texts
+}
+
+/// The path of elements with these names, each with a key of this value.
+fn path_of(rt: &impl Abort, alloc: Global, line: &str, value: &str) -> Path {
+    let mut path = Path::empty(alloc);
+    for word in line.split_whitespace() {
+        let mut keys = Keys::empty(alloc);
+        let key = (text_of(rt, alloc, "name"), text_of(rt, alloc, value));
+        keys.push(key).expect(rt, "memory");
+        let name = text_of(rt, alloc, word);
+        path.push(Elem { name, keys }).expect(rt, "memory");
+    }
+    path
+}
+
+fn shape_of(word: &str) -> Shape {
+    match word {
+        "bool" => Shape::Bool,
+        "uint16" => Shape::Uint(16),
+        "uint64" => Shape::Uint(64),
+        "dec2" => Shape::Dec(2),
+        "binary" => Shape::Bin,
+        _ => Shape::Text,
+    }
+}
+
+fn node_of(rt: &impl Abort, alloc: Global, module: &str, line: &str, word: &str) -> Node {
+    let module = text_of(rt, alloc, module);
+    let names = texts_of(rt, alloc, line);
+    match word {
+        "container" => Node::container(alloc, module, names),
+        "list" => Node::list(module, names, texts_of(rt, alloc, "name"), Some(7)),
+        "leaf-list" => Node::leaf_list(alloc, module, names, Shape::Text, Some(9)),
+        "reference" => {
+            let other = texts_of(rt, alloc, "interfaces interface name");
+            Node::leaf(alloc, module, names, Shape::Text, true, Some(other))
+        }
+        _ => Node::leaf(alloc, module, names, shape_of(word), false, None),
+    }
+}
+
+fn put(rt: &impl Abort, schema: &mut Schema, node: Node) {
+    let is_room = schema.nodes() < MOST_NODES;
+    let has_parent = schema.has_parent(node.names().items());
+    let found = schema.find_names(node.names().items());
+    assert!(rt; is_room && has_parent && found.is_none(), "a place");
+    schema.add(node).expect(rt, "memory");
+}
+
+fn example(rt: &impl Abort, alloc: Global) -> Schema {
+    let mut schema = Schema::empty(alloc);
+    for (module, line, word) in EXAMPLE.iter().copied() {
+        put(rt, &mut schema, node_of(rt, alloc, module, line, word));
+    }
+    schema
+}
+
+#[test]
+fn nodes_are_found_by_names_whatever_the_keys(rt: HostRuntime) {
+    let alloc = rt.alloc();
+    let schema = example(&rt, alloc);
+    let mut number = 0;
+    for (module, line, word) in EXAMPLE.iter().copied() {
+        let id = schema
+            .find(&path_of(&rt, alloc, line, word))
+            .expect(&rt, "a node");
+        assert_eq!(rt; id, NodeId(number), "{line}");
+        let is_inner = word == "container" || word == "list";
+        assert_eq!(rt; schema.shape_of(id).is_none(), is_inner, "{line}");
+        assert_eq!(rt; schema.module_of(id).octets(), module.as_bytes());
+        assert_eq!(rt; schema.keys_of(id).is_empty(), word != "list");
+        number = 17.min(number + 1);
+    }
+    assert_eq!(rt; schema.nodes(), 17);
+}
+
+const OTHERS: &[&str] = &[
+    "",
+    "syste",
+    "systems",
+    "System",
+    "config",
+    "a",
+    "zone",
+    "system name",
+    "lab lab",
+    "lab vi",
+    "system config hostname x",
+    "interfaces interface mtu",
+];
+
+#[test]
+fn other_names_are_those_of_no_node(rt: HostRuntime) {
+    let alloc = rt.alloc();
+    let schema = example(&rt, alloc);
+    for line in OTHERS.iter().copied() {
+        let found = schema.find(&path_of(&rt, alloc, line, "r1"));
+        assert!(rt; found.is_none(), "{line}");
+    }
+}
+
+const PLACES: &[(&str, bool)] = &[
+    ("", false),
+    ("new", true),
+    ("lab new", true),
+    ("interfaces interface new", true),
+    ("new new", false),
+    ("lab tags new", false),
+    ("lab via new", false),
+];
+
+#[test]
+fn a_name_has_its_place_below_an_inner_node(rt: HostRuntime) {
+    let alloc = rt.alloc();
+    let schema = example(&rt, alloc);
+    for (line, has_parent) in PLACES.iter().copied() {
+        let names = texts_of(&rt, alloc, line);
+        assert_eq!(rt; schema.has_parent(names.items()), has_parent, "{line}");
+    }
+}
+
+#[test]
+fn a_child_has_one_name_more(rt: HostRuntime) {
+    let alloc = rt.alloc();
+    let schema = example(&rt, alloc);
+    let above = schema.child_of(None, b"interfaces");
+    assert_eq!(rt; above, Some(NodeId(4)));
+    let list = schema.child_of(above, b"interface");
+    assert_eq!(rt; list, Some(NodeId(5)));
+    assert_eq!(rt; schema.child_of(list, b"name"), Some(NodeId(6)));
+    assert_eq!(rt; schema.child_of(list, b"mtu"), None);
+    assert_eq!(rt; schema.child_of(None, b"name"), None);
+}
+
+#[test]
+fn a_copy_has_all_of_each_node(rt: HostRuntime) -> Result<(), Fail> {
+    let alloc = rt.alloc();
+    let copy = example(&rt, alloc).copy(alloc)?;
+    let lab = copy.child_of(None, b"lab");
+    let via = copy.node(copy.child_of(lab, b"via").ok_or("via")?);
+    assert!(rt; via.is_mandatory());
+    let reference = via.reference().ok_or("a reference")?;
+    assert!(rt; reference.same(&texts_of(&rt, alloc, "interfaces interface name")));
+    let tags = copy.node(copy.child_of(lab, b"tags").ok_or("tags")?);
+    assert_eq!(rt; tags.maximum(), Some(9));
+    assert!(rt; !tags.is_mandatory());
+    Ok(())
+}
