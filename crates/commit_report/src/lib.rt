@@ -8,4 +8,5 @@ mod log;
 mod rows;
 
 pub use log::put_log;
+pub use plain_texts::{put_number, put_number_line};
 pub use rows::put_rows;

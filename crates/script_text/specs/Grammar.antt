@@ -51,7 +51,7 @@ IsSubscription path sub_modes.Change =
     Last IsNumber (λ heartbeat. lines.Sub (record { path = path; mode = sub_modes.Change; interval = 0; suppress = false; heartbeat = heartbeat }))
 IsSubscription path sub_modes.Sample =
     Then IsNumber (λ interval. Then IsNumber (λ heartbeat. Last IsFlag (λ suppress.
-      lines.Sub (record { path = path; mode = sub_modes.Sample; interval = interval; suppress = suppress; heartbeat = heartbeat }))))
+    lines.Sub (record { path = path; mode = sub_modes.Sample; interval = interval; suppress = suppress; heartbeat = heartbeat }))))
 IsSubscription path sub_modes.Other = λ octets line. ⊥
 
 -- what follows each keyword
@@ -69,7 +69,7 @@ Says keywords.Get = Then IsAuthor (λ author. Last IsPathText (λ path. lines.Ge
 Says keywords.Sub = Then IsPathText (λ path. Then IsSubMode (λ mode. IsSubscription path mode))
 Says keywords.Open =
     Then IsAuthor (λ author. Then IsName (λ name. Then IsListMode (λ mode. Last IsFlag (λ only.
-      lines.Open author name mode only))))
+    lines.Open author name mode only))))
 Says keywords.Turn = Last IsName (λ name. lines.Turn name)
 Says keywords.Poll = Last IsName (λ name. lines.Poll name)
 Says keywords.End = Last IsName (λ name. lines.End name)

@@ -55,10 +55,8 @@ pub(crate) fn first<W: SpacedWord>(
     octets: &[u8],
 ) -> Result<(W::Value, &[u8]), LineFault>
     ensures ok { IfOk result (λ read. IsFront W.spells octets.now read.0 read.1.now) }
-    ensures no_line {
-        IsErrOf result LineFault.NoLine →
-            (value : W.Value) (rest : List ℕ) → IsFront W.spells octets.now value rest → ⊥
-    }
+    ensures no_line { IsErrOf result LineFault.NoLine →
+        (value : W.Value) (rest : List ℕ) → IsFront W.spells octets.now value rest → ⊥ }
 {
     let Some((word, rest)) = split_word(octets) else {
         return Err(LineFault::NoLine);

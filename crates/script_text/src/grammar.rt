@@ -10,17 +10,17 @@ ghost use Rattle.script_text.specs.Grammar.{IsChange, IsNamed, IsTimed, IsSubscr
 use crate::first_word::first;
 use crate::keywords::Keyword;
 use crate::line::{Line, LineFault};
-use crate::words::{Author, CallMode, DiskFill, Flag, Id, Name, Number, PathText, Seconds, SendMode, Word};
+use crate::words::{
+    Author, CallMode, DiskFill, Flag, Id, Name, Number, PathText, Seconds, SendMode, Word,
+};
 use base_kinds::{Act, Bytes, Path, Span, SubLine, SubMode, Text};
 use std::alloc::Global;
 
 /// `PATH`, what follows `delete`.
 fn read_delete(alloc: Global, octets: &[u8]) -> Result<Line, LineFault>
     ensures ok { IfOk result (λ line. Says keywords.Delete octets.now line) }
-    ensures no_line {
-        IsErrOf result LineFault.NoLine →
-            (line : ScriptLine) → Says keywords.Delete octets.now line → ⊥
-    }
+    ensures no_line { IsErrOf result LineFault.NoLine →
+        (line : ScriptLine) → Says keywords.Delete octets.now line → ⊥ }
 {
     let path = PathText::read(alloc, octets)?;
     Ok(Line::Add(Act::Delete, path, Bytes::empty(alloc)))
@@ -29,9 +29,7 @@ fn read_delete(alloc: Global, octets: &[u8]) -> Result<Line, LineFault>
 /// `PATH VALUE`, what follows `replace` and `update`.
 fn read_change(alloc: Global, act: Act, octets: &[u8]) -> Result<Line, LineFault>
     ensures ok { IfOk result (λ line. IsChange act octets.now line) }
-    ensures no_line {
-        IsErrOf result LineFault.NoLine → (line : ScriptLine) → IsChange act octets.now line → ⊥
-    }
+    ensures no_line { IsErrOf result LineFault.NoLine → (line : ScriptLine) → IsChange act octets.now line → ⊥ }
 {
     let (path, rest) = first::<PathText>(alloc, octets)?;
     let mut value = Bytes::empty(alloc);
@@ -41,13 +39,9 @@ fn read_change(alloc: Global, act: Act, octets: &[u8]) -> Result<Line, LineFault
 
 /// `A ID`, what follows `confirm` and `cancel`.
 fn read_named(alloc: Global, octets: &[u8]) -> Result<(u32, Text), LineFault>
-    ensures ok {
-        IfOk result (λ read. (make : ℕ → List ℕ → ScriptLine) → IsNamed make octets.now (make read.0 read.1))
-    }
-    ensures no_line {
-        IsErrOf result LineFault.NoLine →
-            (make : ℕ → List ℕ → ScriptLine) (line : ScriptLine) → IsNamed make octets.now line → ⊥
-    }
+    ensures ok { IfOk result (λ read. (make : ℕ → List ℕ → ScriptLine) → IsNamed make octets.now (make read.0 read.1)) }
+    ensures no_line { IsErrOf result LineFault.NoLine →
+        (make : ℕ → List ℕ → ScriptLine) (line : ScriptLine) → IsNamed make octets.now line → ⊥ }
 {
     let (author, rest) = first::<Author>(alloc, octets)?;
     let id = Id::read(alloc, rest)?;
@@ -56,13 +50,9 @@ fn read_named(alloc: Global, octets: &[u8]) -> Result<(u32, Text), LineFault>
 
 /// `A ID SECONDS`, what follows `trial` and `extend`.
 fn read_timed(alloc: Global, octets: &[u8]) -> Result<(u32, Text, Span), LineFault>
-    ensures ok {
-        IfOk result (λ read. (make : ℕ → List ℕ → Duration → ScriptLine) → IsTimed make octets.now (make read.0 read.1 read.2))
-    }
-    ensures no_line {
-        IsErrOf result LineFault.NoLine →
-            (make : ℕ → List ℕ → Duration → ScriptLine) (line : ScriptLine) → IsTimed make octets.now line → ⊥
-    }
+    ensures ok { IfOk result (λ read. (make : ℕ → List ℕ → Duration → ScriptLine) → IsTimed make octets.now (make read.0 read.1 read.2)) }
+    ensures no_line { IsErrOf result LineFault.NoLine →
+        (make : ℕ → List ℕ → Duration → ScriptLine) (line : ScriptLine) → IsTimed make octets.now line → ⊥ }
 {
     let (author, rest) = first::<Author>(alloc, octets)?;
     let (id, seconds) = first::<Id>(alloc, rest)?;
@@ -73,10 +63,8 @@ fn read_timed(alloc: Global, octets: &[u8]) -> Result<(u32, Text, Span), LineFau
 /// `A PATH`, what follows `get`.
 fn read_get(alloc: Global, octets: &[u8]) -> Result<Line, LineFault>
     ensures ok { IfOk result (λ line. Says keywords.Get octets.now line) }
-    ensures no_line {
-        IsErrOf result LineFault.NoLine →
-            (line : ScriptLine) → Says keywords.Get octets.now line → ⊥
-    }
+    ensures no_line { IsErrOf result LineFault.NoLine →
+        (line : ScriptLine) → Says keywords.Get octets.now line → ⊥ }
 {
     let (author, rest) = first::<Author>(alloc, octets)?;
     let path = PathText::read(alloc, rest)?;
@@ -86,10 +74,8 @@ fn read_get(alloc: Global, octets: &[u8]) -> Result<Line, LineFault>
 /// `HEARTBEAT`, what follows `change`.
 fn read_on_change(alloc: Global, path: Path, octets: &[u8]) -> Result<Line, LineFault>
     ensures ok { IfOk result (λ line. IsSubscription path SubMode.Change octets.now line) }
-    ensures no_line {
-        IsErrOf result LineFault.NoLine →
-            (line : ScriptLine) → IsSubscription path SubMode.Change octets.now line → ⊥
-    }
+    ensures no_line { IsErrOf result LineFault.NoLine →
+        (line : ScriptLine) → IsSubscription path SubMode.Change octets.now line → ⊥ }
 {
     let heartbeat = Number::read(alloc, octets)?;
     Ok(Line::Sub(SubLine {
@@ -104,10 +90,8 @@ fn read_on_change(alloc: Global, path: Path, octets: &[u8]) -> Result<Line, Line
 /// `INTERVAL HEARTBEAT SUPPRESS`, what follows `sample`.
 fn read_sampled(alloc: Global, path: Path, octets: &[u8]) -> Result<Line, LineFault>
     ensures ok { IfOk result (λ line. IsSubscription path SubMode.Sample octets.now line) }
-    ensures no_line {
-        IsErrOf result LineFault.NoLine →
-            (line : ScriptLine) → IsSubscription path SubMode.Sample octets.now line → ⊥
-    }
+    ensures no_line { IsErrOf result LineFault.NoLine →
+        (line : ScriptLine) → IsSubscription path SubMode.Sample octets.now line → ⊥ }
 {
     let (interval, rest) = first::<Number>(alloc, octets)?;
     let (heartbeat, flag) = first::<Number>(alloc, rest)?;
@@ -124,10 +108,8 @@ fn read_sampled(alloc: Global, path: Path, octets: &[u8]) -> Result<Line, LineFa
 /// What follows `sub`.
 fn read_sub(alloc: Global, octets: &[u8]) -> Result<Line, LineFault>
     ensures ok { IfOk result (λ line. Says keywords.Sub octets.now line) }
-    ensures no_line {
-        IsErrOf result LineFault.NoLine →
-            (line : ScriptLine) → Says keywords.Sub octets.now line → ⊥
-    }
+    ensures no_line { IsErrOf result LineFault.NoLine →
+        (line : ScriptLine) → Says keywords.Sub octets.now line → ⊥ }
 {
     let (path, sent) = first::<PathText>(alloc, octets)?;
     let (mode, times) = first::<SendMode>(alloc, sent)?;
@@ -141,10 +123,8 @@ fn read_sub(alloc: Global, octets: &[u8]) -> Result<Line, LineFault>
 /// `A NAME MODE ONLY`, what follows `open`.
 fn read_open(alloc: Global, octets: &[u8]) -> Result<Line, LineFault>
     ensures ok { IfOk result (λ line. Says keywords.Open octets.now line) }
-    ensures no_line {
-        IsErrOf result LineFault.NoLine →
-            (line : ScriptLine) → Says keywords.Open octets.now line → ⊥
-    }
+    ensures no_line { IsErrOf result LineFault.NoLine →
+        (line : ScriptLine) → Says keywords.Open octets.now line → ⊥ }
 {
     let (author, rest) = first::<Author>(alloc, octets)?;
     let (name, rest) = first::<Name>(alloc, rest)?;
@@ -156,10 +136,8 @@ fn read_open(alloc: Global, octets: &[u8]) -> Result<Line, LineFault>
 /// `K F`, what follows `stop`.
 fn read_stop(alloc: Global, octets: &[u8]) -> Result<Line, LineFault>
     ensures ok { IfOk result (λ line. Says keywords.Stop octets.now line) }
-    ensures no_line {
-        IsErrOf result LineFault.NoLine →
-            (line : ScriptLine) → Says keywords.Stop octets.now line → ⊥
-    }
+    ensures no_line { IsErrOf result LineFault.NoLine →
+        (line : ScriptLine) → Says keywords.Stop octets.now line → ⊥ }
 {
     let (calls, rest) = first::<Number>(alloc, octets)?;
     let fill = DiskFill::read(alloc, rest)?;
@@ -169,9 +147,7 @@ fn read_stop(alloc: Global, octets: &[u8]) -> Result<Line, LineFault>
 /// What follows the keyword.
 fn read_said(alloc: Global, keyword: Keyword, octets: &[u8]) -> Result<Line, LineFault>
     ensures ok { IfOk result (λ line. Says keyword octets.now line) }
-    ensures no_line {
-        IsErrOf result LineFault.NoLine → (line : ScriptLine) → Says keyword octets.now line → ⊥
-    }
+    ensures no_line { IsErrOf result LineFault.NoLine → (line : ScriptLine) → Says keyword octets.now line → ⊥ }
 {
     match keyword {
         Keyword::At => Ok(Line::At(Number::read(alloc, octets)?)),
@@ -212,9 +188,7 @@ const LONGEST_LINE: usize = 1_048_576;
 /// The line that the octets are, without a line feed.
 pub fn read_line(alloc: Global, octets: &[u8]) -> Result<Line, LineFault>
     ensures ok { IfOk result (λ line. IsLine octets.now line) }
-    ensures no_line {
-        IsErrOf result LineFault.NoLine → (line : ScriptLine) → IsLine octets.now line → ⊥
-    }
+    ensures no_line { IsErrOf result LineFault.NoLine → (line : ScriptLine) → IsLine octets.now line → ⊥ }
 {
     if octets.len() > LONGEST_LINE {
         return Err(LineFault::NoLine);
