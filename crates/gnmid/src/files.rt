@@ -1,39 +1,47 @@
 ghost use Rattle.std.specs.Prelude.{None};
 
 use base_lists::Bytes;
+use edge_traits::ReadFault;
 use std::alloc::Global;
 use std::fs;
 use std::io::ErrorKind;
-use target_top::{Files, TextFault};
+use target_top::{Files, FilesRecord};
 
-/// The files that the process may read, by their paths. They tell nothing of what they hold.
+/// The files that the process may read, by their paths. What they were asked for and have given is recorded; which texts
+/// there are they can't tell.
 #[derive(Drop)]
 pub struct ProcessFiles {
     rt: HostRuntime,
-    faults: u64,
+    past: FilesRecord,
 }
 
 impl ProcessFiles {
     pub fn of(rt: &HostRuntime) -> ProcessFiles {
-        ProcessFiles { rt: *rt, faults: 0 }
+        ProcessFiles {
+            rt: *rt,
+            past: FilesRecord::unread(),
+        }
     }
 }
 
 impl Files for ProcessFiles {
-    ghost held = { λ _ _. None };
+    ghost seen = { λ f. record f.past { held = None } };
 
-    ghost text_faults = { λ f. f.faults };
-
-    fn text(&mut self, alloc: Global, name: &str) -> Result<Bytes, TextFault> {
+    fn text(&mut self, alloc: Global, name: &str) -> Result<Bytes, ReadFault> {
         let _ = alloc;
+        self.past.asked(name);
         match fs::read(&self.rt, name) {
-            Ok(octets) => Ok(Bytes::from_vec(octets)),
+            Ok(octets) => {
+                let text = Bytes::from_vec(octets);
+                self.past.gave(name, text.items());
+                Ok(text)
+            }
             Err(error) => {
                 if error.kind() == ErrorKind::OutOfMemory {
-                    return Err(TextFault::NoMemory);
+                    return Err(ReadFault::NoMemory);
                 }
-                self.faults = self.faults.saturating_add(1);
-                Err(TextFault::Failed)
+                self.past.failed();
+                Err(ReadFault::Failed)
             }
         }
     }

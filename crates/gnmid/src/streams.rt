@@ -1,68 +1,99 @@
-ghost use Rattle.std.specs.Prelude.{None};
+ghost use Rattle.std.specs.Prelude.{◌≤◌, None, length, IfOk};
 
-use edge_traits::{Failed, Sink, Source};
-use std::io::{Read, Stdin, Stdout, Write};
+use edge_traits::{Failed, InputRecord, OutputRecord, Sink, Source};
+use std::io::{ErrorKind, Read, Stdin, Stdout, Write};
 
-/// The process's standard input. It tells nothing of what is left.
+/// The process's standard input. What it has given is recorded; what is left it can't tell.
 #[derive(Drop)]
 pub struct StandardInput {
     stream: Stdin,
-    faults: u64,
+    past: InputRecord,
 }
 
 impl StandardInput {
     pub fn of(rt: &HostRuntime) -> StandardInput {
         StandardInput {
             stream: rt.stdin(),
-            faults: 0,
+            past: InputRecord::unread(),
         }
     }
 }
 
 impl Source for StandardInput {
-    ghost left = { λ _. None };
-
-    ghost faults = { λ s. s.faults };
+    ghost seen = { λ s. record s.past { left = None } };
 
     fn read(&mut self, buffer: &mut [u8]) -> Result<usize, Failed> {
-        match self.stream.read(buffer) {
-            Ok(count) => Ok(count),
+        match read_uninterrupted(&mut self.stream, buffer) {
+            Ok(count) => {
+                self.past.gave(count, buffer);
+                Ok(count)
+            }
             Err(_) => {
-                self.faults = self.faults.saturating_add(1);
+                self.past.failed();
                 Err(Failed)
             }
         }
     }
 }
 
-/// The process's standard output. It tells nothing of what was written.
+/// A read that a signal interrupts is made again.
+fn read_uninterrupted(stream: &mut Stdin, buffer: &mut [u8]) -> Result<usize, Failed>
+    ensures { IfOk result (λ count. count ≤ length buffer.new) }
+{
+    for _ in 0..u64::MAX {
+        match stream.read(buffer) {
+            Ok(count) => return Ok(count),
+            Err(error) if error.kind() == ErrorKind::Interrupted => {}
+            Err(_) => break,
+        }
+    }
+    Err(Failed)
+}
+
+/// The process's standard output. What it has taken is recorded.
 #[derive(Drop)]
 pub struct StandardOutput {
     stream: Stdout,
-    faults: u64,
+    past: OutputRecord,
 }
 
 impl StandardOutput {
     pub fn of(rt: &HostRuntime) -> StandardOutput {
         StandardOutput {
             stream: rt.stdout(),
-            faults: 0,
+            past: OutputRecord::unwritten(),
         }
     }
 }
 
 impl Sink for StandardOutput {
-    ghost written = { λ _. None };
+    ghost seen = { λ s. s.past };
 
-    ghost faults = { λ s. s.faults };
-
+    /// That nothing is taken of a piece that isn't empty is a fault.
     fn write(&mut self, piece: &[u8]) -> Result<usize, Failed> {
-        match self.stream.write(piece) {
-            Ok(count) if count > 0 || piece.is_empty() => Ok(count),
+        match write_uninterrupted(&mut self.stream, piece) {
+            Ok(count) if count > 0 || piece.is_empty() => {
+                self.past.took(&piece[..count]);
+                Ok(count)
+            }
             _ => {
-                self.faults = self.faults.saturating_add(1);
+                self.past.failed();
                 Err(Failed)
             }
         }
     }
+}
+
+/// A write that a signal interrupts is made again.
+fn write_uninterrupted(stream: &mut Stdout, piece: &[u8]) -> Result<usize, Failed>
+    ensures { IfOk result (λ count. count ≤ length piece.now) }
+{
+    for _ in 0..u64::MAX {
+        match stream.write(piece) {
+            Ok(count) => return Ok(count),
+            Err(error) if error.kind() == ErrorKind::Interrupted => {}
+            Err(_) => break,
+        }
+    }
+    Err(Failed)
 }

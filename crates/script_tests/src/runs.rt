@@ -1,8 +1,9 @@
-ghost use Rattle.std.specs.Prelude.{Some, None};
+ghost use Rattle.std.specs.Prelude.{None};
+ghost use Rattle.edge_traits.specs.Memory.{input_of};
 
 use crate::examples::{HOSTNAME, HOSTNAME_PRINTED, SCHEMA};
 use base_lists::{Bytes, Text, Texts};
-use edge_traits::{Failed, MemSink, MemSource, Sink, Source};
+use edge_traits::{Failed, InputRecord, MemSink, MemSource, Sink, Source};
 use std::alloc::Global;
 use std::process::Abort;
 use std::test::Fail;
@@ -15,9 +16,7 @@ struct Drip {
 }
 
 impl Source for Drip {
-    ghost left = { λ d. Some d.source.octets };
-
-    ghost faults = { λ d. d.source.faults };
+    ghost seen = { λ d. input_of d.source };
 
     fn read(&mut self, buffer: &mut [u8]) -> Result<usize, Failed> {
         if buffer.is_empty() {
@@ -34,9 +33,7 @@ struct Trickle {
 }
 
 impl Sink for Trickle {
-    ghost written = { λ t. Some t.sink.octets };
-
-    ghost faults = { λ t. t.sink.faults };
+    ghost seen = { λ t. t.sink.seen };
 
     fn write(&mut self, piece: &[u8]) -> Result<usize, Failed> {
         if piece.is_empty() {
@@ -60,16 +57,25 @@ impl Kit for MemKit {
 #[derive(Drop)]
 struct FailSource {
     faults: u64,
+    past: InputRecord,
+}
+
+impl FailSource {
+    fn make() -> FailSource {
+        FailSource {
+            faults: 0,
+            past: InputRecord::unread(),
+        }
+    }
 }
 
 impl Source for FailSource {
-    ghost left = { λ _. None };
-
-    ghost faults = { λ s. s.faults };
+    ghost seen = { λ s. record s.past { left = None } };
 
     fn read(&mut self, buffer: &mut [u8]) -> Result<usize, Failed> {
         let _ = buffer;
         self.faults = self.faults.saturating_add(1);
+        self.past.failed();
         Err(Failed)
     }
 }
@@ -95,9 +101,7 @@ impl Kit for DripKit {
 }
 
 fn octets_of(rt: &impl Abort, alloc: Global, octets: &[u8]) -> Bytes {
-    let mut list = Bytes::empty(alloc);
-    list.extend_from_slice(octets).expect(rt, "memory");
-    list
+    Bytes::of(alloc, octets).expect(rt, "memory")
 }
 
 /// The decimal texts of these numbers.
@@ -121,6 +125,15 @@ fn words_of(rt: &impl Abort, alloc: Global, words: &str) -> Vec<String> {
     list
 }
 
+/// The file S with this text, or none.
+fn files_of(rt: &impl Abort, alloc: Global, text: Option<&[u8]>) -> MemFiles {
+    let name = Text::of(alloc, b"S").expect(rt, "a text");
+    match text {
+        Some(octets) => MemFiles::of(name, Some(octets_of(rt, alloc, octets))),
+        None => MemFiles::of(name, None),
+    }
+}
+
 /// What the words print over this input and this text of a file, and the status, where these writes fail.
 fn run_over<A: Abort>(
     rt: &A,
@@ -132,10 +145,7 @@ fn run_over<A: Abort>(
 ) -> (u8, MemSink) {
     let words = words_of(rt, alloc, words);
     let host: Host<MemKit> = Host {
-        files: MemFiles {
-            text: Some(octets_of(rt, alloc, schema.as_bytes())),
-            faults: 0,
-        },
+        files: files_of(rt, alloc, Some(schema.as_bytes())),
         input: MemSource::make(octets_of(rt, alloc, script), Texts::empty(alloc)),
         output: MemSink::make(alloc, numbers_of(rt, alloc, writes)),
     };
@@ -154,13 +164,9 @@ fn fails_over<A: Abort>(
     writes: &[u64],
 ) -> (u8, MemSink, u64, u64) {
     let words = words_of(rt, alloc, words);
-    let text = match text {
-        Some(octets) => Some(octets_of(rt, alloc, octets)),
-        None => None,
-    };
     let host: Host<FailKit> = Host {
-        files: MemFiles { text, faults: 0 },
-        input: FailSource { faults: 0 },
+        files: files_of(rt, alloc, text),
+        input: FailSource::make(),
         output: MemSink::make(alloc, numbers_of(rt, alloc, writes)),
     };
     let RunEnd { status, host } = run(rt, alloc, words.as_slice(), host);
@@ -169,7 +175,7 @@ fn fails_over<A: Abort>(
         input,
         output,
     } = host;
-    (status, output, files.faults, input.faults)
+    (status, output, files.faults(), input.faults)
 }
 
 /// A script's run, octet by octet.
@@ -182,10 +188,7 @@ fn drip_over<A: Abort>(
 ) -> (u8, MemSink) {
     let words = words_of(rt, alloc, "script S");
     let host: Host<DripKit> = Host {
-        files: MemFiles {
-            text: Some(octets_of(rt, alloc, SCHEMA.as_bytes())),
-            faults: 0,
-        },
+        files: files_of(rt, alloc, Some(SCHEMA.as_bytes())),
         input: Drip {
             source: MemSource::make(octets_of(rt, alloc, script), numbers_of(rt, alloc, reads)),
         },

@@ -1,4 +1,2 @@
-pub mod Inputs
-pub mod ScriptLaws
-pub mod Statuses
+pub mod Stages
 pub mod WordLists

@@ -1,5 +1,10 @@
-pub mod Checks
-pub mod Forms
-pub mod Laws
-pub mod Runs
-pub mod ScriptRuns
+pub mod CheckRun
+pub mod Commands
+pub mod Ending
+pub mod Environment
+pub mod HelpRun
+pub mod Printing
+pub mod Run
+pub mod SchemaFile
+pub mod ScriptRun
+pub mod inner

@@ -1,71 +1,60 @@
-ghost use Rattle.std.specs.Prelude.{◌≡◌, ◌≢◌, ◌≤◌, ◌↔◌, ℕ, List, Option, None, IfOk, IfSome, IsErrOf};
-ghost use Rattle.edge_traits.specs.Faults.{Rose};
+ghost use Rattle.std.specs.Prelude.{◌≡◌, Some};
+ghost use Rattle.target_top.specs.Environment.{TextFiles, TextGives, texts_of};
 
-use base_kinds::{Bytes, Copied, NoMemory};
+use crate::files_record::FilesRecord;
+use base_lists::{Bytes, Copied, Text};
+use edge_traits::ReadFault;
 use std::alloc::Global;
 
-/// Why a file's text could not be given.
-#[derive(Clone, Copy, Debug, PartialEq, Eq)]
-pub enum TextFault {
-    Failed,
-    NoMemory,
+/// The files of the environment, each by its name.
+pub trait Files {
+    /// What they were asked for and have given so far, and how often they failed.
+    ghost seen: { Self → TextFiles };
+
+    /// Reads the whole text of the file with this name.
+    fn text(&mut self, alloc: Global, name: &str) -> Result<Bytes, ReadFault>
+        ensures { TextGives name.now result (seen self.old) (seen self.new) };
 }
 
-impl From<NoMemory> for TextFault {
-    ghost use Rattle.target_top.specs.declared.files.TextFault.TheVariants.{NoMemory as OutOfMemory};
+/// Files in memory: one file with this name and text, or none.
+#[derive(Drop)]
+pub struct MemFiles {
+    name: Text,
+    text: Option<Bytes>,
+    faults: u64,
+    past: FilesRecord,
+}
 
-    ghost from_gives = { λ _ fault. fault ≡ OutOfMemory };
+impl MemFiles {
+    pub fn of(name: Text, text: Option<Bytes>) -> MemFiles {
+        MemFiles {
+            name,
+            text,
+            faults: 0,
+            past: FilesRecord::unread(),
+        }
+    }
 
-    fn from(_e: NoMemory) -> TextFault {
-        TextFault::NoMemory
+    /// How often a text could not be read, for tests.
+    pub fn faults(&self) -> u64 {
+        self.faults
     }
 }
 
-/// The files of the outside, each by its name.
-pub trait Files {
-    /// The octets of the file with this name, where it tells them.
-    ghost held: { Self → List ℕ → Option (List ℕ) };
-
-    /// How often a text could not be read.
-    ghost text_faults: { Self → ℕ };
-
-    /// Reads the whole text of the file with this name.
-    fn text(&mut self, alloc: Global, name: &str) -> Result<Bytes, TextFault>
-        ensures octets { IfOk result (λ octets. IfSome (held self.old name.now) (λ text. octets ≡ text)) }
-        ensures keeps { held self.new ≡ held self.old }
-        ensures later { text_faults self.old ≤ text_faults self.new }
-        ensures failed { IsErrOf result TextFault.Failed → Rose (text_faults self.old) (text_faults self.new) }
-        ensures quiet { (IsErrOf result TextFault.Failed → ⊥) → text_faults self.new ≡ text_faults self.old };
-}
-
-/// Files in memory: each name has this one text, or none can be read.
-#[derive(Drop)]
-pub struct MemFiles {
-    pub text: Option<Bytes>,
-    pub faults: u64,
-}
-
 impl Files for MemFiles {
-    ghost held = { λ f _. f.text };
+    ghost seen = { λ f. record f.past { held = Some (texts_of f.name f.text) } };
 
-    ghost text_faults = { λ f. f.faults };
-
-    /// Fails exactly where there is no text.
-    fn text(&mut self, alloc: Global, name: &str) -> Result<Bytes, TextFault>
-        ensures octets { IfOk result (λ octets. IfSome self.old.text (λ text. octets ≡ text)) }
-        ensures keeps { ◌≡◌ {A = List ℕ → Option (List ℕ)} (λ _. self.new.text) (λ _. self.old.text) }
-        ensures later { self.old.faults ≤ self.new.faults }
-        ensures failed { IsErrOf result TextFault.Failed → Rose self.old.faults self.new.faults }
-        ensures quiet { (IsErrOf result TextFault.Failed → ⊥) → self.new.faults ≡ self.old.faults }
-        ensures fails { IsErrOf result TextFault.Failed ↔ (self.old.text ≡ None) }
-    {
-        let _ = name;
-        match &self.text {
-            Some(text) => Ok(text.copy(alloc)?),
-            None => {
-                self.faults = self.faults.saturating_add(1);
-                Err(TextFault::Failed)
+    fn text(&mut self, alloc: Global, name: &str) -> Result<Bytes, ReadFault> {
+        self.past.asked(name);
+        if let Some(text) = &self.text {
+            if name.as_bytes() == self.name.octets() {
+                let copied = text.copy(alloc)?;
+                self.past.gave(name, copied.items());
+                return Ok(copied);
             }
         }
+        self.faults = self.faults.saturating_add(1);
+        self.past.failed();
+        Err(ReadFault::Failed)
     }
 }

@@ -1,14 +1,23 @@
-//! The program as one call over the objects of the outside that it is handed.
+//! The program as one call, `run`, over the objects of the environment that it is handed: files, an input and an output.
+//! Start at `run` (program.rt) and specs/Run.antt, which says what every run is; one page of specs/ a command.
+//! What is seen of the environment is in specs/Environment.antt. `MemFiles` are files in memory, for tests.
 #![tactic(auto)]
 
-mod check;
+mod arguments;
+mod check_command;
+mod command;
+mod ending;
 mod files;
-mod laws;
+mod files_record;
+mod help;
+mod host;
+mod printing;
+mod program;
+mod schema_file;
 mod script_command;
-mod status;
-mod top;
-mod words;
 
-pub use files::{Files, MemFiles, TextFault};
-pub use laws::scripts_print_one_text;
-pub use top::{Host, Kit, RunEnd, run};
+pub use ending::Ending;
+pub use files::{Files, MemFiles};
+pub use files_record::{FilesRecord, NamedText};
+pub use host::{Host, Kit};
+pub use program::{RunEnd, run};

@@ -1,0 +1,67 @@
+-- A run in its stages.
+use Rattle.std.proofs.Common.{Bool, true, false, refl, ◌≡◌, ℕ, List, Result, Ok, Err, inl, inr, sym, subst}
+use Rattle.base_kinds.specs.Schema.{SchemaNode}
+use Rattle.base_kinds.specs.declared.entry.Limits.{Limits}
+use Rattle.schema_text.specs.declared.cause.SchemaFault.{SchemaFault}
+use Rattle.schema_text.specs.Schemas.{schema_of}
+use Rattle.edge_traits.specs.Input.{ReadsToLimit}
+use Rattle.script_run.specs.Scripts.{RunsScript, status_of}
+use Rattle.target_top.specs.declared.ending.Ending.{Ending}
+use Rattle.target_top.specs.declared.ending.Ending.TheVariants.{NoSchema}
+use Rattle.target_top.specs.Ending.{exit_status}
+use Rattle.target_top.specs.ScriptRun.{script_ending, RunsLines, ScriptRun, most_script_octets}
+use Rattle.target_top.specs.Printing.{PrintsText, MakesText}
+use Rattle.target_top.specs.Environment.{Environment, TextFiles, GaveText}
+use Rattle.target_top.specs.SchemaFile.{fault_line, UnderText, UnderSchema}
+use Rattle.target_top.specs.inner.OpenedSchema.{Opened}
+
+never_under : (read : Result (List SchemaNode) SchemaFault) (before after : Environment) (ending : Ending) (Then : List SchemaNode → Type 0) → UnderText read before after ending (λ _. ⊥) → UnderText read before after ending Then
+never_under (Ok schema) before after ending Then never = absurd never
+never_under (Err fault) before after ending Then bad = bad
+
+-- a run that stops before there is a schema is one of any command
+pub stopped : (name : List ℕ) (before after : Environment) (ending : Ending) (Then : List SchemaNode → Type 0) → UnderSchema name before after ending (λ _. ⊥) → UnderSchema name before after ending Then
+stopped name before after ending Then (inl from) = inl (record { text = from.text; gave = from.gave; under = never_under (schema_of from.text) before after ending Then from.under })
+stopped name before after ending Then (inr other) = inr other
+
+-- once the schema was read, the run goes on by it
+pub goes_on : (name : List ℕ) (schema : List SchemaNode) (before mid after : Environment) (ending : Ending) (Then : List SchemaNode → Type 0) → Opened name schema before mid → after.files ≡ mid.files → Then schema → UnderSchema name before after ending Then
+goes_on name schema before mid after ending Then opened files then_schema = inl (record {
+  text = opened.text;
+  gave = subst (λ (texts : TextFiles). GaveText name opened.text before.files texts) (sym files) opened.gave;
+  under = subst (λ read. UnderText read before after ending Then) (sym opened.is) then_schema;
+})
+
+-- of a text that is no schema the first fault was printed
+pub bad_text : (name text : List ℕ) (fault : SchemaFault) (before after : Environment) (ending : Ending) → schema_of text ≡ Err fault → GaveText name text before.files after.files → after.input ≡ before.input → MakesText (fault_line fault) NoSchema before.output after.output ending → UnderSchema name before after ending (λ _. ⊥)
+bad_text name text fault before after ending is gave input prints =
+    let bad : UnderText (Err fault) before after ending (λ _. ⊥) = record { input = input; output = prints } in
+    inl (record { text = text; gave = gave; under = subst (λ read. UnderText read before after ending (λ _. ⊥)) (sym is) bad })
+
+-- what was done after the schema was opened was done from the start
+from_start : (limits : Limits) (before mid after : Environment) (ending : Ending) (schema : List SchemaNode) → mid ≡ record before { files = mid.files } → RunsLines limits mid after ending schema → RunsLines limits before after ending schema
+from_start limits before mid after ending schema rest lines = files_apart limits before mid.files after ending schema (subst (λ (o : Environment). RunsLines limits o after ending schema) rest lines)
+  where
+    files_apart : (limits : Limits) (before : Environment) (files : TextFiles) (after : Environment) (ending : Ending) (schema : List SchemaNode) → RunsLines limits (record before { files = files }) after ending schema → RunsLines limits before after ending schema
+    files_apart limits before files after ending schema (inl answers) = inl (record { script = answers.script; read = answers.read; text = answers.text; is_whole = answers.is_whole; runs = answers.runs; output = answers.output })
+    files_apart limits before files after ending schema (inr (inl bad)) = inr (inl (record { ends = bad.ends; read = bad.read; line = bad.line }))
+    files_apart limits before files after ending schema (inr (inr out)) = inr (inr (record { read = out.read; output = out.output }))
+
+pub script_goes_on : (name : List ℕ) (limits : Limits) (schema : List SchemaNode) (before mid after : Environment) (ending : Ending) → Opened name schema before mid → after.files ≡ mid.files → RunsLines limits mid after ending schema → ScriptRun name limits before after ending
+script_goes_on name limits schema before mid after ending opened files lines = goes_on name schema before mid after ending (RunsLines limits before after ending) opened files (from_start limits before mid after ending schema opened.rest lines)
+
+-- a script's status is that of its ending
+same_status : (is_whole : Bool) → status_of is_whole ≡ exit_status (script_ending is_whole)
+same_status true = refl
+same_status false = refl
+
+-- what was read was answered
+pub answered : (limits : Limits) (before after : Environment) (ending : Ending) (schema : List SchemaNode) (script text : List ℕ) (is_whole : Bool) → ReadsToLimit most_script_octets script before.input after.input → RunsScript schema limits script text (status_of is_whole) → PrintsText text (script_ending is_whole) before.output after.output ending → RunsLines limits before after ending schema
+answered limits before after ending schema script text is_whole read runs output = inl (record {
+  script = script;
+  read = read;
+  text = text;
+  is_whole = is_whole;
+  runs = subst (λ status. RunsScript schema limits script text status) (same_status is_whole) runs;
+  output = output;
+})

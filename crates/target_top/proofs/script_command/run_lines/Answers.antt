@@ -1,0 +1,20 @@
+use Rattle.std.proofs.Common.{subst}
+use Rattle.script_run.specs.Scripts.{RunsScript, status_of}
+use Rattle.target_top.specs.declared.ending.Ending.{Ending}
+use Rattle.target_top.specs.Printing.{PrintsText}
+use Rattle.target_top.specs.ScriptRun.{script_ending}
+use Rattle.target_top.proofs.Stages.{answered}
+use Rattle.target_top.proofs.script_command.run_lines.Goals as goal
+
+pub returns-clause-lines : goal.returns-clause-lines
+returns-clause-lines g c =
+    let seen = g.K.Output.Sink.seen in
+    let old = seen c.host.inside.output in
+    let new = seen c.print.new.output in
+    let schema = c.args.schema in
+    let text = c.in-Ok-run_script.transcript.text in
+    let is_whole = c.in-Ok-run_script.transcript.is_whole in
+    let runs = subst (λ octets. RunsScript schema c.args.limits octets text (status_of is_whole)) c.items.ensures c.in-Ok-run_script.ensures in
+    let by_ending = subst (λ (good : Ending). PrintsText c.items-2.result.now good old new c.print.result) c.script_ending-good.ensures c.print.ensures in
+    let output = subst (λ t. PrintsText t (script_ending is_whole) old new c.print.result) c.items-2.ensures by_ending in
+    rw (← c.host.view_is) (answered c.args.limits _ _ c.print.result schema c.in-Ok.octets text is_whole c.in-Ok.ensures.ok runs output)

@@ -1,0 +1,47 @@
+-- The commands, and the words in which each is given: the arguments behind the program's name. The forms are this
+-- project's own (docs/PROFILE.md).
+use Rattle.std.specs.Prelude.{◌≡◌, ℕ, List, [], ◌∷◌, ◌⊎◌, map, codes, String, string_bytes}
+use Rattle.std.specs.Fmt.{decimal}
+use Rattle.std.specs.Global.{Global}
+use Rattle.base_kinds.specs.declared.entry.Limits.{Limits}
+use Rattle.base_kinds.specs.Limits.{AreInRange}
+
+-- `Check` and `Script` by the name of the schema's file, `Script` with the limits of its commit log
+pub data Command : Type 0 where
+  Check : List ℕ → Command
+  Script : List ℕ → Limits → Command
+  Help : Command
+  Version : Command
+
+-- the words as octets
+abbrev pub octets_of_words : List (String Global) → List (List ℕ)
+octets_of_words words = map (λ word. string_bytes word) words
+
+-- the limits of a commit log where none are given: 65,536 entries and 268,435,456 octets
+abbrev pub default_limits : Limits
+default_limits = record { entries = 65536; octets = 268435456 }
+
+-- the limits as two words
+pub record AreLimits (entries octets : List ℕ) (limits : Limits) : Type 0 where
+  pub entries_are : entries ≡ decimal limits.entries
+  pub octets_are : octets ≡ decimal limits.octets
+  pub in_range : AreInRange limits
+
+-- `script`, the name of a schema's file, and limits or none
+abbrev pub IsScript : List (List ℕ) → List ℕ → Limits → Type 0
+IsScript words name limits =
+    ((words ≡ codes "script" ∷ name ∷ []) × (limits ≡ default_limits))
+    ⊎ ((entries : List ℕ) × ((octets : List ℕ) × ((words ≡ codes "script" ∷ name ∷ entries ∷ octets ∷ []) × AreLimits entries octets limits)))
+
+abbrev pub IsCheck : List (List ℕ) → List ℕ → Type 0
+IsCheck words name = words ≡ codes "check" ∷ name ∷ []
+
+-- the words give this command
+abbrev pub Gives : List (List ℕ) → Command → Type 0
+Gives words (Check name) = IsCheck words name
+Gives words (Script name limits) = IsScript words name limits
+Gives words Help = words ≡ codes "--help" ∷ []
+Gives words Version = words ≡ codes "--version" ∷ []
+
+abbrev pub GivesNone : List (List ℕ) → Type 0
+GivesNone words = (command : Command) → Gives words command → ⊥

@@ -1,0 +1,20 @@
+-- `--help` prints the forms of the words and what they do, `--version` the program's name and version. Neither reads anything.
+use Rattle.std.specs.Prelude.{◌≡◌, ℕ, List, codes}
+use Rattle.target_top.specs.declared.ending.Ending.{Ending}
+use Rattle.target_top.specs.declared.ending.Ending.TheVariants.{Done}
+use Rattle.target_top.specs.Environment.{Environment}
+use Rattle.target_top.specs.Printing.{PrintsText}
+
+-- a line for each form
+abbrev pub help_text : List ℕ
+help_text = codes
+    "check SCHEMA: print how many nodes the schema in the file SCHEMA has, or its first fault\nscript SCHEMA: run the script on standard input under the schema, and print its answers and its log\nscript SCHEMA ENTRIES OCTETS: the same, with a log of at most ENTRIES entries and OCTETS octets\n--help: print these lines\n--version: print the name and the version of the program\n"
+
+abbrev pub version_text : List ℕ
+version_text = codes "gnmid 0.1.0\n"
+
+-- this text is printed, and neither a file nor the input is touched
+pub record PrintsAlone (text : List ℕ) (before after : Environment) (ending : Ending) : Type 0 where
+  pub files : after.files ≡ before.files
+  pub input : after.input ≡ before.input
+  pub output : PrintsText text Done before.output after.output ending

@@ -1,0 +1,50 @@
+-- `script SCHEMA` reads a script from the input, and prints the answers to its lines and then the log of the history that
+-- they made (Scripts.antt of script_run says which).
+use Rattle.std.specs.Prelude.{◌≡◌, ℕ, List, ◌⊎◌, codes, Bool, true, false}
+use Rattle.edge_traits.specs.Input.{ReadsToLimit, FailedToLimit, StoppedToLimit}
+use Rattle.base_kinds.specs.declared.entry.Limits.{Limits}
+use Rattle.base_kinds.specs.Schema.{SchemaNode}
+use Rattle.script_run.specs.Scripts.{RunsScript}
+use Rattle.target_top.specs.declared.ending.Ending.{Ending}
+use Rattle.target_top.specs.declared.ending.Ending.TheVariants.{Done, InputFault, BadLine}
+use Rattle.target_top.specs.Ending.{exit_status}
+use Rattle.target_top.specs.Environment.{Environment}
+use Rattle.target_top.specs.Printing.{SaysLast, OutOfMemory, PrintsText}
+use Rattle.target_top.specs.SchemaFile.{UnderSchema}
+
+-- so many octets at most has a script; what follows one octet more changes nothing, and isn't read
+abbrev pub most_script_octets : ℕ
+most_script_octets = 67108864
+
+-- how a script ends, by whether each of its lines was taken
+abbrev pub script_ending : Bool → Ending
+script_ending true = Done
+script_ending false = BadLine
+
+-- the input was read to its end, or one octet past the limit, and what is printed are the answers to what was read
+pub record Answers (schema : List SchemaNode) (limits : Limits) (before after : Environment) (ending : Ending) : Type 0 where
+  pub script : List ℕ
+  pub read : ReadsToLimit most_script_octets script before.input after.input
+  pub text : List ℕ
+  pub is_whole : Bool
+  pub runs : RunsScript schema limits script text (exit_status (script_ending is_whole))
+  pub output : PrintsText text (script_ending is_whole) before.output after.output ending
+
+-- the input failed within the limit
+pub record Unreadable (before after : Environment) (ending : Ending) : Type 0 where
+  pub ends : ending ≡ InputFault
+  pub read : FailedToLimit most_script_octets before.input after.input
+  pub line : SaysLast (codes "input fault\n") before.output after.output
+
+-- memory was wanting for the script or its answers
+pub record Unanswered (before after : Environment) (ending : Ending) : Type 0 where
+  pub read : StoppedToLimit most_script_octets before.input after.input
+  pub output : OutOfMemory before.output after.output ending
+
+abbrev pub RunsLines : Limits → Environment → Environment → Ending → List SchemaNode → Type 0
+RunsLines limits before after ending schema =
+    Answers schema limits before after ending ⊎ Unreadable before after ending ⊎ Unanswered before after ending
+
+abbrev pub ScriptRun : List ℕ → Limits → Environment → Environment → Ending → Type 0
+ScriptRun name limits before after ending =
+    UnderSchema name before after ending (RunsLines limits before after ending)

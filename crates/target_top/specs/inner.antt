@@ -1,0 +1,2 @@
+pub mod OpenedSchema
+pub mod ParsedCommand

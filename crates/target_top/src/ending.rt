@@ -1,0 +1,32 @@
+ghost use Rattle.std.specs.Prelude.{◌≡◌};
+
+/// How a run ends.
+#[derive(Clone, Copy, Debug, PartialEq, Eq)]
+pub enum Ending {
+    Done,
+    NoMemory,
+    BadWords,
+    NoSchema,
+    InputFault,
+    OutputFault,
+    BadLine,
+}
+
+impl Ending {
+    ghost use Rattle.target_top.specs.Ending.{exit_status};
+
+    /// The status that the process is to end with.
+    pub fn exit_status(self) -> u8
+        ensures { result ≡ exit_status self }
+    {
+        match self {
+            Ending::Done => 0,
+            Ending::NoMemory => 1,
+            Ending::BadWords => 2,
+            Ending::NoSchema => 3,
+            Ending::InputFault => 6,
+            Ending::OutputFault => 7,
+            Ending::BadLine => 9,
+        }
+    }
+}

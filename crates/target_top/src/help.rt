@@ -1,0 +1,26 @@
+ghost use Rattle.std.specs.Prelude.{◌≡◌};
+ghost use Rattle.target_top.specs.HelpRun.{PrintsAlone, help_text, version_text};
+
+use crate::ending::Ending;
+use crate::host::{Host, Kit};
+use crate::printing::print;
+
+/// Prints the forms of the words and what they do, one line each.
+pub fn help<K: Kit>(host: &mut Host<K>) -> Ending
+    ensures { PrintsAlone help_text host.old host.new result }
+{
+    print(help_text(), Ending::Done, &mut host.output)
+}
+
+/// Prints the name and the version of the program.
+pub fn version<K: Kit>(host: &mut Host<K>) -> Ending
+    ensures { PrintsAlone version_text host.old host.new result }
+{
+    print(b"gnmid 0.1.0\n", Ending::Done, &mut host.output)
+}
+
+fn help_text() -> &'static [u8]
+    ensures { result.now ≡ help_text }
+{
+    b"check SCHEMA: print how many nodes the schema in the file SCHEMA has, or its first fault\nscript SCHEMA: run the script on standard input under the schema, and print its answers and its log\nscript SCHEMA ENTRIES OCTETS: the same, with a log of at most ENTRIES entries and OCTETS octets\n--help: print these lines\n--version: print the name and the version of the program\n"
+}

@@ -1,0 +1,48 @@
+ghost use Rattle.std.specs.Prelude.{◌≡◌, IfOk, IfErr};
+ghost use Rattle.target_top.specs.SchemaFile.{UnderSchema, fault_line};
+ghost use Rattle.target_top.specs.inner.OpenedSchema.{Opened};
+
+use crate::ending::Ending;
+use crate::files::Files;
+use crate::host::{Host, Kit};
+use crate::printing::{input_fault, out_of_memory, print};
+use base_kinds::{Bytes, NoMemory};
+use commit_report::put_number;
+use edge_traits::ReadFault;
+use schema_core::Schema;
+use schema_text::{SchemaError, SchemaFault, read_schema};
+use std::alloc::Global;
+
+/// Reads the schema whose text is in the file with this name, or says why there is none.
+pub fn open_schema<K: Kit>(alloc: Global, name: &str, host: &mut Host<K>) -> Result<Schema, Ending>
+    ensures opened { IfOk result (λ schema. Opened name.now schema host.old host.new) }
+    ensures stopped { IfErr result (λ ending.
+        UnderSchema name.now host.old host.new ending (λ _. ⊥)) }
+{
+    let text = match host.files.text(alloc, name) {
+        Ok(text) => text,
+        Err(ReadFault::Failed) => return Err(input_fault(&mut host.output)),
+        Err(ReadFault::NoMemory) => return Err(out_of_memory(&mut host.output)),
+    };
+    match read_schema(alloc, text.items()) {
+        Ok(schema) => Ok(schema),
+        Err(SchemaError::Fault(fault)) => match fault_line(alloc, fault) {
+            Ok(line) => Err(print(line.items(), Ending::NoSchema, &mut host.output)),
+            Err(_) => Err(out_of_memory(&mut host.output)),
+        },
+        Err(SchemaError::NoMemory) => Err(out_of_memory(&mut host.output)),
+    }
+}
+
+/// The line that tells of the first fault of a text that is no schema.
+fn fault_line(alloc: Global, fault: SchemaFault) -> Result<Bytes, NoMemory>
+    ensures { IfOk result (λ line. line ≡ fault_line fault) }
+{
+    let mut line = Bytes::empty(alloc);
+    line.extend_from_slice(b"schema line ")?;
+    put_number(alloc, fault.line as u64, &mut line)?;
+    line.extend_from_slice(b": ")?;
+    line.extend_from_slice(fault.cause.text())?;
+    line.extend_from_slice(b"\n")?;
+    Ok(line)
+}
