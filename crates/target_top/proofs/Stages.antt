@@ -1,5 +1,6 @@
 -- A run in its stages.
 use Rattle.std.proofs.Common.{Bool, true, false, refl, ◌≡◌, ℕ, List, Result, Ok, Err, inl, inr, sym, subst}
+use Rattle.base_kinds.specs.Limits.{most_script_octets}
 use Rattle.base_kinds.specs.Schema.{SchemaNode}
 use Rattle.base_kinds.specs.declared.entry.Limits.{Limits}
 use Rattle.schema_text.specs.declared.cause.SchemaFault.{SchemaFault}
@@ -9,7 +10,7 @@ use Rattle.script_run.specs.Scripts.{RunsScript, status_of}
 use Rattle.target_top.specs.declared.ending.Ending.{Ending}
 use Rattle.target_top.specs.declared.ending.Ending.TheVariants.{NoSchema}
 use Rattle.target_top.specs.Ending.{exit_status}
-use Rattle.target_top.specs.ScriptRun.{script_ending, RunsLines, ScriptRun, most_script_octets}
+use Rattle.target_top.specs.ScriptRun.{script_ending, RunsLines, ScriptRun}
 use Rattle.target_top.specs.Printing.{PrintsText, MakesText}
 use Rattle.target_top.specs.Environment.{Environment, TextFiles, GaveText}
 use Rattle.target_top.specs.SchemaFile.{fault_line, UnderText, UnderSchema}

@@ -4,7 +4,7 @@ use Rattle.std.specs.Prelude.{◌≡◌, ℕ, List, [], ◌∷◌, ◌⊎◌, ma
 use Rattle.std.specs.Fmt.{decimal}
 use Rattle.std.specs.Global.{Global}
 use Rattle.base_kinds.specs.declared.entry.Limits.{Limits}
-use Rattle.base_kinds.specs.Limits.{AreInRange}
+use Rattle.base_kinds.specs.Limits.{AreInRange, default_limits}
 
 -- `Check` and `Script` by the name of the schema's file, `Script` with the limits of its commit log
 pub data Command : Type 0 where
@@ -17,17 +17,13 @@ pub data Command : Type 0 where
 abbrev pub octets_of_words : List (String Global) → List (List ℕ)
 octets_of_words words = map (λ word. string_bytes word) words
 
--- the limits of a commit log where none are given: 65,536 entries and 268,435,456 octets
-abbrev pub default_limits : Limits
-default_limits = record { entries = 65536; octets = 268435456 }
-
 -- the limits as two words
 pub record AreLimits (entries octets : List ℕ) (limits : Limits) : Type 0 where
   pub entries_are : entries ≡ decimal limits.entries
   pub octets_are : octets ≡ decimal limits.octets
   pub in_range : AreInRange limits
 
--- `script`, the name of a schema's file, and limits or none
+-- `script`, the name of a schema's file, and limits, or none for the default ones
 abbrev pub IsScript : List (List ℕ) → List ℕ → Limits → Type 0
 IsScript words name limits =
     ((words ≡ codes "script" ∷ name ∷ []) × (limits ≡ default_limits))

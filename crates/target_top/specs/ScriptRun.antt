@@ -3,6 +3,7 @@
 use Rattle.std.specs.Prelude.{◌≡◌, ℕ, List, ◌⊎◌, codes, Bool, true, false}
 use Rattle.edge_traits.specs.Input.{ReadsToLimit, FailedToLimit, StoppedToLimit}
 use Rattle.base_kinds.specs.declared.entry.Limits.{Limits}
+use Rattle.base_kinds.specs.Limits.{most_script_octets}
 use Rattle.base_kinds.specs.Schema.{SchemaNode}
 use Rattle.script_run.specs.Scripts.{RunsScript}
 use Rattle.target_top.specs.declared.ending.Ending.{Ending}
@@ -12,16 +13,13 @@ use Rattle.target_top.specs.Environment.{Environment}
 use Rattle.target_top.specs.Printing.{SaysLast, OutOfMemory, PrintsText}
 use Rattle.target_top.specs.SchemaFile.{UnderSchema}
 
--- so many octets at most has a script; what follows one octet more changes nothing, and isn't read
-abbrev pub most_script_octets : ℕ
-most_script_octets = 67108864
-
 -- how a script ends, by whether each of its lines was taken
 abbrev pub script_ending : Bool → Ending
 script_ending true = Done
 script_ending false = BadLine
 
--- the input was read to its end, or one octet past the limit, and what is printed are the answers to what was read
+-- the input was read to its end, or one octet past the limit of a script, since what follows changes nothing; and what is
+-- printed are the answers to what was read
 pub record Answers (schema : List SchemaNode) (limits : Limits) (before after : Environment) (ending : Ending) : Type 0 where
   pub script : List ℕ
   pub read : ReadsToLimit most_script_octets script before.input after.input

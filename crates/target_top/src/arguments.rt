@@ -3,14 +3,8 @@ ghost use Rattle.std.specs.Fmt.{decimal};
 ghost use Rattle.base_kinds.specs.declared.entry.Limits.{Limits as LogLimits};
 ghost use Rattle.target_top.specs.Commands.{AreLimits, IsCheck, IsScript, octets_of_words};
 
-use base_kinds::Limits;
-use value_core::read_natural;
-
-/// The limits of a commit log where none are given.
-const DEFAULT_LIMITS: Limits = Limits {
-    entries: 65_536,
-    octets: 268_435_456,
-};
+use base_kinds::{Limits, default_limits};
+use plain_texts::natural_of;
 
 /// The name and the limits of a script, where the words are those of one.
 pub fn script_words(words: &[String]) -> Option<(&str, Limits)>
@@ -20,7 +14,7 @@ pub fn script_words(words: &[String]) -> Option<(&str, Limits)>
     match words {
         [word, name] => {
             if word.as_str() == "script" {
-                return Some((name.as_str(), DEFAULT_LIMITS));
+                return Some((name.as_str(), default_limits()));
             }
             None
         }
@@ -81,7 +75,7 @@ fn limit_of(word: &str) -> Option<u32>
     ensures small { IfSome result (λ limit. limit < 2 ^ 32) }
     ensures none { IfNone result ((limit : ℕ) → limit < 2 ^ 32 → word.now ≡ decimal limit → ⊥) }
 {
-    let number = read_natural(word.as_bytes())?;
+    let number = natural_of(word.as_bytes())?;
     if number > 4_294_967_295 {
         return None;
     }

@@ -6,7 +6,7 @@ use crate::host::{Host, Kit};
 use crate::printing::{out_of_memory, print};
 use crate::schema_file::open_schema;
 use base_kinds::{Bytes, NoMemory};
-use commit_report::put_number_line;
+use plain_texts::put_number_line;
 use schema_core::Schema;
 use std::alloc::Global;
 

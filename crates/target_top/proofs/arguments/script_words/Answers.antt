@@ -1,4 +1,4 @@
-use Rattle.std.proofs.Common.{◌≡◌, [], ◌∷◌, codes, string_bytes, refl, sym, ap, ◌∙◌, inl, inr}
+use Rattle.std.proofs.Common.{◌≡◌, [], ◌∷◌, codes, string_bytes, sym, ap, ◌∙◌, inl, inr}
 use Rattle.std.specs.Bool.{Decides}
 use Rattle.std.proofs.lemmas.Bool.Decides.{Decides-eqb}
 use Rattle.std.proofs.lemmas.Slice.Eq.{slice_eq-Decides}
@@ -12,7 +12,7 @@ returns-then-eq-clause-some c =
       two_words (λ word. string_bytes word) c.args.words.now c.word-item.result c.name-item.result c.in-len2.len_at_least c.in-len2.len_below c.word-item.is c.name-item.is
           ∙ ap (λ t. t ∷ string_bytes c.name-item.result ∷ []) (sym c.as_str.ensures.value ∙ decides.0 c.if-eq.true)
           ∙ ap (λ t. codes "script" ∷ t ∷ []) (sym c.as_str-then-eq.ensures.value),
-      refl,
+      c.default_limits.ensures,
     )
 
 pub returns-in_err-limits-in-len4-clause-none : goal.returns-in_err-limits-in-len4-clause-none
