@@ -1,0 +1,9 @@
+pub mod Pigeon
+pub mod Seats
+pub mod TurnsKept
+pub mod Prefixes
+pub mod ListsKept
+pub mod Counts
+pub mod NumbersKept
+pub mod AllowedSteps
+pub mod Uses

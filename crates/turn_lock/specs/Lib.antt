@@ -1,0 +1,3 @@
+pub mod Chronicles
+pub mod Passes
+pub mod inner
