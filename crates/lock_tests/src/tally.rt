@@ -33,11 +33,9 @@ impl Tally {
 
     /// Adds an entry, and answers whether memory was there for it.
     pub(crate) fn add(&mut self, author: u64, turn: u64) -> bool
-        ensures {
-            MatchBool result
-                (self.new.entries.items ≡ self.old.entries.items ++ (author, turn) ∷ [])
-                (self.new.entries.items ≡ self.old.entries.items)
-        }
+        ensures { MatchBool result
+            (self.new.entries.items ≡ self.old.entries.items ++ (author, turn) ∷ [])
+            (self.new.entries.items ≡ self.old.entries.items) }
     {
         self.entries.push((author, turn)).is_ok()
     }
