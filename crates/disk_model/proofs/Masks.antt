@@ -2,10 +2,10 @@
 use Rattle.std.proofs.Common.{◌≡◌, ℕ, zero, suc, ◌+◌, ◌≤◌, List, [], ◌∷◌, ◌++◌, length, take, drop, Option, Some, refl, sym, ap, ◌∙◌, arith, length-append}
 use Rattle.std.proofs.lemmas.List.{take_at, nil_from_length}
 use Rattle.disk_model.specs.Content.{Wrote, gap_length}
-use Rattle.disk_model.specs.Images.{IsImage, synced, touched}
+use Rattle.disk_model.specs.Images.{IsImage, mask_after_sync, mask_after_write}
 
 -- an image of such a mask begins with them
-pub image_split : (front : List ℕ) (mask : List (Option ℕ)) (octets : List ℕ) → IsImage (synced front ++ mask) octets → (rest : List ℕ) × (octets ≡ front ++ rest) × IsImage mask rest
+pub image_split : (front : List ℕ) (mask : List (Option ℕ)) (octets : List ℕ) → IsImage (mask_after_sync front ++ mask) octets → (rest : List ℕ) × (octets ≡ front ++ rest) × IsImage mask rest
 image_split [] mask octets image = (octets, refl, image)
 image_split (a ∷ front) mask [] image = absurd image
 image_split (a ∷ front) mask (b ∷ octets) image =
@@ -13,8 +13,8 @@ image_split (a ∷ front) mask (b ∷ octets) image =
     (inner.0, ap (λ o. o ∷ octets) image.0 ∙ ap (λ l. a ∷ l) inner.1, inner.2)
 
 -- a write behind them leaves them
-pub touched_behind : (front : List ℕ) (mask : List (Option ℕ)) (place more n : ℕ) → place ≡ length front + more → touched place n (synced front ++ mask) ≡ synced front ++ touched more n mask
-touched_behind [] mask place more n is = ap (λ p. touched p n mask) (omega (arith, is))
+pub touched_behind : (front : List ℕ) (mask : List (Option ℕ)) (place more n : ℕ) → place ≡ length front + more → mask_after_write place n (mask_after_sync front ++ mask) ≡ mask_after_sync front ++ mask_after_write more n mask
+touched_behind [] mask place more n is = ap (λ p. mask_after_write p n mask) (omega (arith, is))
 touched_behind (a ∷ front) mask zero more n is = absurd (omega (arith, is))
 touched_behind (a ∷ front) mask (suc place) more n is = ap (λ l. Some a ∷ l) (touched_behind front mask place more n (omega (arith, is)))
 

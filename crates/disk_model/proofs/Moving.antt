@@ -1,22 +1,22 @@
 -- Steps of a disk that may not tell its content.
 use Rattle.std.proofs.Common.{ℕ, List, [], ◌∷◌, ◌++◌, length, Option, Some, None, refl, sym, ap, ◌∙◌, append_assoc}
-use Rattle.disk_model.specs.Content.{Content, Moved, Tells, Changes}
-use Rattle.disk_model.specs.Images.{touched, synced}
-use Rattle.disk_model.specs.Moments.{Each, Since, Put, Leaves, LeavesNow, LeavesOnly}
+use Rattle.disk_model.specs.Content.{Content, WhereTold, Tells, Changes}
+use Rattle.disk_model.specs.Images.{mask_after_write, mask_after_sync}
+use Rattle.disk_model.specs.Moments.{Each, Since, PutSynced, Leaves, LeavesNow, LeavesOnly}
 
-pub moved_tells : {A B : Content → Type 0} {S : Content → Content → Type 0} (old new : Option Content) → Tells old A → Moved old new S → ((o n : Content) → A o → S o n → B n) → Tells new B
+pub moved_tells : {A B : Content → Type 0} {S : Content → Content → Type 0} (old new : Option Content) → Tells old A → WhereTold old new S → ((o n : Content) → A o → S o n → B n) → Tells new B
 moved_tells None None fact moved step = tt
 moved_tells None (Some n) fact moved step = absurd moved
 moved_tells (Some o) None fact moved step = absurd moved
 moved_tells (Some o) (Some n) fact moved step = step o n fact moved
 
-pub moved_map : {A : Content → Type 0} {S R : Content → Content → Type 0} (old new : Option Content) → Tells old A → Moved old new S → ((o n : Content) → A o → S o n → R o n) → Moved old new R
+pub moved_map : {A : Content → Type 0} {S R : Content → Content → Type 0} (old new : Option Content) → Tells old A → WhereTold old new S → ((o n : Content) → A o → S o n → R o n) → WhereTold old new R
 moved_map None None fact moved step = tt
 moved_map None (Some n) fact moved step = absurd moved
 moved_map (Some o) None fact moved step = absurd moved
 moved_map (Some o) (Some n) fact moved step = step o n fact moved
 
-pub moved_on : {S R V : Content → Content → Type 0} (old mid new : Option Content) → Moved old mid S → Moved mid new R → ((o m n : Content) → S o m → R m n → V o n) → Moved old new V
+pub moved_on : {S R V : Content → Content → Type 0} (old mid new : Option Content) → WhereTold old mid S → WhereTold mid new R → ((o m n : Content) → S o m → R m n → V o n) → WhereTold old new V
 moved_on None None None first second step = tt
 moved_on None None (Some n) first second step = second
 moved_on None (Some m) new first second step = absurd first
@@ -32,26 +32,26 @@ pub since_on : (P : List (Option ℕ) → Type 0) (old mid new : Content) → Si
 since_on P old mid new first second = record {
   first = first.first;
   later = second.later ++ first.later;
-  past = second.past ∙ ap (λ l. second.later ++ l) first.past ∙ sym (append_assoc second.later first.later (old.kept ∷ old.past));
+  past = second.past ∙ ap (λ l. second.later ++ l) first.past ∙ sym (append_assoc second.later first.later (old.mask ∷ old.past));
   each = each_append P second.later first.later second.each first.each;
 }
 
-pub since_same : (P : List (Option ℕ) → Type 0) (old : Content) → P old.kept → Since P old old
+pub since_same : (P : List (Option ℕ) → Type 0) (old : Content) → P old.mask → Since P old old
 since_same P old has = record { first = has; later = []; past = refl; each = tt }
 
-pub changes_since : (P : List (Option ℕ) → Type 0) (mask : List (Option ℕ)) (old new : Content) → P old.kept → P mask → Changes mask old new → Since P old new
+pub changes_since : (P : List (Option ℕ) → Type 0) (mask : List (Option ℕ)) (old new : Content) → P old.mask → P mask → Changes mask old new → Since P old new
 changes_since P mask old new before after changes = record {
   first = before;
   later = mask ∷ [];
-  past = ap (λ k. k ∷ new.past) changes.kept ∙ ap (λ l. mask ∷ l) changes.past;
+  past = ap (λ k. k ∷ new.past) changes.mask_is ∙ ap (λ l. mask ∷ l) changes.past;
   each = (after, tt);
 }
 
-pub put_since : (P : List (Option ℕ) → Type 0) (place : ℕ) (piece : List ℕ) (old new : Content) → P old.kept → P (touched place (length piece) old.kept) → P (synced new.seen) → Put place piece old new → Since P old new
+pub put_since : (P : List (Option ℕ) → Type 0) (place : ℕ) (piece : List ℕ) (old new : Content) → P old.mask → P (mask_after_write place (length piece) old.mask) → P (mask_after_sync new.seen) → PutSynced place piece old new → Since P old new
 put_since P place piece old new before during after put = record {
   first = before;
-  later = synced new.seen ∷ touched place (length piece) old.kept ∷ [];
-  past = ap (λ k. k ∷ new.past) put.kept ∙ ap (λ l. synced new.seen ∷ l) put.past;
+  later = mask_after_sync new.seen ∷ mask_after_write place (length piece) old.mask ∷ [];
+  past = ap (λ k. k ∷ new.past) put.mask_is ∙ ap (λ l. mask_after_sync new.seen ∷ l) put.past;
   each = (after, (during, tt));
 }
 

@@ -6,7 +6,7 @@ pub record Content : Type 0 where
   -- what a read gives
   pub seen : List ℕ
   -- what a stop may leave now, as a mask
-  pub kept : List (Option ℕ)
+  pub mask : List (Option ℕ)
   -- what it might have left at each earlier moment, the latest first
   pub past : List (List (Option ℕ))
 
@@ -17,14 +17,14 @@ Tells (Some content) fact = fact content
 
 -- what a read gives is one of the images
 abbrev pub SeesImage : Option Content → Type 0
-SeesImage told = Tells told (λ content. IsImage content.kept content.seen)
+SeesImage told = Tells told (λ content. IsImage content.mask content.seen)
 
 -- a step from what a disk told to what it tells, where it tells
-abbrev pub Moved : Option Content → Option Content → (Content → Content → Type 0) → Type 0
-Moved None None step = Unit {0}
-Moved None (Some new) step = ⊥
-Moved (Some old) None step = ⊥
-Moved (Some old) (Some new) step = step old new
+abbrev pub WhereTold : Option Content → Option Content → (Content → Content → Type 0) → Type 0
+WhereTold None None step = Unit {0}
+WhereTold None (Some new) step = ⊥
+WhereTold (Some old) None step = ⊥
+WhereTold (Some old) (Some new) step = step old new
 
 -- n octets from a place on are read, and into a buffer that isn't empty none only at the end
 pub record ReadsAt (seen : List ℕ) (place n : ℕ) (into : List ℕ) : Type 0 where
@@ -33,8 +33,8 @@ pub record ReadsAt (seen : List ℕ) (place n : ℕ) (into : List ℕ) : Type 0 
 
 -- One moment more, from which on a stop leaves an image of this mask. What a read gives is one of them.
 pub record Changes (mask : List (Option ℕ)) (old new : Content) : Type 0 where
-  pub kept : new.kept ≡ mask
-  pub past : new.past ≡ old.kept ∷ old.past
+  pub mask_is : new.mask ≡ mask
+  pub past : new.past ≡ old.mask ∷ old.past
   pub seen : IsImage mask new.seen
 
 -- how many octets stand between the end and a piece that begins past it; a piece of no octets changes nothing

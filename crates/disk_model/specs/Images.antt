@@ -3,11 +3,11 @@
 use Rattle.std.specs.Prelude.{◌≡◌, ℕ, zero, suc, List, [], ◌∷◌, Option, Some, None, map}
 
 -- these n places from one on hold this item, as far as they are there
-abbrev pub painted : {T : Type 0} → T → ℕ → ℕ → List T → List T
-painted item place n [] = []
-painted item (suc place) n (x ∷ xs) = x ∷ painted item place n xs
-painted item zero zero (x ∷ xs) = x ∷ xs
-painted item zero (suc n) (x ∷ xs) = item ∷ painted item zero n xs
+abbrev pub with_range_filled : {T : Type 0} → T → ℕ → ℕ → List T → List T
+with_range_filled item place n [] = []
+with_range_filled item (suc place) n (x ∷ xs) = x ∷ with_range_filled item place n xs
+with_range_filled item zero zero (x ∷ xs) = x ∷ xs
+with_range_filled item zero (suc n) (x ∷ xs) = item ∷ with_range_filled item zero n xs
 
 -- A mask says what each stop leaves. It is as long as the disk was at its shortest at and since its last sync, and
 -- has at each place below that the octet that stands there after any stop, or None where a write since then
@@ -23,9 +23,9 @@ IsImage (None ∷ mask) (octet ∷ octets) = IsImage mask octets
 IsImage (Some stays ∷ mask) (octet ∷ octets) = (octet ≡ stays) × IsImage mask octets
 
 -- the mask after a sync
-abbrev pub synced : List ℕ → List (Option ℕ)
-synced octets = map Some octets
+abbrev pub mask_after_sync : List ℕ → List (Option ℕ)
+mask_after_sync octets = map Some octets
 
 -- The mask after a write of n octets at a place. After a cut to a length it is the front of that length.
-abbrev pub touched : ℕ → ℕ → List (Option ℕ) → List (Option ℕ)
-touched place n mask = painted None place n mask
+abbrev pub mask_after_write : ℕ → ℕ → List (Option ℕ) → List (Option ℕ)
+mask_after_write place n mask = with_range_filled None place n mask

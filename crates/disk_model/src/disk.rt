@@ -1,8 +1,8 @@
 ghost use Rattle.std.specs.Prelude.{◌≡◌, ◌≤◌, ℕ, List, Option, length, take, IfOk, OnOk, OnErr};
 ghost use Rattle.edge_traits.specs.Faults.{HasCause};
 ghost use Rattle.disk_model.specs.Calls.{Fuse, CallEnds, FillsBuffer};
-ghost use Rattle.disk_model.specs.Content.{Content, Moved, Tells, SeesImage, ReadsAt, Changes, Wrote};
-ghost use Rattle.disk_model.specs.Images.{synced, touched};
+ghost use Rattle.disk_model.specs.Content.{Content, WhereTold, Tells, SeesImage, ReadsAt, Changes, Wrote};
+ghost use Rattle.disk_model.specs.Images.{mask_after_sync, mask_after_write};
 
 use edge_traits::Failed;
 
@@ -37,11 +37,11 @@ pub trait Disk {
     /// Writes a piece, which may begin past the end.
     /// A write that fails changes nothing that a read gives, but counts as made for what a stop may leave.
     fn write_at(&mut self, place: u64, piece: &[u8]) -> Result<(), Failed>
-        ensures written { OnOk result (Moved (told self.old) (told self.new)
+        ensures written { OnOk result (WhereTold (told self.old) (told self.new)
             (λ old new. Wrote place piece.now old.seen new.seen)) }
-        ensures stays { OnErr result (Moved (told self.old) (told self.new) (λ old new. new.seen ≡ old.seen)) }
-        ensures images { Moved (told self.old) (told self.new)
-            (λ old new. Changes (touched place (length piece.now) old.kept) old new) }
+        ensures stays { OnErr result (WhereTold (told self.old) (told self.new) (λ old new. new.seen ≡ old.seen)) }
+        ensures images { WhereTold (told self.old) (told self.new)
+            (λ old new. Changes (mask_after_write place (length piece.now) old.mask) old new) }
         ensures image { SeesImage (told self.old) }
         ensures call { CallEnds (fuse self.old) (fuse self.new) result }
         ensures cause { HasCause (faults self.old) (faults self.new) result };
@@ -49,20 +49,20 @@ pub trait Disk {
     /// Cuts off what is past a length. A length past the end changes nothing.
     /// A cut that fails changes nothing that a read gives, but counts as made for what a stop may leave.
     fn cut(&mut self, length: u64) -> Result<(), Failed>
-        ensures cut { OnOk result (Moved (told self.old) (told self.new)
+        ensures cut { OnOk result (WhereTold (told self.old) (told self.new)
             (λ old new. new.seen ≡ take length old.seen)) }
-        ensures stays { OnErr result (Moved (told self.old) (told self.new) (λ old new. new.seen ≡ old.seen)) }
-        ensures images { Moved (told self.old) (told self.new)
-            (λ old new. Changes (take length old.kept) old new) }
+        ensures stays { OnErr result (WhereTold (told self.old) (told self.new) (λ old new. new.seen ≡ old.seen)) }
+        ensures images { WhereTold (told self.old) (told self.new)
+            (λ old new. Changes (take length old.mask) old new) }
         ensures image { SeesImage (told self.old) }
         ensures call { CallEnds (fuse self.old) (fuse self.new) result }
         ensures cause { HasCause (faults self.old) (faults self.new) result };
 
     /// After it a stop leaves what a read gives. A sync that fails changes nothing.
     fn sync(&mut self) -> Result<(), Failed>
-        ensures seen { OnOk result (Moved (told self.old) (told self.new) (λ old new. new.seen ≡ old.seen)) }
-        ensures images { OnOk result (Moved (told self.old) (told self.new)
-            (λ old new. Changes (synced old.seen) old new)) }
+        ensures seen { OnOk result (WhereTold (told self.old) (told self.new) (λ old new. new.seen ≡ old.seen)) }
+        ensures images { OnOk result (WhereTold (told self.old) (told self.new)
+            (λ old new. Changes (mask_after_sync old.seen) old new)) }
         ensures keeps { OnErr result (told self.new ≡ told self.old) }
         ensures image { SeesImage (told self.old) }
         ensures call { CallEnds (fuse self.old) (fuse self.new) result }

@@ -3,7 +3,7 @@ ghost use Rattle.std.specs.Prelude.{◌≡◌, ◌≢◌, ◌≤◌, ◌<◌, �
 ghost use Rattle.base_kinds.specs.declared.fill.Fill.{Fill};
 ghost use Rattle.disk_model.specs.Arming.{outcome_of, arming_after_calls, armed_by};
 ghost use Rattle.disk_model.specs.Content.{Wrote};
-ghost use Rattle.disk_model.specs.Images.{IsImage, synced, touched};
+ghost use Rattle.disk_model.specs.Images.{IsImage, mask_after_sync, mask_after_write};
 
 use crate::outcome::Outcome;
 
@@ -14,17 +14,17 @@ pub fn image_is_of_mask()
 
 /// After a sync the octets themselves are an image, and each image begins with them.
 pub fn synced_image()
-    ensures { (seen octets : List ℕ) → IsImage (synced seen) octets ↔ (take (length seen) octets ≡ seen) }
+    ensures { (seen octets : List ℕ) → IsImage (mask_after_sync seen) octets ↔ (take (length seen) octets ≡ seen) }
 {}
 
 /// What was an image stays one where a place was touched.
 pub fn image_of_touched()
-    ensures { (mask : List (Option ℕ)) (octets : List ℕ) (place n : ℕ) → IsImage mask octets → IsImage (touched place n mask) octets }
+    ensures { (mask : List (Option ℕ)) (octets : List ℕ) (place n : ℕ) → IsImage mask octets → IsImage (mask_after_write place n mask) octets }
 {}
 
 /// An image over which a piece is written is an image after the write.
 pub fn image_of_written()
-    ensures { (mask : List (Option ℕ)) (old piece new : List ℕ) (place : ℕ) → IsImage mask old → Wrote place piece old new → IsImage (touched place (length piece) mask) new }
+    ensures { (mask : List (Option ℕ)) (old piece new : List ℕ) (place : ℕ) → IsImage mask old → Wrote place piece old new → IsImage (mask_after_write place (length piece) mask) new }
 {}
 
 /// While nothing waits each call passes.

@@ -18,5 +18,3 @@ pub use outcome::Outcome;
 pub use reading::{read_part, read_whole};
 pub use writing::put_synced;
 
-#[cfg(test)]
-mod tests;

@@ -2,15 +2,15 @@
 use Rattle.std.proofs.Common.{◌≡◌, inl, inr, ℕ, ◌+◌, List, length, take, true, false, Result, Ok, Err, refl, ap, subst, sym, ◌∙◌, arith}
 use Rattle.edge_traits.specs.Faults.{HasCause}
 use Rattle.disk_model.specs.Content.{Content, Changes}
-use Rattle.disk_model.specs.Images.{IsImage, touched, synced}
+use Rattle.disk_model.specs.Images.{IsImage, mask_after_write, mask_after_sync}
 use Rattle.disk_model.proofs.Images.{image_of_touched, image_of_front, image_of_cut, image_of_written, image_self}
 use Rattle.disk_model.specs.Arming.{Arming, AllPass, outcome_of, arming_after, arming_after_calls}
 use Rattle.disk_model.specs.Calls.{Fuse, CallsPassed, CallFailed, CallEnds}
 use Rattle.disk_model.specs.declared.outcome.Outcome.{Outcome}
 use Rattle.disk_model.specs.declared.outcome.Outcome.TheVariants.{Passes, Fails, Stops}
-use Rattle.memory_disks.specs.Calls.{wrote, write_failed, cut_to, cut_failed, synced_now}
-use Rattle.memory_disks.specs.Octets.{laid}
-use Rattle.memory_disks.specs.Fuses.{FuseView, fuse_of, called, WriteGives, CutGives, synced_by}
+use Rattle.memory_disks.specs.Calls.{content_after_write, content_after_failed_write, content_after_cut, content_after_failed_cut, content_after_sync}
+use Rattle.memory_disks.specs.Octets.{octets_after_write}
+use Rattle.memory_disks.specs.Fuses.{FuseView, fuse_of, with_call_counted, WriteGives, CutGives, after_sync}
 use Rattle.memory_disks.proofs.Laid.{wrote_laid}
 
 pub failed_cause : {T E : Type 0} (e : E) (before now : ℕ) → now ≡ before + 1 → HasCause {T = T} before now (Err e)
@@ -23,40 +23,40 @@ failed_cause e before now is = record {
 passed_cause : {T E : Type 0} (v : T) (before now : ℕ) → now ≡ before → HasCause {E = E} before now (Ok v)
 passed_cause v before now is = record { later = omega (arith, is); failed = tt; quiet = is }
 
-wrote_changes : (place : ℕ) (piece : List ℕ) (old new : Content) → new ≡ wrote place piece old → IsImage old.kept old.seen → Changes (touched place (length piece) old.kept) old new
-wrote_changes place piece old new is image = subst (λ n. Changes (touched place (length piece) old.kept) old n) (sym is) record {
-  kept = refl;
+wrote_changes : (place : ℕ) (piece : List ℕ) (old new : Content) → new ≡ content_after_write place piece old → IsImage old.mask old.seen → Changes (mask_after_write place (length piece) old.mask) old new
+wrote_changes place piece old new is image = subst (λ n. Changes (mask_after_write place (length piece) old.mask) old n) (sym is) record {
+  mask_is = refl;
   past = refl;
-  seen = image_of_written old.kept old.seen piece (laid place piece old.seen) place image (wrote_laid place piece old.seen);
+  seen = image_of_written old.mask old.seen piece (octets_after_write place piece old.seen) place image (wrote_laid place piece old.seen);
 }
 
-write_failed_changes : (place : ℕ) (piece : List ℕ) (old new : Content) → new ≡ write_failed place piece old → IsImage old.kept old.seen → Changes (touched place (length piece) old.kept) old new
-write_failed_changes place piece old new is image = subst (λ n. Changes (touched place (length piece) old.kept) old n) (sym is) record {
-  kept = refl;
+write_failed_changes : (place : ℕ) (piece : List ℕ) (old new : Content) → new ≡ content_after_failed_write place piece old → IsImage old.mask old.seen → Changes (mask_after_write place (length piece) old.mask) old new
+write_failed_changes place piece old new is image = subst (λ n. Changes (mask_after_write place (length piece) old.mask) old n) (sym is) record {
+  mask_is = refl;
   past = refl;
-  seen = image_of_touched old.kept old.seen place (length piece) image;
+  seen = image_of_touched old.mask old.seen place (length piece) image;
 }
 
-cut_changes : (n : ℕ) (old new : Content) → new ≡ cut_to n old → IsImage old.kept old.seen → Changes (take n old.kept) old new
-cut_changes n old new is image = subst (λ c. Changes (take n old.kept) old c) (sym is) record {
-  kept = refl;
+cut_changes : (n : ℕ) (old new : Content) → new ≡ content_after_cut n old → IsImage old.mask old.seen → Changes (take n old.mask) old new
+cut_changes n old new is image = subst (λ c. Changes (take n old.mask) old c) (sym is) record {
+  mask_is = refl;
   past = refl;
-  seen = image_of_cut old.kept old.seen n image;
+  seen = image_of_cut old.mask old.seen n image;
 }
 
-cut_failed_changes : (n : ℕ) (old new : Content) → new ≡ cut_failed n old → IsImage old.kept old.seen → Changes (take n old.kept) old new
-cut_failed_changes n old new is image = subst (λ c. Changes (take n old.kept) old c) (sym is) record {
-  kept = refl;
+cut_failed_changes : (n : ℕ) (old new : Content) → new ≡ content_after_failed_cut n old → IsImage old.mask old.seen → Changes (take n old.mask) old new
+cut_failed_changes n old new is image = subst (λ c. Changes (take n old.mask) old c) (sym is) record {
+  mask_is = refl;
   past = refl;
-  seen = image_of_front old.kept old.seen n image;
+  seen = image_of_front old.mask old.seen n image;
 }
 
-pub synced_changes : (old mid new : FuseView) → mid ≡ called old → new ≡ synced_by Passes mid → Changes (synced old.content.seen) old.content new.content
+pub synced_changes : (old mid new : FuseView) → mid ≡ with_call_counted old → new ≡ after_sync Passes mid → Changes (mask_after_sync old.content.seen) old.content new.content
 synced_changes old mid new start is =
-    let content : new.content ≡ synced_now old.content = ap (λ v. v.content) is ∙ ap (λ v. synced_now v.content) start in
-    subst (λ c. Changes (synced old.content.seen) old.content c) (sym content) record { kept = refl; past = refl; seen = image_self old.content.seen }
+    let content : new.content ≡ content_after_sync old.content = ap (λ v. v.content) is ∙ ap (λ v. content_after_sync v.content) start in
+    subst (λ c. Changes (mask_after_sync old.content.seen) old.content c) (sym content) record { mask_is = refl; past = refl; seen = image_self old.content.seen }
 
-write_images_by : {E : Type 0} (way : Outcome) (place : ℕ) (piece : List ℕ) (result : Result Unit E) (old new : FuseView) → WriteGives way place piece result old new → IsImage old.content.kept old.content.seen → Changes (touched place (length piece) old.content.kept) old.content new.content
+write_images_by : {E : Type 0} (way : Outcome) (place : ℕ) (piece : List ℕ) (result : Result Unit E) (old new : FuseView) → WriteGives way place piece result old new → IsImage old.content.mask old.content.seen → Changes (mask_after_write place (length piece) old.content.mask) old.content new.content
 write_images_by Passes place piece (Ok v) old new gives image = wrote_changes place piece old.content new.content (ap (λ v. v.content) gives) image
 write_images_by Passes place piece (Err e) old new gives image = write_failed_changes place piece old.content new.content (ap (λ v. v.content) gives) image
 write_images_by Fails place piece result old new gives image = write_failed_changes place piece old.content new.content (ap (λ v. v.content) gives.1) image
@@ -65,8 +65,8 @@ write_images_by (Stops fill) place piece result old new gives image = elim gives
   | inr not_made ↦ write_failed_changes place piece old.content new.content (ap (λ v. v.content) not_made) image
 ]
 
-pub write_images : {E : Type 0} (way : Outcome) (place : ℕ) (piece : List ℕ) (result : Result Unit E) (old mid new : FuseView) → mid ≡ called old → WriteGives way place piece result mid new → IsImage old.content.kept old.content.seen → Changes (touched place (length piece) old.content.kept) old.content new.content
-write_images way place piece result old mid new start gives image = write_images_by way place piece result (called old) new (subst (λ m. WriteGives way place piece result m new) start gives) image
+pub write_images : {E : Type 0} (way : Outcome) (place : ℕ) (piece : List ℕ) (result : Result Unit E) (old mid new : FuseView) → mid ≡ with_call_counted old → WriteGives way place piece result mid new → IsImage old.content.mask old.content.seen → Changes (mask_after_write place (length piece) old.content.mask) old.content new.content
+write_images way place piece result old mid new start gives image = write_images_by way place piece result (with_call_counted old) new (subst (λ m. WriteGives way place piece result m new) start gives) image
 
 write_cause_by : {E : Type 0} (way : Outcome) (place : ℕ) (piece : List ℕ) (result : Result Unit E) (old new : FuseView) → WriteGives way place piece result old new → HasCause old.faults new.faults result
 write_cause_by Passes place piece (Ok v) old new gives = passed_cause v old.faults new.faults (ap (λ v. v.faults) gives)
@@ -79,17 +79,17 @@ write_cause_by (Stops fill) place piece (Err e) old new gives = elim gives.1 [
   | inr not_made ↦ failed_cause e old.faults new.faults (ap (λ v. v.faults) not_made)
 ]
 
-pub write_cause : {E : Type 0} (way : Outcome) (place : ℕ) (piece : List ℕ) (result : Result Unit E) (old mid new : FuseView) → mid ≡ called old → WriteGives way place piece result mid new → HasCause old.faults new.faults result
-write_cause way place piece result old mid new start gives = write_cause_by way place piece result (called old) new (subst (λ m. WriteGives way place piece result m new) start gives)
+pub write_cause : {E : Type 0} (way : Outcome) (place : ℕ) (piece : List ℕ) (result : Result Unit E) (old mid new : FuseView) → mid ≡ with_call_counted old → WriteGives way place piece result mid new → HasCause old.faults new.faults result
+write_cause way place piece result old mid new start gives = write_cause_by way place piece result (with_call_counted old) new (subst (λ m. WriteGives way place piece result m new) start gives)
 
-cut_images_by : {E : Type 0} (way : Outcome) (n : ℕ) (result : Result Unit E) (old new : FuseView) → CutGives way n result old new → IsImage old.content.kept old.content.seen → Changes (take n old.content.kept) old.content new.content
+cut_images_by : {E : Type 0} (way : Outcome) (n : ℕ) (result : Result Unit E) (old new : FuseView) → CutGives way n result old new → IsImage old.content.mask old.content.seen → Changes (take n old.content.mask) old.content new.content
 cut_images_by Passes n (Ok v) old new gives image = cut_changes n old.content new.content (ap (λ v. v.content) gives) image
 cut_images_by Passes n (Err e) old new gives image = cut_failed_changes n old.content new.content (ap (λ v. v.content) gives) image
 cut_images_by Fails n result old new gives image = cut_failed_changes n old.content new.content (ap (λ v. v.content) gives.1) image
 cut_images_by (Stops fill) n result old new gives image = cut_failed_changes n old.content new.content (ap (λ v. v.content) gives.1) image
 
-pub cut_images : {E : Type 0} (way : Outcome) (n : ℕ) (result : Result Unit E) (old mid new : FuseView) → mid ≡ called old → CutGives way n result mid new → IsImage old.content.kept old.content.seen → Changes (take n old.content.kept) old.content new.content
-cut_images way n result old mid new start gives image = cut_images_by way n result (called old) new (subst (λ m. CutGives way n result m new) start gives) image
+pub cut_images : {E : Type 0} (way : Outcome) (n : ℕ) (result : Result Unit E) (old mid new : FuseView) → mid ≡ with_call_counted old → CutGives way n result mid new → IsImage old.content.mask old.content.seen → Changes (take n old.content.mask) old.content new.content
+cut_images way n result old mid new start gives image = cut_images_by way n result (with_call_counted old) new (subst (λ m. CutGives way n result m new) start gives) image
 
 cut_cause_by : {E : Type 0} (way : Outcome) (n : ℕ) (result : Result Unit E) (old new : FuseView) → CutGives way n result old new → HasCause old.faults new.faults result
 cut_cause_by Passes n (Ok v) old new gives = passed_cause v old.faults new.faults (ap (λ v. v.faults) gives)
@@ -99,5 +99,5 @@ cut_cause_by Fails n (Err e) old new gives = failed_cause e old.faults new.fault
 cut_cause_by (Stops fill) n (Ok v) old new gives = let wrong : false ≡ true = gives.0 in absurd (cc)
 cut_cause_by (Stops fill) n (Err e) old new gives = failed_cause e old.faults new.faults (ap (λ v. v.faults) gives.1)
 
-pub cut_cause : {E : Type 0} (way : Outcome) (n : ℕ) (result : Result Unit E) (old mid new : FuseView) → mid ≡ called old → CutGives way n result mid new → HasCause old.faults new.faults result
-cut_cause way n result old mid new start gives = cut_cause_by way n result (called old) new (subst (λ m. CutGives way n result m new) start gives)
+pub cut_cause : {E : Type 0} (way : Outcome) (n : ℕ) (result : Result Unit E) (old mid new : FuseView) → mid ≡ with_call_counted old → CutGives way n result mid new → HasCause old.faults new.faults result
+cut_cause way n result old mid new start gives = cut_cause_by way n result (with_call_counted old) new (subst (λ m. CutGives way n result m new) start gives)

@@ -8,6 +8,6 @@ pub image_as : (mask now : List (Option ℕ)) (octets seen : List ℕ) → now �
 image_as mask now octets seen mask_is seen_is image = subst (λ m. IsImage m seen) (sym mask_is) (subst (λ o. IsImage mask o) (sym seen_is) image)
 
 -- one moment more
-pub changed : (f : Content → List (Option ℕ)) (old new : Content) (before : DiskView) (faults : ℕ) (starved : Bool) → record { content = old; faults = faults; starved = starved } ≡ before → new.kept ≡ f old → new.past ≡ old.kept ∷ old.past → IsImage new.kept new.seen → Changes (f before.content) before.content new
+pub changed : (f : Content → List (Option ℕ)) (old new : Content) (before : DiskView) (faults : ℕ) (starved : Bool) → record { content = old; faults = faults; starved = starved } ≡ before → new.mask ≡ f old → new.past ≡ old.mask ∷ old.past → IsImage new.mask new.seen → Changes (f before.content) before.content new
 changed f old new before faults starved is kept past image =
-    subst (λ (b : DiskView). Changes (f b.content) b.content new) is record { kept = kept; past = past; seen = subst (λ m. IsImage m new.seen) kept image }
+    subst (λ (b : DiskView). Changes (f b.content) b.content new) is record { mask_is = kept; past = past; seen = subst (λ m. IsImage m new.seen) kept image }

@@ -6,8 +6,8 @@ use Rattle.disk_model.specs.Arming.{Arming, armed_by, arming_after, unarmed}
 use Rattle.disk_model.specs.Calls.{Fuse}
 use Rattle.disk_model.specs.declared.outcome.Outcome.{Outcome}
 use Rattle.disk_model.specs.declared.outcome.Outcome.TheVariants.{Passes, Fails, Stops}
-use Rattle.memory_disks.specs.Calls.{wrote, write_failed, cut_to, cut_failed, synced_now, settled}
-use Rattle.memory_disks.specs.Octets.{laid, left_by}
+use Rattle.memory_disks.specs.Calls.{content_after_write, content_after_failed_write, content_after_cut, content_after_failed_cut, content_after_sync, synced_content}
+use Rattle.memory_disks.specs.Octets.{octets_after_write, octets_after_stop}
 
 pub record FuseView : Type 0 where
   pub content : Content
@@ -35,12 +35,12 @@ abbrev pub first_arming : ℕ → Fill → Arming
 first_arming passes fill = if passes == no_stop then unarmed else armed_by ((passes, fill) ∷ []) []
 
 -- the counts go on by one call
-abbrev pub called : FuseView → FuseView
-called disk = record disk { arming = arming_after disk.arming }
+abbrev pub with_call_counted : FuseView → FuseView
+with_call_counted disk = record disk { arming = arming_after disk.arming }
 
 -- a call fails, with this content, and is counted
-abbrev pub failed : Content → FuseView → FuseView
-failed content disk = record disk { content = content; faults = disk.faults + 1 }
+abbrev pub after_failure : Content → FuseView → FuseView
+after_failure content disk = record disk { content = content; faults = disk.faults + 1 }
 
 -- and it fails for want of memory
 abbrev pub starved : FuseView → FuseView
@@ -48,50 +48,50 @@ starved disk = record disk { starved = true }
 
 -- the disk stops: by what a read gives and by the ranges that were written since the last sync
 abbrev pub stopped : Fill → List ℕ → List (ℕ × ℕ) → FuseView → FuseView
-stopped fill seen written disk = record disk { left = Some (left_by fill disk.base seen written) }
+stopped fill seen written disk = record disk { left = Some (octets_after_stop fill disk.base seen written) }
 
 -- what a call does that changes no content: the length, or a read
-abbrev pub looked : Outcome → FuseView → FuseView
-looked Passes disk = disk
-looked Fails disk = failed disk.content disk
-looked (Stops fill) disk = stopped fill disk.content.seen disk.written (failed disk.content disk)
+abbrev pub after_look : Outcome → FuseView → FuseView
+after_look Passes disk = disk
+after_look Fails disk = after_failure disk.content disk
+after_look (Stops fill) disk = stopped fill disk.content.seen disk.written (after_failure disk.content disk)
 
 -- A sync. After it nothing is written since the last one. A sync that fails changes nothing.
-abbrev pub synced_by : Outcome → FuseView → FuseView
-synced_by Passes disk = record disk { content = synced_now disk.content; base = disk.content.seen; written = [] }
-synced_by Fails disk = looked Fails disk
-synced_by (Stops fill) disk = looked (Stops fill) disk
+abbrev pub after_sync : Outcome → FuseView → FuseView
+after_sync Passes disk = record disk { content = content_after_sync disk.content; base = disk.content.seen; written = [] }
+after_sync Fails disk = after_look Fails disk
+after_sync (Stops fill) disk = after_look (Stops fill) disk
 
 -- a stop in a write
 abbrev pub StopsInWrite : Fill → ℕ → List ℕ → FuseView → FuseView → Type 0
 StopsInWrite fill place piece old new =
-    (new ≡ stopped fill (laid place piece old.content.seen) (old.written ++ (place, length piece) ∷ []) (failed (write_failed place piece old.content) old))
-    ⊎ (new ≡ starved (stopped fill old.content.seen old.written (failed (write_failed place piece old.content) old)))
+    (new ≡ stopped fill (octets_after_write place piece old.content.seen) (old.written ++ (place, length piece) ∷ []) (after_failure (content_after_failed_write place piece old.content) old))
+    ⊎ (new ≡ starved (stopped fill old.content.seen old.written (after_failure (content_after_failed_write place piece old.content) old)))
 
 -- A write. Where it passes it fails for want of memory alone. Where the disk stops in it, its piece counts as written
 -- since the last sync, unless there was no memory for it.
 abbrev pub WriteGives : {E : Type 0} → Outcome → ℕ → List ℕ → Result Unit E → FuseView → FuseView → Type 0
 WriteGives Passes place piece result old new = MatchResult result
-    (λ _. new ≡ record old { content = wrote place piece old.content; written = old.written ++ (place, length piece) ∷ [] })
-    (λ _. new ≡ starved (failed (write_failed place piece old.content) old))
-WriteGives Fails place piece result old new = IsErr result × (new ≡ failed (write_failed place piece old.content) old)
+    (λ _. new ≡ record old { content = content_after_write place piece old.content; written = old.written ++ (place, length piece) ∷ [] })
+    (λ _. new ≡ starved (after_failure (content_after_failed_write place piece old.content) old))
+WriteGives Fails place piece result old new = IsErr result × (new ≡ after_failure (content_after_failed_write place piece old.content) old)
 WriteGives (Stops fill) place piece result old new = IsErr result × StopsInWrite fill place piece old new
 
 -- A cut. Where it passes it fails for want of memory alone. Where the disk stops in it, it isn't made.
 abbrev pub CutGives : {E : Type 0} → Outcome → ℕ → Result Unit E → FuseView → FuseView → Type 0
 CutGives Passes n result old new = MatchResult result
-    (λ _. new ≡ record old { content = cut_to n old.content })
-    (λ _. new ≡ starved (failed (cut_failed n old.content) old))
-CutGives Fails n result old new = IsErr result × (new ≡ failed (cut_failed n old.content) old)
-CutGives (Stops fill) n result old new = IsErr result × (new ≡ stopped fill old.content.seen old.written (failed (cut_failed n old.content) old))
+    (λ _. new ≡ record old { content = content_after_cut n old.content })
+    (λ _. new ≡ starved (after_failure (content_after_failed_cut n old.content) old))
+CutGives Fails n result old new = IsErr result × (new ≡ after_failure (content_after_failed_cut n old.content) old)
+CutGives (Stops fill) n result old new = IsErr result × (new ≡ stopped fill old.content.seen old.written (after_failure (content_after_failed_cut n old.content) old))
 
 -- what the disk leaves: after a stop what that left, and before one what a read gives
-abbrev pub image_of : FuseView → List ℕ
-image_of disk = unwrap_or disk.left disk.content.seen
+abbrev pub image_left : FuseView → List ℕ
+image_left disk = unwrap_or disk.left disk.content.seen
 
 -- a disk that is made of these octets, all of them synced
 abbrev pub made_of : List ℕ → Bool → Arming → FuseView
-made_of octets starved arming = record { content = settled octets; faults = 0; starved = starved; arming = arming; base = octets; written = []; left = None }
+made_of octets starved arming = record { content = synced_content octets; faults = 0; starved = starved; arming = arming; base = octets; written = []; left = None }
 
 -- A disk is ready for what its call does: while it passes or stops it hasn't left anything, and in its stop it is marked
 -- as stopped.

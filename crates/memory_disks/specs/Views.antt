@@ -11,8 +11,8 @@ pub record DiskView : Type 0 where
   pub starved : Bool
 
 -- a call failed for want of memory, and left this content
-abbrev pub starved_with : Content → DiskView → DiskView
-starved_with content disk = record { content = content; faults = disk.faults + 1; starved = true }
+abbrev pub with_starved_call : Content → DiskView → DiskView
+with_starved_call content disk = record { content = content; faults = disk.faults + 1; starved = true }
 
 -- what makes its calls fail: it is never armed
 abbrev pub fuse_of : DiskView → Fuse

@@ -2,10 +2,10 @@ ghost use Rattle.std.specs.Prelude.{◌≡◌, ◌↔◌, ◌≤◌, ◌∷◌, 
 ghost use Rattle.edge_traits.specs.Faults.{HasCause};
 ghost use Rattle.disk_model.specs.Arming.{outcome_of, restarted, with_failure, with_stop};
 ghost use Rattle.disk_model.specs.Calls.{CallEnds, FillsBuffer, armed_with, starved as starved_fuse};
-ghost use Rattle.disk_model.specs.Content.{Content, Moved, Tells, SeesImage, ReadsAt, Changes, Wrote};
-ghost use Rattle.disk_model.specs.Images.{IsImage, synced, touched};
-ghost use Rattle.memory_disks.specs.Calls.{settled};
-ghost use Rattle.memory_disks.specs.Fuses.{FuseView, fuse_of, first_arming, called, starved, looked, synced_by, WriteGives, CutGives, image_of, made_of};
+ghost use Rattle.disk_model.specs.Content.{Content, WhereTold, Tells, SeesImage, ReadsAt, Changes, Wrote};
+ghost use Rattle.disk_model.specs.Images.{IsImage, mask_after_sync, mask_after_write};
+ghost use Rattle.memory_disks.specs.Calls.{synced_content};
+ghost use Rattle.memory_disks.specs.Fuses.{FuseView, fuse_of, first_arming, with_call_counted, starved, after_look, after_sync, WriteGives, CutGives, image_left, made_of};
 
 use crate::lines::Lines;
 use crate::log::Log;
@@ -42,13 +42,13 @@ pub struct FuseDisk {
 impl Model for FuseDisk {
     ghost use Rattle.std.specs.Prelude.{option_map};
     ghost use Rattle.memory_disks.specs.Kept.{IsFused, seen_of, left_of};
-    ghost use Rattle.memory_disks.specs.Logs.{kept_by, past_of};
+    ghost use Rattle.memory_disks.specs.Logs.{mask_of, past_of};
     ghost use Rattle.memory_disks.specs.Fuses.{FuseView};
 
     ghost Value = { FuseView };
 
     ghost view = { λ d. record {
-      content = record { seen = seen_of (option_map (λ s. s.value.items) d.before) d.octets.items; kept = kept_by d.log; past = past_of d.log };
+      content = record { seen = seen_of (option_map (λ s. s.value.items) d.before) d.octets.items; mask = mask_of d.log; past = past_of d.log };
       faults = d.faults;
       starved = d.starved;
       arming = d.arming;
@@ -57,7 +57,7 @@ impl Model for FuseDisk {
       left = left_of (option_map (λ s. s.value.items) d.before) d.octets.items;
     } };
 
-    ghost invariant = { λ d. IsFused d.arming.stopped (option_map (λ s. s.value.items) d.before) (option_map (λ s. s.items) d.safe) d.base.value.items d.octets.items d.written.items (kept_by d.log) };
+    ghost invariant = { λ d. IsFused d.arming.stopped (option_map (λ s. s.value.items) d.before) (option_map (λ s. s.items) d.safe) d.base.value.items d.octets.items d.written.items (mask_of d.log) };
 }
 
 impl FuseDisk {
@@ -83,8 +83,8 @@ impl FuseDisk {
 
     /// What the stop left, and before a stop the disk as it reads. Takes no memory.
     pub fn image(self) -> MemDisk
-        ensures octets { result ≡ record { content = settled (image_of self); faults = 0; starved = self.starved } }
-        ensures image { IsImage self.content.kept result.content.seen }
+        ensures octets { result ≡ record { content = synced_content (image_left self); faults = 0; starved = self.starved } }
+        ensures image { IsImage self.content.mask result.content.seen }
     {
         let FuseDisk {
             alloc,
@@ -97,8 +97,8 @@ impl FuseDisk {
 
     /// A new disk of that image, for which the stops and failures that still wait go on. Takes no memory.
     pub fn again(self) -> FuseDisk
-        ensures octets { result ≡ made_of (image_of self) self.starved (restarted self.arming) }
-        ensures image { IsImage self.content.kept result.content.seen }
+        ensures octets { result ≡ made_of (image_left self) self.starved (restarted self.arming) }
+        ensures image { IsImage self.content.mask result.content.seen }
     {
         let FuseDisk {
             alloc,
@@ -109,7 +109,7 @@ impl FuseDisk {
         } = self;
         FuseDisk {
             alloc,
-            log: Log::made(&octets),
+            log: Log::start(&octets),
             base: Snapshot::of(&octets),
             octets,
             safe: None,
@@ -132,7 +132,7 @@ impl Disk for FuseDisk {
     /// Fails exactly where it is armed.
     fn len(&mut self) -> Result<u64, Failed>
         ensures passes { IsOk result ↔ (outcome_of self.old.arming ≡ Outcome.Passes) }
-        ensures looked { self.new ≡ looked (outcome_of self.old.arming) (called self.old) }
+        ensures looked { self.new ≡ after_look (outcome_of self.old.arming) (with_call_counted self.old) }
         ensures length { IfOk result (λ n. Tells (Some self.old.content) (λ c. n ≡ length c.seen)) }
         ensures keeps { Some self.new.content ≡ Some self.old.content }
         ensures image { SeesImage (Some self.old.content) }
@@ -146,7 +146,7 @@ impl Disk for FuseDisk {
     /// Fails exactly where it is armed, and else fills the buffer as far as there are octets.
     fn read(&mut self, place: u64, into: &mut [u8]) -> Result<usize, Failed>
         ensures passes { IsOk result ↔ (outcome_of self.old.arming ≡ Outcome.Passes) }
-        ensures looked { self.new ≡ looked (outcome_of self.old.arming) (called self.old) }
+        ensures looked { self.new ≡ after_look (outcome_of self.old.arming) (with_call_counted self.old) }
         ensures count { IfOk result (λ n. n ≡ min (length into.old) (length (drop place self.old.content.seen))) }
         ensures bound { IfOk result (λ n. n ≤ length into.new) }
         ensures octets { IfOk result (λ n. Tells (Some self.old.content) (λ c. ReadsAt c.seen place n into.new)) }
@@ -163,13 +163,13 @@ impl Disk for FuseDisk {
 
     /// Fails where it is armed, and else for want of memory alone.
     fn write_at(&mut self, place: u64, piece: &[u8]) -> Result<(), Failed>
-        ensures gives { WriteGives (outcome_of self.old.arming) place piece.now result (called self.old) self.new }
-        ensures written { OnOk result (Moved (Some self.old.content) (Some self.new.content)
+        ensures gives { WriteGives (outcome_of self.old.arming) place piece.now result (with_call_counted self.old) self.new }
+        ensures written { OnOk result (WhereTold (Some self.old.content) (Some self.new.content)
             (λ old new. Wrote place piece.now old.seen new.seen)) }
-        ensures stays { OnErr result (Moved (Some self.old.content) (Some self.new.content)
+        ensures stays { OnErr result (WhereTold (Some self.old.content) (Some self.new.content)
             (λ old new. new.seen ≡ old.seen)) }
-        ensures images { Moved (Some self.old.content) (Some self.new.content)
-            (λ old new. Changes (touched place (length piece.now) old.kept) old new) }
+        ensures images { WhereTold (Some self.old.content) (Some self.new.content)
+            (λ old new. Changes (mask_after_write place (length piece.now) old.mask) old new) }
         ensures image { SeesImage (Some self.old.content) }
         ensures call { CallEnds (fuse_of self.old) (fuse_of self.new) result }
         ensures cause { HasCause self.old.faults self.new.faults result }
@@ -180,13 +180,13 @@ impl Disk for FuseDisk {
 
     /// Fails where it is armed, and else for want of memory alone.
     fn cut(&mut self, length: u64) -> Result<(), Failed>
-        ensures gives { CutGives (outcome_of self.old.arming) length result (called self.old) self.new }
-        ensures cut { OnOk result (Moved (Some self.old.content) (Some self.new.content)
+        ensures gives { CutGives (outcome_of self.old.arming) length result (with_call_counted self.old) self.new }
+        ensures cut { OnOk result (WhereTold (Some self.old.content) (Some self.new.content)
             (λ old new. new.seen ≡ take length old.seen)) }
-        ensures stays { OnErr result (Moved (Some self.old.content) (Some self.new.content)
+        ensures stays { OnErr result (WhereTold (Some self.old.content) (Some self.new.content)
             (λ old new. new.seen ≡ old.seen)) }
-        ensures images { Moved (Some self.old.content) (Some self.new.content)
-            (λ old new. Changes (take length old.kept) old new) }
+        ensures images { WhereTold (Some self.old.content) (Some self.new.content)
+            (λ old new. Changes (take length old.mask) old new) }
         ensures image { SeesImage (Some self.old.content) }
         ensures call { CallEnds (fuse_of self.old) (fuse_of self.new) result }
         ensures cause { HasCause self.old.faults self.new.faults result }
@@ -198,11 +198,11 @@ impl Disk for FuseDisk {
     /// Fails exactly where it is armed.
     fn sync(&mut self) -> Result<(), Failed>
         ensures passes { IsOk result ↔ (outcome_of self.old.arming ≡ Outcome.Passes) }
-        ensures synced { self.new ≡ synced_by (outcome_of self.old.arming) (called self.old) }
-        ensures seen { OnOk result (Moved (Some self.old.content) (Some self.new.content)
+        ensures synced { self.new ≡ after_sync (outcome_of self.old.arming) (with_call_counted self.old) }
+        ensures seen { OnOk result (WhereTold (Some self.old.content) (Some self.new.content)
             (λ old new. new.seen ≡ old.seen)) }
-        ensures images { OnOk result (Moved (Some self.old.content) (Some self.new.content)
-            (λ old new. Changes (synced old.seen) old new)) }
+        ensures images { OnOk result (WhereTold (Some self.old.content) (Some self.new.content)
+            (λ old new. Changes (mask_after_sync old.seen) old new)) }
         ensures keeps { OnErr result (Some self.new.content ≡ Some self.old.content) }
         ensures image { SeesImage (Some self.old.content) }
         ensures call { CallEnds (fuse_of self.old) (fuse_of self.new) result }

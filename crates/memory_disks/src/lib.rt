@@ -15,5 +15,3 @@ pub use fuse::FuseDisk;
 pub use lines::NO_STOP;
 pub use memory::MemDisk;
 
-#[cfg(test)]
-mod tests;

@@ -1,6 +1,6 @@
 ghost use Rattle.std.specs.Prelude.{◌≡◌, ◌∷◌, [], take};
-ghost use Rattle.disk_model.specs.Images.{synced, touched};
-ghost use Rattle.memory_disks.specs.Logs.{kept_by, past_of};
+ghost use Rattle.disk_model.specs.Images.{mask_after_sync, mask_after_write};
+ghost use Rattle.memory_disks.specs.Logs.{mask_of, past_of};
 
 use std::snapshot::Snapshot;
 
@@ -14,30 +14,30 @@ pub enum Log {
 }
 
 impl Log {
-    pub(crate) fn made(octets: &Vec<u8>) -> Log
-        ensures kept { kept_by result ≡ synced octets.now.items }
+    pub(crate) fn start(octets: &Vec<u8>) -> Log
+        ensures mask { mask_of result ≡ mask_after_sync octets.now.items }
         ensures past { past_of result ≡ [] }
     {
         Log::Made(Snapshot::of(octets))
     }
 
-    pub(crate) fn wrote(&self, place: u64, count: usize) -> Log
-        ensures kept { kept_by result ≡ touched place count (kept_by self.now) }
-        ensures past { past_of result ≡ kept_by self.now ∷ past_of self.now }
+    pub(crate) fn after_write(&self, place: u64, count: usize) -> Log
+        ensures mask { mask_of result ≡ mask_after_write place count (mask_of self.now) }
+        ensures past { past_of result ≡ mask_of self.now ∷ past_of self.now }
     {
         Log::Wrote(Snapshot::of(self), place, count)
     }
 
-    pub(crate) fn cut(&self, length: u64) -> Log
-        ensures kept { kept_by result ≡ take length (kept_by self.now) }
-        ensures past { past_of result ≡ kept_by self.now ∷ past_of self.now }
+    pub(crate) fn after_cut(&self, length: u64) -> Log
+        ensures mask { mask_of result ≡ take length (mask_of self.now) }
+        ensures past { past_of result ≡ mask_of self.now ∷ past_of self.now }
     {
         Log::Cut(Snapshot::of(self), length)
     }
 
-    pub(crate) fn synced(&self, octets: &Vec<u8>) -> Log
-        ensures kept { kept_by result ≡ synced octets.now.items }
-        ensures past { past_of result ≡ kept_by self.now ∷ past_of self.now }
+    pub(crate) fn after_sync(&self, octets: &Vec<u8>) -> Log
+        ensures mask { mask_of result ≡ mask_after_sync octets.now.items }
+        ensures past { past_of result ≡ mask_of self.now ∷ past_of self.now }
     {
         Log::Synced(Snapshot::of(self), Snapshot::of(octets))
     }

@@ -1,10 +1,10 @@
 ghost use Rattle.std.specs.Prelude.{◌≡◌, ◌≤◌, ◌↔◌, ℕ, [], length, take, drop, min, true, false, IsTrue, IsOk, Some, IfOk, OnOk, OnErr};
 ghost use Rattle.edge_traits.specs.Faults.{HasCause};
-ghost use Rattle.disk_model.specs.Content.{Content, Moved, Tells, SeesImage, ReadsAt, Changes, Wrote};
-ghost use Rattle.disk_model.specs.Images.{IsImage, synced, touched};
-ghost use Rattle.memory_disks.specs.Calls.{wrote, write_failed, cut_to, synced_now, settled};
+ghost use Rattle.disk_model.specs.Content.{Content, WhereTold, Tells, SeesImage, ReadsAt, Changes, Wrote};
+ghost use Rattle.disk_model.specs.Images.{IsImage, mask_after_sync, mask_after_write};
+ghost use Rattle.memory_disks.specs.Calls.{content_after_write, content_after_failed_write, content_after_cut, content_after_sync, synced_content};
 ghost use Rattle.disk_model.specs.Calls.{CallEnds, FillsBuffer};
-ghost use Rattle.memory_disks.specs.Views.{DiskView, fuse_of, starved_with};
+ghost use Rattle.memory_disks.specs.Views.{DiskView, fuse_of, with_starved_call};
 
 use crate::log::Log;
 use crate::octets::{copy_from, write_over};
@@ -26,29 +26,29 @@ pub struct MemDisk {
 
 impl Model for MemDisk {
     ghost use Rattle.disk_model.specs.Images.{IsImage};
-    ghost use Rattle.memory_disks.specs.Logs.{kept_by, past_of};
+    ghost use Rattle.memory_disks.specs.Logs.{mask_of, past_of};
     ghost use Rattle.memory_disks.specs.Views.{DiskView};
 
     ghost Value = { DiskView };
 
-    ghost view = { λ d. record { content = record { seen = d.octets.items; kept = kept_by d.log; past = past_of d.log }; faults = d.faults; starved = d.starved } };
+    ghost view = { λ d. record { content = record { seen = d.octets.items; mask = mask_of d.log; past = past_of d.log }; faults = d.faults; starved = d.starved } };
 
-    ghost invariant = { λ d. IsImage (kept_by d.log) d.octets.items };
+    ghost invariant = { λ d. IsImage (mask_of d.log) d.octets.items };
 }
 
 impl MemDisk {
-    ghost use Rattle.memory_disks.specs.Logs.{kept_by, past_of};
+    ghost use Rattle.memory_disks.specs.Logs.{mask_of, past_of};
 
     /// An empty disk. Takes no memory.
     pub fn make(alloc: Global) -> MemDisk
-        ensures { result ≡ record { content = settled []; faults = 0; starved = false } }
+        ensures { result ≡ record { content = synced_content []; faults = 0; starved = false } }
     {
         MemDisk::holding(alloc, Vec::new(alloc), false)
     }
 
     /// A disk with these octets, all synced.
     pub fn of(alloc: Global, octets: &[u8]) -> Result<MemDisk, NoMemory>
-        ensures { IfOk result (λ disk. disk ≡ record { content = settled octets.now; faults = 0; starved = false }) }
+        ensures { IfOk result (λ disk. disk ≡ record { content = synced_content octets.now; faults = 0; starved = false }) }
     {
         let octets = octets.to_vec(alloc)?;
         Ok(MemDisk::holding(alloc, octets, false))
@@ -56,11 +56,11 @@ impl MemDisk {
 
     /// A disk with these octets, all synced. Takes no memory.
     pub(crate) fn holding(alloc: Global, octets: Vec<u8>, starved: bool) -> MemDisk
-        ensures { result ≡ record { content = settled octets.items; faults = 0; starved = starved } }
+        ensures { result ≡ record { content = synced_content octets.items; faults = 0; starved = starved } }
     {
         MemDisk {
             alloc,
-            log: Log::made(&octets),
+            log: Log::start(&octets),
             octets,
             faults: Tally::zero(),
             starved,
@@ -70,10 +70,10 @@ impl MemDisk {
     /// Its allocator, its octets, its calls, and whether it has failed for want of memory.
     pub(crate) fn into_parts(self) -> (Global, Vec<u8>, Log, bool)
         ensures seen { result.1.items ≡ self.content.seen }
-        ensures kept { kept_by result.2 ≡ self.content.kept }
+        ensures mask { mask_of result.2 ≡ self.content.mask }
         ensures past { past_of result.2 ≡ self.content.past }
         ensures starved { result.3 ≡ self.starved }
-        ensures image { IsImage self.content.kept self.content.seen }
+        ensures image { IsImage self.content.mask self.content.seen }
     {
         let MemDisk {
             alloc,
@@ -138,17 +138,17 @@ impl Disk for MemDisk {
 
     /// Fails for want of memory alone, and then changes nothing that a read gives.
     fn write_at(&mut self, place: u64, piece: &[u8]) -> Result<(), Failed>
-        ensures ok { OnOk result (self.new ≡ record self.old { content = wrote place piece.now self.old.content }) }
-        ensures err { OnErr result (self.new ≡ starved_with (write_failed place piece.now self.old.content) self.old) }
-        ensures images { Moved (Some self.old.content) (Some self.new.content) (λ old new. Changes (touched place (length piece.now) old.kept) old new) }
+        ensures ok { OnOk result (self.new ≡ record self.old { content = content_after_write place piece.now self.old.content }) }
+        ensures err { OnErr result (self.new ≡ with_starved_call (content_after_failed_write place piece.now self.old.content) self.old) }
+        ensures images { WhereTold (Some self.old.content) (Some self.new.content) (λ old new. Changes (mask_after_write place (length piece.now) old.mask) old new) }
         ensures image { SeesImage (Some self.old.content) }
         ensures call { CallEnds (fuse_of self.old) (fuse_of self.new) result }
-        ensures stays { OnErr result (Moved (Some self.old.content) (Some self.new.content)
+        ensures stays { OnErr result (WhereTold (Some self.old.content) (Some self.new.content)
             (λ old new. new.seen ≡ old.seen)) }
-        ensures written { OnOk result (Moved (Some self.old.content) (Some self.new.content) (λ old new. Wrote place piece.now old.seen new.seen)) }
+        ensures written { OnOk result (WhereTold (Some self.old.content) (Some self.new.content) (λ old new. Wrote place piece.now old.seen new.seen)) }
         ensures cause { HasCause self.old.faults self.new.faults result }
     {
-        self.log = self.log.wrote(place, piece.len());
+        self.log = self.log.after_write(place, piece.len());
         match write_over(&mut self.octets, place, piece) {
             Ok(()) => Ok(()),
             Err(_) => {
@@ -162,16 +162,16 @@ impl Disk for MemDisk {
     /// Never fails.
     fn cut(&mut self, length: u64) -> Result<(), Failed>
         ensures ok { IsOk result }
-        ensures to { self.new ≡ record self.old { content = cut_to length self.old.content } }
-        ensures images { Moved (Some self.old.content) (Some self.new.content) (λ old new. Changes (take length old.kept) old new) }
+        ensures to { self.new ≡ record self.old { content = content_after_cut length self.old.content } }
+        ensures images { WhereTold (Some self.old.content) (Some self.new.content) (λ old new. Changes (take length old.mask) old new) }
         ensures image { SeesImage (Some self.old.content) }
         ensures call { CallEnds (fuse_of self.old) (fuse_of self.new) result }
-        ensures stays { OnErr result (Moved (Some self.old.content) (Some self.new.content)
+        ensures stays { OnErr result (WhereTold (Some self.old.content) (Some self.new.content)
             (λ old new. new.seen ≡ old.seen)) }
-        ensures cut { OnOk result (Moved (Some self.old.content) (Some self.new.content) (λ old new. new.seen ≡ take length old.seen)) }
+        ensures cut { OnOk result (WhereTold (Some self.old.content) (Some self.new.content) (λ old new. new.seen ≡ take length old.seen)) }
         ensures cause { HasCause self.old.faults self.new.faults result }
     {
-        self.log = self.log.cut(length);
+        self.log = self.log.after_cut(length);
         self.octets.truncate(length as usize);
         Ok(())
     }
@@ -179,15 +179,15 @@ impl Disk for MemDisk {
     /// Never fails.
     fn sync(&mut self) -> Result<(), Failed>
         ensures ok { IsOk result }
-        ensures now { self.new ≡ record self.old { content = synced_now self.old.content } }
-        ensures images { OnOk result (Moved (Some self.old.content) (Some self.new.content) (λ old new. Changes (synced old.seen) old new)) }
+        ensures now { self.new ≡ record self.old { content = content_after_sync self.old.content } }
+        ensures images { OnOk result (WhereTold (Some self.old.content) (Some self.new.content) (λ old new. Changes (mask_after_sync old.seen) old new)) }
         ensures image { SeesImage (Some self.old.content) }
         ensures call { CallEnds (fuse_of self.old) (fuse_of self.new) result }
-        ensures seen { OnOk result (Moved (Some self.old.content) (Some self.new.content) (λ old new. new.seen ≡ old.seen)) }
+        ensures seen { OnOk result (WhereTold (Some self.old.content) (Some self.new.content) (λ old new. new.seen ≡ old.seen)) }
         ensures keeps { OnErr result (Some self.new.content ≡ Some self.old.content) }
         ensures cause { HasCause self.old.faults self.new.faults result }
     {
-        self.log = self.log.synced(&self.octets);
+        self.log = self.log.after_sync(&self.octets);
         Ok(())
     }
 }

@@ -1,12 +1,12 @@
 ghost use Rattle.std.specs.Prelude.{◌≡◌, ◌++◌, ◌-◌, ◌≤◌, ◌+◌, length, take, drop, replicate, min, OnOk, OnErr};
-ghost use Rattle.disk_model.specs.Images.{painted};
-ghost use Rattle.memory_disks.specs.Octets.{laid, all_painted};
+ghost use Rattle.disk_model.specs.Images.{with_range_filled};
+ghost use Rattle.memory_disks.specs.Octets.{octets_after_write, with_ranges_filled};
 
 use std::alloc::AllocError;
 
 /// Writes a piece at its place, with zeros before it where it begins past the end.
 pub fn write_over(octets: &mut Vec<u8>, place: u64, piece: &[u8]) -> Result<(), AllocError>
-    ensures ok { OnOk result (octets.new.items ≡ laid place piece.now octets.old.items) }
+    ensures ok { OnOk result (octets.new.items ≡ octets_after_write place piece.now octets.old.items) }
     ensures err { OnErr result (octets.new.items ≡ octets.old.items) }
 {
     if piece.is_empty() {
@@ -55,7 +55,7 @@ pub fn copy_from(octets: &[u8], place: u64, into: &mut [u8]) -> usize
 
 /// Puts one octet at these places, as far as they are there.
 pub fn paint(octets: &mut Vec<u8>, place: u64, count: usize, octet: u8)
-    ensures { octets.new.items ≡ painted octet place count octets.old.items }
+    ensures { octets.new.items ≡ with_range_filled octet place count octets.old.items }
 {
     let start = place as usize;
     if start < octets.len() {
@@ -73,7 +73,7 @@ fn fill(octets: &mut Vec<u8>, start: usize, count: usize, octet: u8)
 
 /// Puts one octet at the places of all these ranges.
 pub fn paint_all(octets: &mut Vec<u8>, ranges: &[(u64, usize)], octet: u8)
-    ensures { octets.new.items ≡ all_painted octet ranges.now octets.old.items }
+    ensures { octets.new.items ≡ with_ranges_filled octet ranges.now octets.old.items }
 {
     for range in ranges {
         paint(octets, range.0, range.1, octet);

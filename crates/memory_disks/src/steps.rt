@@ -4,8 +4,8 @@ ghost use Rattle.edge_traits.specs.Faults.{HasCause};
 ghost use Rattle.disk_model.specs.Arming.{outcome_of};
 ghost use Rattle.disk_model.specs.Calls.{CallEnds};
 ghost use Rattle.disk_model.specs.Images.{IsImage};
-ghost use Rattle.memory_disks.specs.Calls.{write_failed, cut_failed};
-ghost use Rattle.memory_disks.specs.Fuses.{FuseView, fuse_of, called, failed, stopped, looked, synced_by, WriteGives, CutGives, StopsInWrite, IsReady};
+ghost use Rattle.memory_disks.specs.Calls.{content_after_failed_write, content_after_failed_cut};
+ghost use Rattle.memory_disks.specs.Fuses.{FuseView, fuse_of, with_call_counted, after_failure, stopped, after_look, after_sync, WriteGives, CutGives, StopsInWrite, IsReady};
 
 use crate::fuse::FuseDisk;
 use crate::leaving::{keep_base, leave, leave_written, write_noted};
@@ -19,15 +19,15 @@ impl FuseDisk {
     /// Lets the counts go on by this call, and answers what it does.
     pub(crate) fn outcome(&mut self) -> Outcome
         ensures outcome { result ≡ outcome_of self.old.arming }
-        ensures called { self.new ≡ called self.old }
+        ensures called { self.new ≡ with_call_counted self.old }
         ensures ready { IsReady result self.new }
-        ensures image { IsImage self.old.content.kept self.old.content.seen }
+        ensures image { IsImage self.old.content.mask self.old.content.seen }
     {
         self.arming.call()
     }
 
     pub(crate) fn fail(&mut self) -> Failed
-        ensures { self.new ≡ failed self.old.content self.old }
+        ensures { self.new ≡ after_failure self.old.content self.old }
     {
         self.faults.rise();
         Failed
@@ -35,24 +35,24 @@ impl FuseDisk {
 
     /// A write fails. It counts as made for what a stop may leave.
     pub(crate) fn fail_write(&mut self, place: u64, piece: &[u8]) -> Failed
-        ensures { self.new ≡ failed (write_failed place piece.now self.old.content) self.old }
+        ensures { self.new ≡ after_failure (content_after_failed_write place piece.now self.old.content) self.old }
     {
-        self.log = self.log.wrote(place, piece.len());
+        self.log = self.log.after_write(place, piece.len());
         self.fail()
     }
 
     /// A cut fails. It counts as made for what a stop may leave.
     pub(crate) fn fail_cut(&mut self, length: u64) -> Failed
-        ensures { self.new ≡ failed (cut_failed length self.old.content) self.old }
+        ensures { self.new ≡ after_failure (content_after_failed_cut length self.old.content) self.old }
     {
-        self.log = self.log.cut(length);
+        self.log = self.log.after_cut(length);
         self.fail()
     }
 
     /// Stops in a call that writes nothing.
     pub(crate) fn stop(&mut self, fill: Fill) -> Failed
         requires { IsReady (Outcome.Stops fill) self.old }
-        ensures { self.new ≡ stopped fill self.old.content.seen self.old.written (failed self.old.content self.old) }
+        ensures { self.new ≡ stopped fill self.old.content.seen self.old.written (after_failure self.old.content self.old) }
     {
         self.before = Some(Snapshot::of(&self.octets));
         leave(&mut self.octets, self.safe.take(), &self.written, fill);
@@ -63,9 +63,9 @@ impl FuseDisk {
     /// Stops in a cut, which isn't made.
     pub(crate) fn stop_cut(&mut self, fill: Fill, length: u64) -> Failed
         requires { IsReady (Outcome.Stops fill) self.old }
-        ensures { self.new ≡ stopped fill self.old.content.seen self.old.written (failed (cut_failed length self.old.content) self.old) }
+        ensures { self.new ≡ stopped fill self.old.content.seen self.old.written (after_failure (content_after_failed_cut length self.old.content) self.old) }
     {
-        self.log = self.log.cut(length);
+        self.log = self.log.after_cut(length);
         self.stop(fill)
     }
 
@@ -75,7 +75,7 @@ impl FuseDisk {
         ensures { StopsInWrite fill place piece.now self.old self.new }
     {
         self.before = Some(Snapshot::of(&self.octets));
-        self.log = self.log.wrote(place, piece.len());
+        self.log = self.log.after_write(place, piece.len());
         self.faults.rise();
         let made = leave_written(
             &mut self.octets,
@@ -94,10 +94,10 @@ impl FuseDisk {
     /// Passes, fails or stops, in a call that writes nothing.
     pub(crate) fn pass(&mut self) -> Result<(), Failed>
         ensures passes { IsOk result ↔ (outcome_of self.old.arming ≡ Outcome.Passes) }
-        ensures looked { self.new ≡ looked (outcome_of self.old.arming) (called self.old) }
-        ensures called { OnOk result (self.new ≡ called self.old) }
+        ensures looked { self.new ≡ after_look (outcome_of self.old.arming) (with_call_counted self.old) }
+        ensures called { OnOk result (self.new ≡ with_call_counted self.old) }
         ensures ready { OnOk result (IsReady Outcome.Passes self.new) }
-        ensures image { IsImage self.old.content.kept self.old.content.seen }
+        ensures image { IsImage self.old.content.mask self.old.content.seen }
         ensures call { CallEnds (fuse_of self.old) (fuse_of self.new) result }
         ensures cause { HasCause self.old.faults self.new.faults result }
     {
@@ -136,7 +136,7 @@ impl FuseDisk {
         requires { IsReady Outcome.Passes self.old }
         ensures { WriteGives Outcome.Passes place piece.now result self.old self.new }
     {
-        self.log = self.log.wrote(place, piece.len());
+        self.log = self.log.after_write(place, piece.len());
         match write_noted(
             self.alloc,
             &mut self.octets,
@@ -157,7 +157,7 @@ impl FuseDisk {
         requires { IsReady Outcome.Passes self.old }
         ensures { CutGives Outcome.Passes length result self.old self.new }
     {
-        self.log = self.log.cut(length);
+        self.log = self.log.after_cut(length);
         match keep_base(self.alloc, &self.octets, &mut self.safe) {
             Ok(()) => {
                 self.octets.truncate(length as usize);
@@ -172,9 +172,9 @@ impl FuseDisk {
 
     pub(crate) fn sync_on(&mut self)
         requires { IsReady Outcome.Passes self.old }
-        ensures { self.new ≡ synced_by Outcome.Passes self.old }
+        ensures { self.new ≡ after_sync Outcome.Passes self.old }
     {
-        self.log = self.log.synced(&self.octets);
+        self.log = self.log.after_sync(&self.octets);
         self.base = Snapshot::of(&self.octets);
         self.safe = None;
         self.written.clear();

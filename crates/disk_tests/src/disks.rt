@@ -1,13 +1,17 @@
-use super::*;
+//! Disks in memory: what a stop leaves, in which calls a disk fails and stops, what is read.
+use base_kinds::Fill;
 use base_lists::NoMemory;
-use disk_model::{Disk, ReadFault, put_synced, read_whole};
+use disk_model::{Armed, Disk, put_synced, read_part, read_whole};
+use edge_traits::ReadFault;
+use memory_disks::{FuseDisk, MemDisk, NO_STOP};
+use std::alloc::Global;
 
 /// What stands for the octet of the fill in a table.
 const FILLED: u8 = 255;
 
 /// For the calls of `make_calls` over the octets 1, 2, 3, 4, and a stop in the call of this number: what it leaves
 /// where it fills in the old octets, the new ones, and one octet.
-const IMAGES: [(u64, &[u8], &[u8], &[u8]); 7] = [
+const IMAGES: &[(u64, &[u8], &[u8], &[u8])] = &[
     (0, &[1, 2, 3, 4], &[1, 5, 6, 4], &[1, 255, 255, 4]),
     (1, &[1, 2, 3, 4], &[1, 5, 6, 4], &[1, 255, 255, 4]),
     (
@@ -61,29 +65,39 @@ fn has_octets(octets: &[u8], pattern: &[u8], filled: u8) -> bool {
             == if *want == FILLED { filled } else { *want })
 }
 
+/// A stop in the call of this number: how many calls fail, whether the disk has stopped, and what it leaves.
+fn leaves(
+    alloc: Global,
+    passes: u64,
+    fill: Fill,
+    pattern: &[u8],
+    filled: u8,
+) -> Result<bool, NoMemory> {
+    let inner = MemDisk::of(alloc, &[1, 2, 3, 4])?;
+    let mut disk = FuseDisk::make(inner, passes, fill);
+    let failed = make_calls(&mut disk);
+    if disk.starved() {
+        return Err(NoMemory);
+    }
+    let counted = failed as u64 + passes == 6 && disk.stopped() == (passes < 6);
+    Ok(counted && has_octets(disk.image().octets(), pattern, filled))
+}
+
 #[test]
 fn a_stop_leaves_what_its_fill_says(rt: HostRuntime) -> Result<(), NoMemory> {
-    for (passes, old, new, filled) in IMAGES {
-        for (fill, pattern, octet) in [
-            (Fill::Old, old, 0),
-            (Fill::New, new, 0),
-            (Fill::Octet(0), filled, 0),
-            (Fill::Octet(127), filled, 127),
-            (Fill::Octet(165), filled, 165),
-        ] {
-            let inner = MemDisk::of(rt.alloc(), &[1, 2, 3, 4])?;
-            let mut disk = FuseDisk::make(inner, passes, fill);
-            let failed = make_calls(&mut disk);
-            if disk.starved() {
-                return Err(NoMemory);
-            }
-            assert_eq!(rt; failed as u64, 6 - passes, "at {passes}");
-            assert_eq!(rt; disk.stopped(), passes < 6, "at {passes}");
-            let image = disk.image();
-            assert!(rt;
-                has_octets(image.octets(), pattern, octet),
-                "at {passes}, {fill:?}"
-            );
+    let alloc = rt.alloc();
+    for (passes, old, new, filled) in IMAGES.iter().copied() {
+        assert!(rt;
+            leaves(alloc, passes, Fill::Old, old, 0)?,
+            "at {passes}, old"
+        );
+        assert!(rt;
+            leaves(alloc, passes, Fill::New, new, 0)?,
+            "at {passes}, new"
+        );
+        for octet in [0, 127, 165] {
+            let as_told = leaves(alloc, passes, Fill::Octet(octet), filled, octet)?;
+            assert!(rt; as_told, "at {passes}, {octet}");
         }
     }
     Ok(())
@@ -140,11 +154,11 @@ fn a_disk_in_memory_is_written_and_read(rt: HostRuntime) -> Result<(), NoMemory>
     let mut into = [9; 4];
     assert_eq!(rt; disk.read(3, &mut into), Ok(2));
     assert_eq!(rt; into, [b'b', b'c', 9, 9]);
-    let mut disk = FuseDisk::make(disk, u64::MAX, Fill::Old);
+    let mut disk = FuseDisk::make(disk, NO_STOP, Fill::Old);
     match read_whole(rt.alloc(), &mut disk) {
         Ok(octets) => assert_eq!(rt; octets.items(), b"\0\0abc".as_slice()),
         Err(ReadFault::NoMemory) => return Err(NoMemory),
-        Err(ReadFault::DiskFault) => assert!(rt; false, "a disk that isn't armed failed"),
+        Err(ReadFault::Failed) => assert!(rt; false, "a disk that isn't armed failed"),
     }
     let disk = disk.image();
     assert_eq!(rt; disk.octets(), b"\0\0abc".as_slice());
@@ -158,7 +172,64 @@ fn a_disk_in_memory_is_written_and_read(rt: HostRuntime) -> Result<(), NoMemory>
 fn want_of_memory_is_told(rt: HostRuntime) -> Result<(), NoMemory> {
     let mut disk = MemDisk::of(rt.alloc(), &[1, 2, 3, 4])?;
     assert_eq!(rt; make_calls(&mut disk) > 0, disk.starved());
-    let mut disk = FuseDisk::make(MemDisk::of(rt.alloc(), &[1, 2, 3, 4])?, u64::MAX, Fill::New);
+    let mut disk = FuseDisk::make(MemDisk::of(rt.alloc(), &[1, 2, 3, 4])?, NO_STOP, Fill::New);
     assert_eq!(rt; make_calls(&mut disk) > 0, disk.starved());
+    Ok(())
+}
+
+/// A disk that is made without a stop is armed from its next call on.
+#[test]
+fn a_disk_without_a_stop_stops_where_it_is_told(rt: HostRuntime) -> Result<(), NoMemory> {
+    for passes in 0..3 {
+        let mut disk = FuseDisk::make(MemDisk::make(rt.alloc()), NO_STOP, Fill::Old);
+        assert_eq!(rt; passing(&mut disk, 2), 111);
+        disk.stop_after(passes, Fill::New)?;
+        for call in 0..4 {
+            assert_eq!(rt; disk.len().is_ok(), call < passes, "at {passes}, {call}");
+        }
+        assert!(rt; disk.stopped() && !disk.starved());
+    }
+    Ok(())
+}
+
+/// Whether a disk of so many octets is read whole where it fails in the call after so many.
+fn reads_whole(alloc: Global, octets: &[u8], passes: u64) -> Result<bool, NoMemory> {
+    let mut disk = FuseDisk::make(MemDisk::of(alloc, octets)?, NO_STOP, Fill::Old);
+    disk.fail_after(passes)?;
+    match read_whole(alloc, &mut disk) {
+        Ok(read) => Ok(read.items() == octets),
+        Err(ReadFault::Failed) => Ok(false),
+        Err(ReadFault::NoMemory) => Err(NoMemory),
+    }
+}
+
+/// A reading asks for the length, and then for each 65,536 octets that are begun.
+#[test]
+fn a_reading_makes_a_call_for_each_piece(rt: HostRuntime) -> Result<(), NoMemory> {
+    let octets = vec![in rt.alloc(); 7u8; 65537]?;
+    for (length, calls) in [(0, 1), (1, 2), (65536, 2), (65537, 3)] {
+        let front = &octets[..length];
+        assert!(rt; !reads_whole(rt.alloc(), front, calls - 1)?, "at {length}");
+        assert!(rt; reads_whole(rt.alloc(), front, calls)?, "at {length}");
+    }
+    Ok(())
+}
+
+#[test]
+fn a_part_is_read_up_to_the_end(rt: HostRuntime) -> Result<(), NoMemory> {
+    let mut disk = MemDisk::of(rt.alloc(), b"abcdef")?;
+    for (place, size, part) in [
+        (0, 6, b"abcdef".as_slice()),
+        (2, 3, b"cde"),
+        (4, 9, b"ef"),
+        (6, 1, b""),
+        (9, 2, b""),
+        (3, 0, b""),
+    ] {
+        match read_part(rt.alloc(), &mut disk, place, size) {
+            Ok(octets) => assert_eq!(rt; octets.items(), part, "at {place}"),
+            Err(_) => return Err(NoMemory),
+        }
+    }
     Ok(())
 }

@@ -1,8 +1,9 @@
-// A file as a disk, which tells nothing of its content.
-ghost use Rattle.std.specs.Prelude.{◌≤◌, None, false};
+//! A file as a disk, which tells nothing of its content.
+ghost use Rattle.std.specs.Prelude.{None, false};
 ghost use Rattle.edge_traits.specs.Faults.{Rose};
 
-use super::*;
+use base_lists::Tally;
+use disk_model::{Disk, put_synced, read_part, read_whole};
 use edge_traits::Failed;
 use std::alloc::Global;
 use std::fs::{self, File, OpenOptions};
@@ -12,14 +13,14 @@ use std::os::unix::fs::FileExt;
 #[derive(Drop)]
 struct FileDisk {
     file: File,
-    faults: u64,
+    faults: Tally,
 }
 
 impl FileDisk {
     fn fail(&mut self) -> Failed
-        ensures { Rose self.old.faults self.new.faults × (self.old.faults ≤ self.new.faults) }
+        ensures { Rose self.old.faults self.new.faults }
     {
-        self.faults = self.faults.saturating_add(1);
+        self.faults.rise();
         Failed
     }
 }
@@ -78,8 +79,8 @@ fn a_file_is_written_synced_cut_and_read(rt: HostRuntime) -> io::Result<()> {
             .write(true)
             .create(true)
             .truncate(true)
-            .open(&rt, "disk_model_file_disk")?,
-        faults: 0,
+            .open(&rt, "disk_tests_file_disk")?,
+        faults: Tally::zero(),
     };
     assert_eq!(rt; put_synced(&mut disk, 2, b"abcd"), Ok(()));
     assert_eq!(rt; disk.cut(9), Ok(()));
@@ -89,5 +90,9 @@ fn a_file_is_written_synced_cut_and_read(rt: HostRuntime) -> io::Result<()> {
         Ok(octets) => assert_eq!(rt; octets.items(), b"\0\0abc".as_slice()),
         Err(fault) => assert!(rt; false, "{fault}"),
     }
-    fs::remove_file(&rt, "disk_model_file_disk")
+    match read_part(rt.alloc(), &mut disk, 1, 3) {
+        Ok(octets) => assert_eq!(rt; octets.items(), b"\0ab".as_slice()),
+        Err(fault) => assert!(rt; false, "{fault}"),
+    }
+    fs::remove_file(&rt, "disk_tests_file_disk")
 }
