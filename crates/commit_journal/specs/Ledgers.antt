@@ -3,7 +3,7 @@ use Rattle.std.specs.Prelude.{◌≡◌, ◌⊎◌, ℕ, List, Option, Some, Non
 use Rattle.std.specs.Coded.{Coded, code_by, coded×}
 use Rattle.base_kinds.specs.declared.entry.Entry.{Entry}
 use Rattle.base_kinds.specs.declared.entry.Limits.{Limits}
-use Rattle.disk_model.specs.Content.{Content, Moved}
+use Rattle.disk_model.specs.Content.{Content, WhereTold}
 use Rattle.commit_journal.specs.Writes.{FailsAtRecord, AppendsInDoubt}
 
 pub record LedgerView (D : Type 0) : Type 0 where
@@ -20,8 +20,8 @@ pub record LedgerView (D : Type 0) : Type 0 where
 abbrev pub FailedAppend : Limits → List Entry → Entry → Option Entry
     → Option Content → Option Content → Type 0
 FailedAppend limits h entry doubt old new =
-    ((doubt ≡ None) × Moved old new (FailsAtRecord limits h entry))
-    ⊎ ((doubt ≡ Some entry) × Moved old new (AppendsInDoubt limits h entry))
+    ((doubt ≡ None) × WhereTold old new (FailsAtRecord limits h entry))
+    ⊎ ((doubt ≡ Some entry) × WhereTold old new (AppendsInDoubt limits h entry))
 
 -- how a view is kept as its parts, as the toolchain asks of the value of a model
 abbrev Parts : Type 0 → Type 0

@@ -4,8 +4,8 @@ use Rattle.base_kinds.specs.declared.entry.Entry.{Entry}
 use Rattle.base_kinds.specs.declared.entry.Limits.{Limits}
 use Rattle.edge_traits.specs.Faults.{Rose}
 use Rattle.disk_model.specs.Calls.{Fuse, CallsPassed, FailsWithin, PassesWithin}
-use Rattle.disk_model.specs.Content.{Content, Moved, Tells, Changes}
-use Rattle.disk_model.specs.Images.{synced}
+use Rattle.disk_model.specs.Content.{Content, WhereTold, Tells, Changes}
+use Rattle.disk_model.specs.Images.{mask_after_sync}
 use Rattle.disk_model.specs.Moments.{LeavesNow}
 use Rattle.disk_model.specs.Reading.{reads_of}
 use Rattle.journal_format.specs.Histories.{IsJournalHistory}
@@ -16,14 +16,14 @@ use Rattle.commit_journal.specs.declared.opening.Opening.TheVariants.{Ready, Dam
 
 -- the disk was synced, and nothing else was done to it
 pub record IsSynced (old new : Content) : Type 0 where
-  pub changes : Changes (synced old.seen) old new
+  pub changes : Changes (mask_after_sync old.seen) old new
   pub seen : new.seen ≡ old.seen
 
 module _ {D : Type 0} (told : D → Option Content) (faults : D → ℕ) (disk : D) where
   -- a ledger without a doubt, on the disk after the sync, whose octets are the journal of these
   -- entries
   pub record IsReady (ledger : LedgerView D) (entries : List Entry) : Type 0 where
-    pub was_synced : Moved (told disk) (told ledger.disk) IsSynced
+    pub was_synced : WhereTold (told disk) (told ledger.disk) IsSynced
     pub quiet : faults ledger.disk ≡ faults disk
     pub history_is : ledger.history ≡ entries
     pub no_doubt : ledger.doubt ≡ None
@@ -32,7 +32,7 @@ module _ {D : Type 0} (told : D → Option Content) (faults : D → ℕ) (disk :
     pub images : LeavesNow (λ octets. IsJournal octets ledger.limits entries) (told ledger.disk)
 
   pub record IsFoundDamaged (place : ℕ) (left : D) : Type 0 where
-    pub was_synced : Moved (told disk) (told left) IsSynced
+    pub was_synced : WhereTold (told disk) (told left) IsSynced
     pub quiet : faults left ≡ faults disk
     pub damaged : Tells (told disk) (λ c. IsDamaged c.seen place)
 
@@ -41,8 +41,8 @@ module _ {D : Type 0} (told : D → Option Content) (faults : D → ℕ) (disk :
   Opens (Ready ledger entries) = IsReady ledger entries
   Opens (Damaged place left) = IsFoundDamaged place left
   Opens (DiskFault left) = Rose (faults disk) (faults left)
-      × ((told left ≡ told disk) ⊎ Moved (told disk) (told left) IsSynced)
-  Opens (NoMemory left) = Moved (told disk) (told left) IsSynced × (faults left ≡ faults disk)
+      × ((told left ≡ told disk) ⊎ WhereTold (told disk) (told left) IsSynced)
+  Opens (NoMemory left) = WhereTold (told disk) (told left) IsSynced × (faults left ≡ faults disk)
 
 -- the disk that an opening gives back
 abbrev pub disk_of : {D : Type 0} → Opening D → D

@@ -4,8 +4,8 @@ use Rattle.std.specs.Prelude.{◌≡◌, ℕ, ◌+◌, List, [], ◌∷◌, ◌+
 use Rattle.base_kinds.specs.declared.entry.Entry.{Entry}
 use Rattle.base_kinds.specs.declared.entry.Limits.{Limits}
 use Rattle.disk_model.specs.Content.{Content, Changes}
-use Rattle.disk_model.specs.Images.{touched}
-use Rattle.disk_model.specs.Moments.{Put}
+use Rattle.disk_model.specs.Images.{mask_after_write}
+use Rattle.disk_model.specs.Moments.{PutSynced}
 use Rattle.journal_record.specs.Spelling.{record_of}
 use Rattle.journal_format.specs.Gates.{open_gate, closed_gate}
 use Rattle.journal_format.specs.Journal.{journal_prefix, header}
@@ -24,21 +24,21 @@ first_octets limits = header limits ++ closed_gate ∷ []
 
 -- the gate's octet is written and synced
 abbrev pub PutsGate : Limits → List Entry → ℕ → Content → Content → Type 0
-PutsGate limits h gate old new = Put (gate_place limits h) (gate ∷ []) old new
+PutsGate limits h gate old new = PutSynced (gate_place limits h) (gate ∷ []) old new
 
 -- a write of the gate's octet, or its sync, fails
 abbrev pub FailsAtGate : Limits → List Entry → Content → Content → Type 0
-FailsAtGate limits h old new = Changes (touched (gate_place limits h) 1 old.kept) old new
+FailsAtGate limits h old new = Changes (mask_after_write (gate_place limits h) 1 old.mask) old new
 
 -- the entry's record and a closed gate are written just past the gate, and synced
 abbrev pub PutsRecord : Limits → List Entry → Entry → Content → Content → Type 0
 PutsRecord limits h entry old new =
-    Put (gate_place limits h + 1) (record_and_gate entry) old new
+    PutSynced (gate_place limits h + 1) (record_and_gate entry) old new
 
 -- that write, or its sync, fails
 abbrev pub FailsAtRecord : Limits → List Entry → Entry → Content → Content → Type 0
 FailsAtRecord limits h entry old new =
-    Changes (touched (gate_place limits h + 1) (length (record_and_gate entry)) old.kept) old new
+    Changes (mask_after_write (gate_place limits h + 1) (length (record_and_gate entry)) old.mask) old new
 
 module _ (limits : Limits) (h : List Entry) (entry : Entry) where
   -- an append: the record, and then the open gate
@@ -55,8 +55,8 @@ module _ (limits : Limits) (h : List Entry) (entry : Entry) where
 
 pub record Creates (limits : Limits) (old new : Content) : Type 0 where
   pub was_empty : old.seen ≡ []
-  pub put : Put 0 (first_octets limits) old new
+  pub put : PutSynced 0 (first_octets limits) old new
 
 pub record CreateFails (limits : Limits) (old new : Content) : Type 0 where
   pub was_empty : old.seen ≡ []
-  pub failed : Changes (touched 0 (length (first_octets limits)) old.kept) old new
+  pub failed : Changes (mask_after_write 0 (length (first_octets limits)) old.mask) old new

@@ -1,7 +1,7 @@
 ghost use Rattle.std.specs.Prelude.{◌≡◌, ◌≢◌, ◌⊎◌, ◌+◌, ◌^◌, ◌<◌, ◌≤◌, [], ◌∷◌, ◌++◌, length, IsOk, IsSome, IsErrOf, IfOk, OnOk, OnErr, is_some, None, Some, vec_capacity};
 ghost use Rattle.edge_traits.specs.Faults.{Rose};
 ghost use Rattle.disk_model.specs.Calls.{CallsPassed, FailsWithin, CallsEnd};
-ghost use Rattle.disk_model.specs.Content.{Moved, Tells};
+ghost use Rattle.disk_model.specs.Content.{WhereTold, Tells};
 ghost use Rattle.disk_model.specs.Moments.{LeavesNow, LeavesOnly};
 ghost use Rattle.base_kinds.specs.Limits.{AreInRange};
 ghost use Rattle.base_kinds.specs.Records.{record_octets};
@@ -94,7 +94,7 @@ impl<D: Disk> Ledger<D> {
         // needs
         requires { AreInRange limits.now }
         // after Ok
-        ensures created { OnOk result (Moved (D.told disk.old) (D.told disk.new)
+        ensures created { OnOk result (WhereTold (D.told disk.old) (D.told disk.new)
             (Creates limits.now)) }
         // after Err, by its cause
         ensures not_empty { IsErrOf result CreateFault.NotEmpty
@@ -102,7 +102,7 @@ impl<D: Disk> Ledger<D> {
         ensures refused { Tells (D.told disk.old) (λ c. c.seen ≢ []
             → IsErrOf result CreateFault.NotEmpty ⊎ IsErrOf result CreateFault.DiskFault) }
         ensures failed { IsErrOf result CreateFault.DiskFault → (D.told disk.new ≡ D.told disk.old)
-            ⊎ Moved (D.told disk.old) (D.told disk.new) (CreateFails limits.now) }
+            ⊎ WhereTold (D.told disk.old) (D.told disk.new) (CreateFails limits.now) }
         ensures unchanged { ¬ (IsErrOf result CreateFault.DiskFault)
             → OnErr result (D.told disk.new ≡ D.told disk.old) }
         // at a stop after it
@@ -157,7 +157,7 @@ impl<D: Disk> Ledger<D> {
         // after Ok
         ensures ok { OnOk result ((self.new.history ≡ self.old.history ++ entry.now ∷ [])
             × (self.new.doubt ≡ None)) }
-        ensures calls { OnOk result (Moved (D.told self.old.disk) (D.told self.new.disk)
+        ensures calls { OnOk result (WhereTold (D.told self.old.disk) (D.told self.new.disk)
             (Appends self.old.limits self.old.history entry.now)) }
         // after Err, by its cause
         ensures err { OnErr result (self.new.history ≡ self.old.history) }
@@ -216,11 +216,11 @@ impl<D: Disk> Ledger<D> {
           disk = self.new.disk;
           doubt = None;
         }) }
-        ensures calls { OnOk result (Moved (D.told self.old.disk) (D.told self.new.disk)
+        ensures calls { OnOk result (WhereTold (D.told self.old.disk) (D.told self.new.disk)
             (PutsGate self.old.limits self.old.history closed_gate)) }
         // after Err, by its cause
         ensures err { OnErr result (self.new ≡ record self.old { disk = self.new.disk }) }
-        ensures failed { OnErr result (Moved (D.told self.old.disk) (D.told self.new.disk)
+        ensures failed { OnErr result (WhereTold (D.told self.old.disk) (D.told self.new.disk)
             (FailsAtGate self.old.limits self.old.history)) }
         ensures memory { ¬ (IsErrOf result LedgerFault.NoMemory) }
         // at a stop, at any moment of the call, and after it

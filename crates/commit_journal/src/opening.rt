@@ -91,7 +91,7 @@ impl<D: Disk> Ledger<D> {
         ensures opens { Opens D.told D.faults disk result }
         ensures finds { Tells (D.told disk) (λ c. FindsAll c.seen result) }
         // at a stop, at any moment of the call: nothing that a stop might not have left before it
-        ensures any_moment { Tells (D.told disk) (λ c. LeavesOnly (λ octets. IsImage c.kept octets)
+        ensures any_moment { Tells (D.told disk) (λ c. LeavesOnly (λ octets. IsImage c.mask octets)
             (D.told disk) (D.told (disk_of result))) }
         // how many calls of the disk it makes
         ensures calls { WhereArmed (D.fuse disk) (D.told disk) (λ c.

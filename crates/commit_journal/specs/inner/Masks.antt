@@ -3,7 +3,7 @@ use Rattle.std.specs.Prelude.{◌≡◌, ◌≢◌, ℕ, List, [], ◌∷◌, �
 use Rattle.base_kinds.specs.declared.entry.Entry.{Entry}
 use Rattle.base_kinds.specs.declared.entry.Limits.{Limits}
 use Rattle.disk_model.specs.Content.{Content}
-use Rattle.disk_model.specs.Images.{IsImage, synced}
+use Rattle.disk_model.specs.Images.{IsImage, mask_after_sync}
 use Rattle.journal_format.specs.Gates.{open_gate}
 use Rattle.journal_format.specs.Journal.{journal_prefix}
 use Rattle.commit_journal.specs.Writes.{record_and_gate}
@@ -16,13 +16,13 @@ module _ (before : List ℕ) where
     pub gate : ℕ
     pub rest : List (Option ℕ)
     pub is_closed : gate ≢ open_gate
-    pub parts : mask ≡ synced (before ++ gate ∷ []) ++ rest
+    pub parts : mask ≡ mask_after_sync (before ++ gate ∷ []) ++ rest
 
   -- the attempt's record behind the gate outlives a stop, and so does the closed gate behind that,
   -- but the gate in front of it may hold any octet
   pub record IsInDoubt (attempt : Entry) (mask : List (Option ℕ)) : Type 0 where
     pub rest : List (Option ℕ)
-    pub parts : mask ≡ synced before ++ None ∷ (synced (record_and_gate attempt) ++ rest)
+    pub parts : mask ≡ mask_after_sync before ++ None ∷ (mask_after_sync (record_and_gate attempt) ++ rest)
 
 module _ (limits : Limits) (h : List Entry) where
   abbrev pub Keeps : Option Entry → List (Option ℕ) → Type 0
@@ -31,5 +31,5 @@ module _ (limits : Limits) (h : List Entry) where
 
   -- what a disk has where a ledger was opened on it
   pub record Holds (doubt : Option Entry) (content : Content) : Type 0 where
-    pub keeps : Keeps doubt content.kept
-    pub seen : IsImage content.kept content.seen
+    pub keeps : Keeps doubt content.mask
+    pub seen : IsImage content.mask content.seen

@@ -2,7 +2,7 @@
 use Rattle.std.specs.Prelude.{◌≡◌, ℕ, List, Option, None}
 use Rattle.base_kinds.specs.declared.entry.Entry.{Entry}
 use Rattle.disk_model.specs.Content.{Content}
-use Rattle.disk_model.specs.Images.{synced}
+use Rattle.disk_model.specs.Images.{mask_after_sync}
 use Rattle.disk_model.specs.Moments.{LeavesNow}
 use Rattle.journal_format.specs.Journal.{IsJournal, IsDamaged}
 use Rattle.commit_journal.specs.Ledgers.{LedgerView}
@@ -12,7 +12,7 @@ use Rattle.commit_journal.specs.declared.opening.Opening.TheVariants.{Ready, Dam
 -- these are the disk's octets, and all of them outlive a stop
 pub record HasSynced (octets : List ℕ) (content : Content) : Type 0 where
   pub seen : octets ≡ content.seen
-  pub kept : content.kept ≡ synced content.seen
+  pub kept : content.mask ≡ mask_after_sync content.seen
 
 module _ {D : Type 0} (told : D → Option Content) (disk : D) (octets : List ℕ) where
   -- a ledger on this very disk, which has the journal's octets
