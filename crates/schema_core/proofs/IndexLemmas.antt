@@ -11,7 +11,7 @@ use Rattle.std.proofs.lemmas.Bool.{cases_lt, cases_order}
 use Rattle.std.proofs.lemmas.List.Edits.{length-insert, get_or-insert_below, get_or-insert_at, get_or-insert_above}
 use Rattle.base_kinds.specs.Schema.{SchemaNode, node_of}
 use Rattle.schema_core.specs.Nodes.{names_at, has_parent}
-use Rattle.schema_core.specs.Index.{names_cmp, names_in, IsKept, IsBetween}
+use Rattle.schema_core.specs.inner.Index.{names_cmp, names_in, IsSortedIndex, IsBetween}
 use Rattle.schema_core.proofs.NodeLemmas.{same_decides, no_some, names_of_got, got, got_within, first_is, stands_there, names_front, names_end, placed_more}
 
 pub names_total : IsTotalOrder names_cmp
@@ -31,7 +31,7 @@ turned_back a b is = names_total.antisymm b a ∙ ap ordering_reverse is
 pub whole : (nodes : List SchemaNode) (order : List ℕ) (names : List (List ℕ)) → IsBetween nodes order names 0 (length order)
 whole nodes order names = record { ordered = omega arith; inside = omega arith; below = λ place less. absurd (omega arith); above = λ place from less. absurd (omega arith) }
 
-pub before_middle : (nodes : List SchemaNode) (order : List ℕ) (names : List (List ℕ)) (low high middle : ℕ) → IsKept nodes order → IsBetween nodes order names low high → low ≤ middle → middle < high → names_cmp names (names_in nodes order middle) ≡ Less → IsBetween nodes order names low middle
+pub before_middle : (nodes : List SchemaNode) (order : List ℕ) (names : List (List ℕ)) (low high middle : ℕ) → IsSortedIndex nodes order → IsBetween nodes order names low high → low ≤ middle → middle < high → names_cmp names (names_in nodes order middle) ≡ Less → IsBetween nodes order names low middle
 before_middle nodes order names low high middle kept between from less is =
     let inside = between.inside in
     record {
@@ -45,7 +45,7 @@ before_middle nodes order names low high middle kept between from less is =
           ];
     }
 
-pub behind_middle : (nodes : List SchemaNode) (order : List ℕ) (names : List (List ℕ)) (low high middle : ℕ) → IsKept nodes order → IsBetween nodes order names low high → low ≤ middle → middle < high → names_cmp names (names_in nodes order middle) ≡ Greater → IsBetween nodes order names (middle + 1) high
+pub behind_middle : (nodes : List SchemaNode) (order : List ℕ) (names : List (List ℕ)) (low high middle : ℕ) → IsSortedIndex nodes order → IsBetween nodes order names low high → low ≤ middle → middle < high → names_cmp names (names_in nodes order middle) ≡ Greater → IsBetween nodes order names (middle + 1) high
 behind_middle nodes order names low high middle kept between from less is =
     let inside = between.inside in
     record {
@@ -60,7 +60,7 @@ behind_middle nodes order names low high middle kept between from less is =
     }
 
 -- names that stand in the order are those of the node with the number there
-pub found_there : (nodes : List SchemaNode) (order : List ℕ) (names : List (List ℕ)) (place : ℕ) → IsKept nodes order → place < length order → names_cmp names (names_in nodes order place) ≡ Equal → (names_in nodes order place ≡ names) × (node_of nodes names ≡ slice_get nodes (slice_index order place))
+pub found_there : (nodes : List SchemaNode) (order : List ℕ) (names : List (List ℕ)) (place : ℕ) → IsSortedIndex nodes order → place < length order → names_cmp names (names_in nodes order place) ≡ Equal → (names_in nodes order place ≡ names) × (node_of nodes names ≡ slice_get nodes (slice_index order place))
 found_there nodes order names place kept less is =
     let number = slice_index order place in
     let same : names ≡ names_at nodes number = names_exact names (names_at nodes number) is in
@@ -70,7 +70,7 @@ found_there nodes order names place kept less is =
     (sym same, ap (node_of nodes) (same ∙ own) ∙ first ∙ sym there.1)
 
 -- and so such names are those of some node
-pub present_there : (nodes : List SchemaNode) (order : List ℕ) (names : List (List ℕ)) (place : ℕ) → IsKept nodes order → place < length order → names_cmp names (names_in nodes order place) ≡ Equal → node_of nodes names ≡ None → ⊥
+pub present_there : (nodes : List SchemaNode) (order : List ℕ) (names : List (List ℕ)) (place : ℕ) → IsSortedIndex nodes order → place < length order → names_cmp names (names_in nodes order place) ≡ Equal → node_of nodes names ≡ None → ⊥
 present_there nodes order names place kept less is none =
     let there = got nodes (slice_index order place) (kept.within place less) in
     no_some there.0 (sym there.1 ∙ sym (found_there nodes order names place kept less is).1 ∙ none)
@@ -79,7 +79,7 @@ not_equal : {G : Type 0} (names : List (List ℕ)) (o : Ordering) → is_eq o �
 not_equal names o apart is = absurd (true≢false (sym (ap is_eq (tied_itself names_total names)) ∙ ap is_eq is ∙ apart))
 
 -- names with a gap in the order are those of no node
-pub absent_there : (nodes : List SchemaNode) (order : List ℕ) (names : List (List ℕ)) (gap : ℕ) → IsKept nodes order → IsBetween nodes order names gap gap → node_of nodes names ≡ None
+pub absent_there : (nodes : List SchemaNode) (order : List ℕ) (names : List (List ℕ)) (gap : ℕ) → IsSortedIndex nodes order → IsBetween nodes order names gap gap → node_of nodes names ≡ None
 absent_there nodes order names gap kept between = by (node_of nodes names) refl
   where
     here : (node : SchemaNode) (number : ℕ) → slice_get nodes number ≡ Some node → node.names ≡ names → node_of nodes names ≡ None
@@ -97,12 +97,12 @@ absent_there nodes order names gap kept between = by (node_of nodes names) refl
 
 -- ---- laws of every schema
 
-pub own_names : (nodes : List SchemaNode) (order : List ℕ) → IsKept nodes order → (number : ℕ) → number < length nodes → node_of nodes (names_at nodes number) ≡ slice_get nodes number
+pub own_names : (nodes : List SchemaNode) (order : List ℕ) → IsSortedIndex nodes order → (number : ℕ) → number < length nodes → node_of nodes (names_at nodes number) ≡ slice_get nodes number
 own_names nodes order kept number less =
     let there = got nodes number less in
     ap (node_of nodes) (names_of_got nodes number there.0 there.1) ∙ first_is nodes number there.0 there.1 ((kept.placed number there.0 there.1).fresh) ∙ sym there.1
 
-pub names_distinct : (nodes : List SchemaNode) (order : List ℕ) → IsKept nodes order → (i j : ℕ) → i < length nodes → j < length nodes → names_at nodes i ≡ names_at nodes j → i ≡ j
+pub names_distinct : (nodes : List SchemaNode) (order : List ℕ) → IsSortedIndex nodes order → (i j : ℕ) → i < length nodes → j < length nodes → names_at nodes i ≡ names_at nodes j → i ≡ j
 names_distinct nodes order kept i j less short same =
     let first = kept.complete i less in
     let second = kept.complete j short in
@@ -116,7 +116,7 @@ names_distinct nodes order kept i j less short same =
       ]
     ]
 
-pub parent_before : (nodes : List SchemaNode) (order : List ℕ) → IsKept nodes order → (number : ℕ) → number < length nodes → IsTrue (has_parent (take number nodes) (names_at nodes number))
+pub parent_before : (nodes : List SchemaNode) (order : List ℕ) → IsSortedIndex nodes order → (number : ℕ) → number < length nodes → IsTrue (has_parent (take number nodes) (names_at nodes number))
 parent_before nodes order kept number less =
     let there = got nodes number less in
     let P : List (List ℕ) → Type 0 = λ names. IsTrue (has_parent (take number nodes) names) in
@@ -136,7 +136,7 @@ side_of at place =
       | inr apart ↦ elim apart [ inl below ↦ inl below | inr above ↦ inr (inr (place - 1, omega (arith, above), omega (arith, above))) ]
     ]
 
-module _ (nodes : List SchemaNode) (node : SchemaNode) (order : List ℕ) (at : ℕ) (kept : IsKept nodes order) (between : IsBetween nodes order node.names at at) where
+module _ (nodes : List SchemaNode) (node : SchemaNode) (order : List ℕ) (at : ℕ) (kept : IsSortedIndex nodes order) (between : IsBetween nodes order node.names at at) where
   more : List SchemaNode
   more = nodes ++ node ∷ []
 
@@ -250,7 +250,7 @@ module _ (nodes : List SchemaNode) (node : SchemaNode) (order : List ℕ) (at : 
       ]
 
 -- a node that has its place, put at the end, with its number in the gap
-pub kept_more : (nodes : List SchemaNode) (node : SchemaNode) (order : List ℕ) (at : ℕ) → IsKept nodes order → IsBetween nodes order node.names at at → length nodes < 4096 → node_of nodes node.names ≡ None → IsTrue (has_parent nodes node.names) → IsKept (nodes ++ node ∷ []) (insert order at (length nodes))
+pub kept_more : (nodes : List SchemaNode) (node : SchemaNode) (order : List ℕ) (at : ℕ) → IsSortedIndex nodes order → IsBetween nodes order node.names at at → length nodes < 4096 → node_of nodes node.names ≡ None → IsTrue (has_parent nodes node.names) → IsSortedIndex (nodes ++ node ∷ []) (insert order at (length nodes))
 unfolding more longer
 kept_more nodes node order at kept between room fresh parent =
     let count = length_more nodes node order at kept between in
@@ -263,12 +263,12 @@ kept_more nodes node order at kept between room fresh parent =
     }
 
 -- the same where the nodes and the order are known by equations
-pub kept_then : (nodes before with_it : List SchemaNode) (node : SchemaNode) (order numbers : List ℕ) (at : ℕ) → IsKept nodes order → IsBetween nodes order node.names at at → nodes ≡ before → length before < 4096 → node_of before node.names ≡ None → IsTrue (has_parent before node.names) → with_it ≡ nodes ++ node ∷ [] → numbers ≡ insert order at (length nodes) → IsKept with_it numbers
+pub kept_then : (nodes before with_it : List SchemaNode) (node : SchemaNode) (order numbers : List ℕ) (at : ℕ) → IsSortedIndex nodes order → IsBetween nodes order node.names at at → nodes ≡ before → length before < 4096 → node_of before node.names ≡ None → IsTrue (has_parent before node.names) → with_it ≡ nodes ++ node ∷ [] → numbers ≡ insert order at (length nodes) → IsSortedIndex with_it numbers
 kept_then nodes before with_it node order numbers at kept between same room fresh parent added inserted =
     let P : List SchemaNode → Type 0 = λ ns. length ns < 4096 in
     let Q : List SchemaNode → Type 0 = λ ns. node_of ns node.names ≡ None in
     let R : List SchemaNode → Type 0 = λ ns. IsTrue (has_parent ns node.names) in
     let here = kept_more nodes node order at kept between (subst P (sym same) room) (subst Q (sym same) fresh) (subst R (sym same) parent) in
-    let S : List SchemaNode → Type 0 = λ ns. IsKept ns (insert order at (length nodes)) in
-    let T : List ℕ → Type 0 = λ ns. IsKept with_it ns in
+    let S : List SchemaNode → Type 0 = λ ns. IsSortedIndex ns (insert order at (length nodes)) in
+    let T : List ℕ → Type 0 = λ ns. IsSortedIndex with_it ns in
     subst T (sym inserted) (subst S (sym added) here)

@@ -1,7 +1,6 @@
-pub mod Nodes
-pub mod Index
-pub mod Wanted
 pub mod Identifiers
+pub mod Nodes
 pub mod Shapes
 pub mod WellFormed
-pub mod Examples
+pub mod inner
+pub mod worked

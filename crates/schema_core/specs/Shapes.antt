@@ -42,7 +42,9 @@ is_fit_shape (shapes.Uint width) = is_width width
 is_fit_shape (shapes.Dec places) = nat_le 1 places && nat_le places most_places
 is_fit_shape shapes.Text = true
 is_fit_shape shapes.Bin = true
-is_fit_shape (shapes.Enum texts) = nat_le 1 (length texts) && nat_le (length texts) most_enum_texts && list_all is_enum_text texts && texts_differ texts
+is_fit_shape (shapes.Enum texts) =
+    nat_le 1 (length texts) && nat_le (length texts) most_enum_texts && list_all is_enum_text texts
+    && texts_differ texts
 
 -- equal shapes: those of enums have the same texts in the same order
 abbrev pub same_shape : Shape → Shape → Bool

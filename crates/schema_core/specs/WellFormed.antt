@@ -50,12 +50,15 @@ has_leaf schema names = if_some (node_of schema names) (λ node. is_leaf node.so
 
 -- the key has a leaf right below its list, in the list's module
 abbrev pub has_key_leaf : List SchemaNode → SchemaNode → List ℕ → Bool
-has_key_leaf schema entries key = if_some (node_of schema (entries.names ++ key ∷ [])) (λ node. is_leaf node.sort && bytes_eq node.module_name entries.module_name)
+has_key_leaf schema entries key =
+    if_some (node_of schema (entries.names ++ key ∷ []))
+    (λ node. is_leaf node.sort && bytes_eq node.module_name entries.module_name)
 
 -- no reference, or one to a leaf of equal shape (RFC 7950 9.9)
 abbrev pub has_target : List SchemaNode → Option Shape → Option (List (List ℕ)) → Bool
 has_target schema shape None = true
-has_target schema shape (Some names) = if_some (node_of schema names) (λ node. is_leaf node.sort && same_shapes shape node.shape)
+has_target schema shape (Some names) =
+    if_some (node_of schema names) (λ node. is_leaf node.sort && same_shapes shape node.shape)
 
 -- A node. Its names and its module's are NAMEs. A list has 1 to 8 keys, no key twice, and of each a leaf right below it
 -- in its module; other nodes have no keys (RFC 7950 7.8.2). Leaves and leaf-lists alone have a shape, leaves alone are

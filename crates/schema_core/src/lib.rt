@@ -1,4 +1,8 @@
 //! The schema: its data nodes in the order of its text, found by their names.
+//!
+//! A `Node` has what RFC 7950 calls a data node, a `Schema` the nodes in order: contracts see base_kinds' `SchemaNode` and
+//! the list of them. Start at `Schema::find` and `specs/Nodes`; what a schema that was read from a text has besides is
+//! `IsWellFormed` of `specs/WellFormed`, its limits are `limits.rt`.
 #![tactic(auto)]
 
 mod limits;

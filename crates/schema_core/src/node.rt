@@ -1,7 +1,6 @@
-ghost use Rattle.std.specs.Prelude.{◌≡◌, [], Some, None, ℕ, List, IfOk, IsNone, IsTrue, ◌↔◌};
+ghost use Rattle.std.specs.Prelude.{◌≡◌, IfOk, IsNone, IsTrue, ◌↔◌};
 ghost use Rattle.std.specs.Option.{option_copied};
-ghost use Rattle.base_kinds.specs.declared.schema.Sort.TheVariants as sorts;
-ghost use Rattle.schema_core.specs.Nodes.{is_inner};
+ghost use Rattle.schema_core.specs.Nodes.{is_inner, container_node, list_node, leaf_node, leaf_list_node};
 
 use base_kinds::{Shape, Sort};
 use base_lists::{Copied, NoMemory, Seq, Text, Texts};
@@ -32,17 +31,24 @@ impl Model for Node {
 
     ghost Value = { SchemaNode };
 
-    ghost view = { λ n. record { names = n.names; sort = n.sort; shape = n.shape; keys = n.keys; module_name = n.module_name; is_mandatory = n.is_mandatory; reference = n.reference; maximum = n.maximum } };
+    ghost view = { λ n. record {
+      names = n.names;
+      sort = n.sort;
+      shape = n.shape;
+      keys = n.keys;
+      module_name = n.module_name;
+      is_mandatory = n.is_mandatory;
+      reference = n.reference;
+      maximum = n.maximum;
+    } };
 
     ghost invariant = { λ n. is_some n.shape ≡ is_leafy n.sort };
 }
 
 impl Node {
-    ghost use Rattle.std.specs.Prelude.{true, false};
-
     /// A container. Takes no memory.
     pub fn container(alloc: Global, module_name: Text, names: Texts) -> Node
-        ensures { result ≡ record { names = names; sort = sorts.Container; shape = None; keys = []; module_name = module_name; is_mandatory = false; reference = None; maximum = None } }
+        ensures { result ≡ container_node module_name names }
     {
         Node {
             names,
@@ -58,7 +64,7 @@ impl Node {
 
     /// A list with the names of its keys, and with a maximum of entries where it has one. Takes no memory.
     pub fn list(module_name: Text, names: Texts, keys: Texts, maximum: Option<u32>) -> Node
-        ensures { result ≡ record { names = names; sort = sorts.List; shape = None; keys = keys; module_name = module_name; is_mandatory = false; reference = None; maximum = maximum } }
+        ensures { result ≡ list_node module_name names keys maximum }
     {
         Node {
             names,
@@ -81,7 +87,7 @@ impl Node {
         is_mandatory: bool,
         reference: Option<Texts>,
     ) -> Node
-        ensures { result ≡ record { names = names; sort = sorts.Leaf; shape = Some shape; keys = []; module_name = module_name; is_mandatory = is_mandatory; reference = reference; maximum = None } }
+        ensures { result ≡ leaf_node module_name names shape is_mandatory reference }
     {
         Node {
             names,
@@ -103,7 +109,7 @@ impl Node {
         shape: Shape,
         maximum: Option<u32>,
     ) -> Node
-        ensures { result ≡ record { names = names; sort = sorts.LeafList; shape = Some shape; keys = []; module_name = module_name; is_mandatory = false; reference = None; maximum = maximum } }
+        ensures { result ≡ leaf_list_node module_name names shape maximum }
     {
         Node {
             names,

@@ -3,8 +3,8 @@ ghost use Rattle.std.specs.Option.{option_copied, option_map, option_and_then, F
 ghost use Rattle.base_kinds.specs.Schema.{names_of, node_of, node_at};
 ghost use Rattle.base_kinds.specs.Valid.{if_some};
 ghost use Rattle.schema_core.specs.Nodes.{names_at, names_above, has_parent, is_inner};
-ghost use Rattle.schema_core.specs.Index.{names_cmp, names_in, IsKept, IsBetween};
-ghost use Rattle.schema_core.specs.Wanted.{wanted_names};
+ghost use Rattle.schema_core.specs.inner.Index.{names_cmp, names_in, IsSortedIndex, IsBetween};
+ghost use Rattle.schema_core.specs.inner.Wanted.{wanted_names};
 
 use crate::limits::MOST_NODES;
 use crate::node::{Node, NodeId};
@@ -25,13 +25,13 @@ pub struct Schema {
 impl Model for Schema {
     ghost use Rattle.std.specs.Prelude.{List};
     ghost use Rattle.base_kinds.specs.Schema.{SchemaNode};
-    ghost use Rattle.schema_core.specs.Index.{IsKept};
+    ghost use Rattle.schema_core.specs.inner.Index.{IsSortedIndex};
 
     ghost Value = { List SchemaNode };
 
     ghost view = { λ s. s.nodes };
 
-    ghost invariant = { λ s. IsKept s.nodes s.order.items };
+    ghost invariant = { λ s. IsSortedIndex s.nodes s.order.items };
 }
 
 impl Schema {
@@ -76,10 +76,12 @@ impl Schema {
     /// The node with this name right below that one, or below the root. Takes no memory.
     pub fn child_of(&self, parent: Option<NodeId>, name: &[u8]) -> Option<NodeId>
         requires { ForSome parent (λ id. id.0 < length self.now) }
-        ensures node { node_of self.now (names_above self.now parent ++ name.now ∷ []) ≡ option_and_then (λ id. slice_get self.now id.0) result }
+        ensures node { node_of self.now (names_above self.now parent ++ name.now ∷ []) ≡
+            option_and_then (λ id. slice_get self.now id.0) result }
         ensures absent { IsNone result ↔ (node_of self.now (names_above self.now parent ++ name.now ∷ []) ≡ None) }
         ensures within { IfSome result (λ id. id.0 < length self.now) }
-        ensures named { IfSome result (λ id. names_at self.now id.0 ≡ names_above self.now parent ++ name.now ∷ []) }
+        ensures named { IfSome result (λ id. names_at self.now id.0 ≡
+            names_above self.now parent ++ name.now ∷ []) }
     {
         let above = match parent {
             None => &[],
@@ -150,12 +152,16 @@ impl Schema {
         self.node(node).module_name()
     }
 
-    /// No two nodes have the same names, and what a node stands below stands before it.
+    /// A law: no two nodes have the same names, and what a node stands below stands before it. Does nothing.
     pub fn each_has_its_place(&self)
-        ensures own { EachIndex self.now (λ number. node_of self.now (names_at self.now number) ≡ slice_get self.now number) }
-        ensures distinct { (i j : ℕ) → i < length self.now → j < length self.now → names_at self.now i ≡ names_at self.now j → i ≡ j }
-        ensures parent { EachIndex self.now (λ number. IsTrue (has_parent (take number self.now) (names_at self.now number))) }
+        ensures own { EachIndex self.now (λ number. node_of self.now (names_at self.now number) ≡
+            slice_get self.now number) }
+        ensures distinct { (i j : ℕ) → i < length self.now → j < length self.now →
+            names_at self.now i ≡ names_at self.now j → i ≡ j }
+        ensures parent { EachIndex self.now
+            (λ number. IsTrue (has_parent (take number self.now) (names_at self.now number))) }
     {
+        // opens the invariant, for the clauses
         let _ = &self.nodes;
     }
 
@@ -178,7 +184,8 @@ impl Schema {
     }
 
     fn look_up(&self, wanted: Wanted) -> Option<NodeId>
-        ensures node { node_of self.now (wanted_names wanted.entry) ≡ option_and_then (λ id. slice_get self.now id.0) result }
+        ensures node { node_of self.now (wanted_names wanted.entry) ≡
+            option_and_then (λ id. slice_get self.now id.0) result }
         ensures absent { IsNone result ↔ (node_of self.now (wanted_names wanted.entry) ≡ None) }
         ensures within { IfSome result (λ id. id.0 < length self.now) }
         ensures named { IfSome result (λ id. names_at self.now id.0 ≡ wanted_names wanted.entry) }
@@ -198,8 +205,9 @@ impl Copied for Schema {
 /// The number of the node that is wanted.
 #[tactic(auto, using(crate::proofs::IndexLemmas::found_there, crate::proofs::IndexLemmas::present_there, crate::proofs::IndexLemmas::absent_there))]
 fn number_of(nodes: &[Node], order: &[u32], wanted: Wanted) -> Option<NodeId>
-    requires { IsKept nodes.now order.now }
-    ensures node { node_of nodes.now (wanted_names wanted.entry) ≡ option_and_then (λ id. slice_get nodes.now id.0) result }
+    requires { IsSortedIndex nodes.now order.now }
+    ensures node { node_of nodes.now (wanted_names wanted.entry) ≡
+        option_and_then (λ id. slice_get nodes.now id.0) result }
     ensures absent { IsNone result ↔ (node_of nodes.now (wanted_names wanted.entry) ≡ None) }
     ensures within { IfSome result (λ id. id.0 < length nodes.now) }
     ensures named { IfSome result (λ id. names_at nodes.now id.0 ≡ wanted_names wanted.entry) }
@@ -213,7 +221,7 @@ fn number_of(nodes: &[Node], order: &[u32], wanted: Wanted) -> Option<NodeId>
 /// Where in the order the number of a new node belongs.
 #[tactic(auto, using(crate::proofs::IndexLemmas::present_there))]
 fn gap_of(nodes: &[Node], order: &[u32], node: &Node) -> usize
-    requires kept { IsKept nodes.now order.now }
+    requires kept { IsSortedIndex nodes.now order.now }
     requires fresh { node_of nodes.now node.now.names ≡ None }
     ensures { IsBetween nodes.now order.now node.now.names result result }
 {
@@ -226,9 +234,11 @@ fn gap_of(nodes: &[Node], order: &[u32], node: &Node) -> usize
 /// Where in the order what is wanted stands, or else the gap where it belongs.
 #[tactic(auto, using(crate::proofs::IndexLemmas::whole, crate::proofs::IndexLemmas::before_middle, crate::proofs::IndexLemmas::behind_middle))]
 fn place_of(nodes: &[Node], order: &[u32], wanted: Wanted) -> Result<usize, usize>
-    requires { IsKept nodes.now order.now }
+    requires { IsSortedIndex nodes.now order.now }
     ensures inside { IfOk result (λ place. place < length order.now) }
-    ensures there { IfOk result (λ place. names_cmp (wanted_names wanted.entry) (names_in nodes.now order.now place) ≡ Ordering.Equal) }
+    ensures there { IfOk result (λ place.
+        names_cmp (wanted_names wanted.entry) (names_in nodes.now order.now place)
+        ≡ Ordering.Equal) }
     ensures gap { IfErr result (λ gap. IsBetween nodes.now order.now (wanted_names wanted.entry) gap gap) }
 {
     let (mut low, mut high) = (0, order.len());
@@ -245,7 +255,7 @@ fn place_of(nodes: &[Node], order: &[u32], wanted: Wanted) -> Result<usize, usiz
 
 /// The names of the node whose number stands at this place of the order.
 fn names_in<'a>(nodes: &'a [Node], order: &[u32], place: usize) -> &'a [Text]
-    requires kept { IsKept nodes.now order.now }
+    requires kept { IsSortedIndex nodes.now order.now }
     requires inside { place < length order.now }
     ensures { result.now ≡ names_in nodes.now order.now place }
 {

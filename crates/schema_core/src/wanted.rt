@@ -1,8 +1,8 @@
 // The names that a look-up is for, compared with those of a node without taking memory.
 ghost use Rattle.std.specs.Prelude.{◌≡◌, ◌++◌, ◌∷◌, []};
 ghost use Rattle.base_kinds.specs.Schema.{names_of};
-ghost use Rattle.schema_core.specs.Index.{names_cmp};
-ghost use Rattle.schema_core.specs.Wanted.{wanted_names};
+ghost use Rattle.schema_core.specs.inner.Index.{names_cmp};
+ghost use Rattle.schema_core.specs.inner.Wanted.{wanted_names};
 
 use base_kinds::Elem;
 use base_lists::Text;

@@ -16,7 +16,7 @@ use Rattle.schema_text.specs.declared.line.Declared.TheVariants as declared
 use Rattle.schema_text.specs.declared.line.Line.{Line}
 use Rattle.schema_text.specs.declared.line.Line.TheVariants.{Skipped, Module, Node}
 use Rattle.schema_text.specs.Words.{some_parts, distinct, names_behind, path_of, keys_of, up_to, number_up_to, word_shape, integer_shape, decimal_shape, middle, enum_texts, enum_shape, shape_of}
-use Rattle.schema_text.specs.Grammar.{module_line, container_line, limit_of, list_line, reference_of, leaf_of, leaf_line, leaf_list_line, said, line_of}
+use Rattle.schema_text.specs.Grammar.{module_line, container_line, limit_of, list_line, reference_of, leaf_of, leaf_line, leaf_list_line, line_of_fields, line_of}
 
 abbrev Names : Type 0
 Names = List (List ℕ)
@@ -244,9 +244,9 @@ leaf_list_fit [] = tt
 leaf_list_fit (path ∷ []) = tt
 leaf_list_fit (path ∷ shape ∷ marks) = leaf_list_at (path_of path) (shape_of shape) (limit_of marks) (path_fit path) (shape_fit shape) (limit_fit marks)
 
-said_fit : (fields : Names) → IsFitLine (said fields)
-said_fit [] = tt
-said_fit (word ∷ fields) =
+fields_fit : (fields : Names) → IsFitLine (line_of_fields fields)
+fields_fit [] = tt
+fields_fit (word ∷ fields) =
     let leaf_list_or = cond (bytes_eq word (codes "leaf-list")) (leaf_list_line fields) None in
     let leaf_or = cond (bytes_eq word (codes "leaf")) (leaf_line fields) leaf_list_or in
     let list_or = cond (bytes_eq word (codes "list")) (list_line fields) leaf_or in
@@ -262,4 +262,4 @@ said_fit (word ∷ fields) =
 
 pub line_fit : (octets : List ℕ) → IsFitLine (line_of octets)
 line_fit [] = tt
-line_fit (octet ∷ octets) = line_if (eqb octet 35) (Some Skipped) (said (parts_of 32 (octet ∷ octets))) tt (said_fit (parts_of 32 (octet ∷ octets)))
+line_fit (octet ∷ octets) = line_if (eqb octet 35) (Some Skipped) (line_of_fields (parts_of 32 (octet ∷ octets))) tt (fields_fit (parts_of 32 (octet ∷ octets)))

@@ -6,7 +6,7 @@ use Rattle.plain_texts.proofs.NameTexts.{ascii_is_utf8, name_is_utf8}
 use Rattle.schema_core.specs.Shapes.{is_in_enum, is_enum_text}
 use Rattle.schema_text.specs.declared.texts.Word.{Word}
 use Rattle.schema_text.specs.declared.texts.Word.TheVariants as words
-use Rattle.schema_text.specs.Kinds.{passes}
+use Rattle.schema_text.specs.inner.Kinds.{passes}
 
 in_enum_below : (octet : ℕ) → is_in_enum octet ≡ true → octet < 128
 in_enum_below octet h = grind (arith, nat_tests)

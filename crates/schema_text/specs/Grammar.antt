@@ -26,44 +26,54 @@ container_line _ = None
 -- nothing, or `max N` with N from 1 to 65,536
 abbrev pub limit_of : List (List ℕ) → Option (Option ℕ)
 limit_of [] = Some None
-limit_of (word ∷ number ∷ []) = if bytes_eq word (codes "max") then option_map (λ most. Some most) (number_up_to most_elements number) else None
+limit_of (word ∷ number ∷ []) =
+    if bytes_eq word (codes "max") then option_map (λ most. Some most) (number_up_to most_elements number)
+    else None
 limit_of _ = None
 
 -- `list PATH KEY,KEY`, which `max N` may follow
 abbrev pub list_line : List (List ℕ) → Option Line
 list_line (path ∷ keys ∷ marks) =
-    option_and_then (λ names. option_and_then (λ keys. option_map (λ maximum. Node names (declared.List keys maximum)) (limit_of marks)) (keys_of keys)) (path_of path)
+    option_and_then (λ names. option_and_then (λ keys.
+    option_map (λ maximum. Node names (declared.List keys maximum)) (limit_of marks))
+    (keys_of keys)) (path_of path)
 list_line _ = None
 
 -- nothing, or `ref PATH`
 abbrev pub reference_of : List (List ℕ) → Option (Option (List (List ℕ)))
 reference_of [] = Some None
-reference_of (word ∷ path ∷ []) = if bytes_eq word (codes "ref") then option_map (λ names. Some names) (path_of path) else None
+reference_of (word ∷ path ∷ []) =
+    if bytes_eq word (codes "ref") then option_map (λ names. Some names) (path_of path) else None
 reference_of _ = None
 
 -- `mandatory` or not, and then a reference or none
 abbrev pub leaf_of : Shape → List (List ℕ) → Option Declared
 leaf_of shape [] = Some (declared.Leaf shape false None)
 leaf_of shape (word ∷ marks) =
-    if bytes_eq word (codes "mandatory") then option_map (λ names. declared.Leaf shape true names) (reference_of marks)
+    if bytes_eq word (codes "mandatory")
+    then option_map (λ names. declared.Leaf shape true names) (reference_of marks)
     else option_map (λ names. declared.Leaf shape false names) (reference_of (word ∷ marks))
 
 -- `leaf PATH SHAPE`, which `mandatory` and then `ref PATH` may follow
 abbrev pub leaf_line : List (List ℕ) → Option Line
 leaf_line (path ∷ shape ∷ marks) =
-    option_and_then (λ names. option_and_then (λ shape. option_map (λ leaf. Node names leaf) (leaf_of shape marks)) (shape_of shape)) (path_of path)
+    option_and_then (λ names. option_and_then (λ shape.
+    option_map (λ leaf. Node names leaf) (leaf_of shape marks))
+    (shape_of shape)) (path_of path)
 leaf_line _ = None
 
 -- `leaf-list PATH SHAPE`, which `max N` may follow
 abbrev pub leaf_list_line : List (List ℕ) → Option Line
 leaf_list_line (path ∷ shape ∷ marks) =
-    option_and_then (λ names. option_and_then (λ shape. option_map (λ maximum. Node names (declared.LeafList shape maximum)) (limit_of marks)) (shape_of shape)) (path_of path)
+    option_and_then (λ names. option_and_then (λ shape.
+    option_map (λ maximum. Node names (declared.LeafList shape maximum)) (limit_of marks))
+    (shape_of shape)) (path_of path)
 leaf_list_line _ = None
 
 -- the first field says what the others are
-abbrev pub said : List (List ℕ) → Option Line
-said [] = None
-said (word ∷ fields) =
+abbrev pub line_of_fields : List (List ℕ) → Option Line
+line_of_fields [] = None
+line_of_fields (word ∷ fields) =
     if bytes_eq word (codes "module") then module_line fields
     else if bytes_eq word (codes "container") then container_line fields
     else if bytes_eq word (codes "list") then list_line fields
@@ -74,4 +84,5 @@ said (word ∷ fields) =
 -- what the octets say as a line: an empty one and one that begins with `#` say nothing
 abbrev pub line_of : List ℕ → Option Line
 line_of [] = Some Skipped
-line_of (octet ∷ octets) = if octet == 35 then Some Skipped else said (parts_of 32 (octet ∷ octets))
+line_of (octet ∷ octets) =
+    if octet == 35 then Some Skipped else line_of_fields (parts_of 32 (octet ∷ octets))

@@ -1,7 +1,7 @@
 pub mod Causes
-pub mod Examples
 pub mod Grammar
-pub mod Kinds
-pub mod Laws
 pub mod Schemas
 pub mod Words
+pub mod inner
+pub mod laws
+pub mod worked

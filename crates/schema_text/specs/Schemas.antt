@@ -1,11 +1,11 @@
--- What a schema text means: its nodes in the order of its lines, or the first fault and its line.
+-- What a schema text means: its nodes in the order of its lines, or the first fault and its line. The form is this
+-- project's own.
 use Rattle.std.specs.Prelude.{◌≡◌, ℕ, ◌+◌, List, [], ◌∷◌, ◌++◌, Bool, true, false, not, ◌&&◌, ◌||◌, ◌==◌, nat_le, nat_lt, length, Option, Some, None, Result, Ok, Err, is_some, if◌then◌else◌}
 use Rattle.std.specs.List.{list_all}
 use Rattle.base_lists.specs.Results.{and_then}
 use Rattle.base_kinds.specs.Schema.{SchemaNode, node_of}
-use Rattle.base_kinds.specs.declared.schema.Sort.TheVariants as sorts
 use Rattle.plain_texts.specs.Splits.{parts_of}
-use Rattle.schema_core.specs.Nodes.{has_parent}
+use Rattle.schema_core.specs.Nodes.{has_parent, container_node, list_node, leaf_node, leaf_list_node}
 use Rattle.schema_core.specs.WellFormed.{has_key_leaf, has_target}
 use Rattle.schema_text.specs.declared.cause.Cause.{Cause}
 use Rattle.schema_text.specs.declared.cause.Cause.TheVariants.{Syntax, NoModule, NoParent, Twice, TooLarge, NoKey, BadRef}
@@ -29,21 +29,37 @@ nothing_read = record { nodes = []; lines = []; module_name = None }
 
 -- a node of the module with this name
 abbrev pub node_in : List ℕ → List (List ℕ) → Declared → SchemaNode
-node_in name names declared.Container = record { names = names; sort = sorts.Container; shape = None; keys = []; module_name = name; is_mandatory = false; reference = None; maximum = None }
-node_in name names (declared.List keys maximum) = record { names = names; sort = sorts.List; shape = None; keys = keys; module_name = name; is_mandatory = false; reference = None; maximum = maximum }
-node_in name names (declared.Leaf shape is_mandatory reference) = record { names = names; sort = sorts.Leaf; shape = Some shape; keys = []; module_name = name; is_mandatory = is_mandatory; reference = reference; maximum = None }
-node_in name names (declared.LeafList shape maximum) = record { names = names; sort = sorts.LeafList; shape = Some shape; keys = []; module_name = name; is_mandatory = false; reference = None; maximum = maximum }
+node_in name names declared.Container = container_node name names
+node_in name names (declared.List keys maximum) = list_node name names keys maximum
+node_in name names (declared.Leaf shape is_mandatory reference) = leaf_node name names shape is_mandatory reference
+node_in name names (declared.LeafList shape maximum) = leaf_list_node name names shape maximum
 
 abbrev pub in_module : ℕ → Read → List (List ℕ) → Declared → Option (List ℕ) → Result Read Cause
 in_module number read names node None = Err NoModule
 in_module number read names node (Some name) =
     if not (has_parent read.nodes names) then Err NoParent
     else if is_some (node_of read.nodes names) then Err Twice
-    else Ok (record read { nodes = read.nodes ++ node_in name names node ∷ []; lines = read.lines ++ number ∷ [] })
+    else Ok (record read {
+      nodes =
+          read.nodes ++ node_in name names node ∷ [];
+      lines = read.lines ++ number ∷ [];
+    })
 
--- at most 4,096 nodes
+-- the limits of a text, this project's own: so many nodes, octets of a line without its line feed, and octets
+abbrev pub most_nodes : ℕ
+most_nodes = 4096
+
+abbrev pub longest_line : ℕ
+longest_line = 1024
+
+abbrev pub longest_text : ℕ
+longest_text = 1048576
+
+-- at most so many nodes
 abbrev pub with_node : ℕ → Read → List (List ℕ) → Declared → Result Read Cause
-with_node number read names node = if nat_le 4096 (length read.nodes) then Err TooLarge else in_module number read names node read.module_name
+with_node number read names node =
+    if nat_le most_nodes (length read.nodes) then Err TooLarge
+    else in_module number read names node read.module_name
 
 abbrev pub with_line : ℕ → Read → Option Line → Result Read Cause
 with_line number read None = Err Syntax
@@ -51,18 +67,21 @@ with_line number read (Some Skipped) = Ok read
 with_line number read (Some (Module name)) = Ok (record read { module_name = Some name })
 with_line number read (Some (Node names node)) = with_node number read names node
 
--- a line has at most 1,024 octets without its line feed, and with it the text ends by octet 1,048,576
+-- a line is short enough, and with its line feed the text ends in its limit
 abbrev pub is_too_long : List ℕ → ℕ → ℕ → Bool
-is_too_long line place feeds = nat_lt 1024 (length line) || nat_lt 1048576 (place + length line + feeds)
+is_too_long line place feeds =
+    nat_lt longest_line (length line) || nat_lt longest_text (place + length line + feeds)
 
 -- a line that a line feed ends
 abbrev pub ended_line : ℕ → ℕ → Read → List ℕ → Result Read Cause
-ended_line number place read line = if is_too_long line place 1 then Err TooLarge else with_line number read (line_of line)
+ended_line number place read line =
+    if is_too_long line place 1 then Err TooLarge else with_line number read (line_of line)
 
 -- behind the last line feed stands nothing, or a line that none ends
 abbrev pub last_part : ℕ → Read → List ℕ → Result Read Cause
 last_part place read [] = Ok read
-last_part place read (octet ∷ octets) = if is_too_long (octet ∷ octets) place 0 then Err TooLarge else Err Syntax
+last_part place read (octet ∷ octets) =
+    if is_too_long (octet ∷ octets) place 0 then Err TooLarge else Err Syntax
 
 -- a part of the text between its line feeds, so many octets standing before it, and the parts behind it
 abbrev pub with_part : ℕ → ℕ → Read → List ℕ → List (List ℕ) → Result Read Cause
@@ -76,7 +95,9 @@ at_line number (Ok value) = Ok value
 -- the parts from this line on: the first line that can't be taken decides
 abbrev pub read_parts : ℕ → ℕ → Read → List (List ℕ) → Result Read SchemaFault
 read_parts number place read [] = Ok read
-read_parts number place read (part ∷ parts) = and_then (at_line number (with_part number place read part parts)) (λ more. read_parts (number + 1) (place + length part + 1) more parts)
+read_parts number place read (part ∷ parts) =
+    and_then (at_line number (with_part number place read part parts))
+    (λ more. read_parts (number + 1) (place + length part + 1) more parts)
 
 abbrev pub node_fault : List SchemaNode → SchemaNode → Option Cause
 node_fault nodes node =
@@ -92,17 +113,21 @@ or_fault number None others = others
 abbrev pub first_fault : List SchemaNode → List SchemaNode → List ℕ → Option SchemaFault
 first_fault all [] lines = None
 first_fault all (node ∷ nodes) [] = None
-first_fault all (node ∷ nodes) (line ∷ lines) = or_fault line (node_fault all node) (first_fault all nodes lines)
+first_fault all (node ∷ nodes) (line ∷ lines) =
+    or_fault line (node_fault all node) (first_fault all nodes lines)
 
-abbrev pub unless_fault : List SchemaNode → Option SchemaFault → Result (List SchemaNode) SchemaFault
+abbrev pub unless_fault : List SchemaNode → Option SchemaFault →
+    Result (List SchemaNode) SchemaFault
 unless_fault nodes None = Ok nodes
 unless_fault nodes (Some fault) = Err fault
 
 -- keys and references count only where every line could be taken
 abbrev pub schema_of : List ℕ → Result (List SchemaNode) SchemaFault
-schema_of text = and_then (read_parts 1 0 nothing_read (parts_of 10 text)) (λ read. unless_fault read.nodes (first_fault read.nodes read.nodes read.lines))
+schema_of text =
+    and_then (read_parts 1 0 nothing_read (parts_of 10 text))
+    (λ read. unless_fault read.nodes (first_fault read.nodes read.nodes read.lines))
 
 -- the error tells this fault; want of memory tells nothing
-abbrev pub Tells : {A : Type 0} → SchemaError → Result A SchemaFault → Type 0
-Tells (Fault fault) meaning = meaning ≡ Err fault
-Tells NoMemory meaning = Unit {0}
+abbrev pub IsFaultOf : {A : Type 0} → SchemaError → Result A SchemaFault → Type 0
+IsFaultOf (Fault fault) meaning = meaning ≡ Err fault
+IsFaultOf NoMemory meaning = Unit {0}

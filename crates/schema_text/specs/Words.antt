@@ -14,7 +14,9 @@ use Rattle.schema_core.specs.WellFormed.{most_names, most_keys}
 -- one part or more, at most so many, each of which passes the test
 abbrev pub some_parts : (List ℕ → Bool) → ℕ → List (List ℕ) → Option (List (List ℕ))
 some_parts test most [] = None
-some_parts test most (part ∷ parts) = if nat_le (length (part ∷ parts)) most && list_all test (part ∷ parts) then Some (part ∷ parts) else None
+some_parts test most (part ∷ parts) =
+    if nat_le (length (part ∷ parts)) most
+    && list_all test (part ∷ parts) then Some (part ∷ parts) else None
 
 abbrev pub distinct : List (List ℕ) → Option (List (List ℕ))
 distinct texts = if texts_differ texts then Some texts else None
@@ -62,7 +64,10 @@ integer_shape field =
 
 -- `dec` and a number from 1 to 18
 abbrev pub decimal_shape : List ℕ → Option Shape
-decimal_shape field = if bytes_eq (take 3 field) (codes "dec") then option_map (λ places. shapes.Dec places) (number_up_to most_places (drop 3 field)) else None
+decimal_shape field =
+    if bytes_eq (take 3 field) (codes "dec")
+    then option_map (λ places. shapes.Dec places) (number_up_to most_places (drop 3 field))
+    else None
 
 -- what is left without the first five octets and the last one
 abbrev pub middle : List ℕ → List ℕ
@@ -70,12 +75,18 @@ middle field = take (length field - 6) (drop 5 field)
 
 -- 1 to 256 distinct texts with `|` between two of them
 abbrev pub enum_texts : List ℕ → Option (List (List ℕ))
-enum_texts octets = option_and_then distinct (some_parts is_enum_text most_enum_texts (parts_of 124 octets))
+enum_texts octets =
+    option_and_then distinct (some_parts is_enum_text most_enum_texts (parts_of 124 octets))
 
 -- `enum(`, the texts and `)`
 abbrev pub enum_shape : List ℕ → Option Shape
-enum_shape field = if bytes_eq field (codes "enum(" ++ (middle field ++ codes ")")) then option_map (λ texts. shapes.Enum texts) (enum_texts (middle field)) else None
+enum_shape field =
+    if bytes_eq field (codes "enum(" ++ (middle field ++ codes ")"))
+    then option_map (λ texts. shapes.Enum texts) (enum_texts (middle field))
+    else None
 
 -- SHAPE
 abbrev pub shape_of : List ℕ → Option Shape
-shape_of field = option_or (word_shape field) (option_or (integer_shape field) (option_or (decimal_shape field) (enum_shape field)))
+shape_of field =
+    option_or (word_shape field)
+    (option_or (integer_shape field) (option_or (decimal_shape field) (enum_shape field)))

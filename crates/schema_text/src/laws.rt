@@ -1,7 +1,7 @@
 ghost use Rattle.std.specs.Prelude.{◌≡◌, Ok, List, ℕ, []};
 ghost use Rattle.base_kinds.specs.Schema.{SchemaNode};
 ghost use Rattle.schema_core.specs.Nodes.{AllPlaced};
-ghost use Rattle.schema_text.specs.Laws.{ReadSchemasAreWellFormed};
+ghost use Rattle.schema_text.specs.laws.Schemas.{ReadSchemasAreWellFormed};
 ghost use Rattle.schema_text.specs.Schemas.{schema_of};
 
 /// The empty text is the empty schema.

@@ -37,14 +37,16 @@ pub(crate) fn is_enum_text(octets: &[u8]) -> bool
 
 /// What follows the front, where the octets begin with it.
 pub(crate) fn after<'a>(octets: &'a [u8], front: &[u8]) -> Option<&'a [u8]>
-    ensures { MatchOption result ((rest : List ℕ) → octets.now ≡ front.now ++ rest → ⊥) (λ rest. octets.now ≡ front.now ++ rest.now) }
+    ensures { MatchOption result ((rest : List ℕ) → octets.now ≡ front.now ++ rest →
+        ⊥) (λ rest. octets.now ≡ front.now ++ rest.now) }
 {
     octets.strip_prefix(front)
 }
 
 /// What stands before the end, where the octets end with it.
 pub(crate) fn before<'a>(octets: &'a [u8], end: &[u8]) -> Option<&'a [u8]>
-    ensures { MatchOption result ((front : List ℕ) → octets.now ≡ front ++ end.now → ⊥) (λ front. octets.now ≡ front.now ++ end.now) }
+    ensures { MatchOption result ((front : List ℕ) → octets.now ≡ front ++ end.now →
+        ⊥) (λ front. octets.now ≡ front.now ++ end.now) }
 {
     octets.strip_suffix(end)
 }

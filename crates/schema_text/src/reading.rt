@@ -2,16 +2,22 @@
 ghost use Rattle.std.specs.Prelude.{◌≡◌, ◌+◌, ◌≤◌, ◌^◌, length, IfOk, IfErr, OnOk};
 ghost use Rattle.schema_text.specs.Grammar.{line_of};
 ghost use Rattle.plain_texts.specs.Splits.{parts_of};
-ghost use Rattle.schema_text.specs.Schemas.{nothing_read, node_in, with_node, with_line, is_too_long, ended_line, last_part, at_line, read_parts, Tells};
+ghost use Rattle.schema_text.specs.Schemas.{nothing_read, node_in, with_node, with_line, is_too_long, ended_line, last_part, at_line, read_parts, IsFaultOf};
 
 use crate::cause::{Cause, SchemaError, SchemaFault};
+use crate::grammar::read_line;
 use crate::line::{Declared, Line};
-use crate::lines::read_line;
 use base_kinds::{Copied, Text, Texts};
 use plain_texts::Parts;
 use schema_core::{MOST_NODES, Node, Schema};
 use std::alloc::Global;
 use std::marker::Model;
+
+/// So many octets has a line at most, without its line feed.
+const LONGEST_LINE: usize = 1024;
+
+/// So many octets has a text at most.
+const LONGEST_TEXT: usize = 1_048_576;
 
 /// What the lines so far make: the nodes, the line of each, and the module of those that follow.
 #[derive(Drop)]
@@ -52,11 +58,11 @@ fn node_in(alloc: Global, module_name: Text, names: Texts, node: Declared) -> No
 
 /// Whether a line behind so many octets is above the limits of a line or of the text, with so many line feeds at its end.
 fn is_too_long(line: &[u8], place: usize, feeds: usize) -> bool
-    requires before { place ≤ 1048576 }
+    requires before { place ≤ LONGEST_TEXT }
     requires most { feeds ≤ 1 }
     ensures { result ≡ is_too_long line.now place feeds }
 {
-    line.len() > 1024 || place + line.len() + feeds > 1_048_576
+    line.len() > LONGEST_LINE || place + line.len() + feeds > LONGEST_TEXT
 }
 
 impl Reading {
@@ -78,7 +84,8 @@ impl Reading {
         node: Declared,
     ) -> Result<(), SchemaError>
         ensures ok { OnOk result (at_line number (with_node number self.old names node) ≡ Ok self.new) }
-        ensures refused { IfErr result (λ error. Tells error (at_line number (with_node number self.old names node))) }
+        ensures refused { IfErr result
+            (λ error. IsFaultOf error (at_line number (with_node number self.old names node))) }
     {
         if self.schema.nodes() >= MOST_NODES {
             return Err(fault(number, Cause::TooLarge));
@@ -101,8 +108,10 @@ impl Reading {
     }
 
     fn take_line(&mut self, alloc: Global, number: u32, line: &[u8]) -> Result<(), SchemaError>
-        ensures ok { OnOk result (at_line number (with_line number self.old (line_of line.now)) ≡ Ok self.new) }
-        ensures refused { IfErr result (λ error. Tells error (at_line number (with_line number self.old (line_of line.now)))) }
+        ensures ok { OnOk result (at_line number (with_line number self.old (line_of line.now)) ≡
+            Ok self.new) }
+        ensures refused { IfErr result
+            (λ error. IsFaultOf error (at_line number (with_line number self.old (line_of line.now)))) }
     {
         match read_line(alloc, line)? {
             None => Err(fault(number, Cause::Syntax)),
@@ -123,10 +132,11 @@ impl Reading {
         place: usize,
         line: &[u8],
     ) -> Result<(), SchemaError>
-        requires { place ≤ 1048576 }
+        requires { place ≤ LONGEST_TEXT }
         ensures ok { OnOk result (at_line number (ended_line number place self.old line.now) ≡ Ok self.new) }
-        ensures within { OnOk result (place + length line.now + 1 ≤ 1048576) }
-        ensures refused { IfErr result (λ error. Tells error (at_line number (ended_line number place self.old line.now))) }
+        ensures within { OnOk result (place + length line.now + 1 ≤ LONGEST_TEXT) }
+        ensures refused { IfErr result
+            (λ error. IsFaultOf error (at_line number (ended_line number place self.old line.now))) }
     {
         if is_too_long(line, place, 1) {
             return Err(fault(number, Cause::TooLarge));
@@ -142,9 +152,9 @@ fn take_last(
     place: usize,
     part: &[u8],
 ) -> Result<Reading, SchemaError>
-    requires { place ≤ 1048576 }
+    requires { place ≤ LONGEST_TEXT }
     ensures ok { IfOk result (λ read. at_line number (last_part place reading part.now) ≡ Ok read) }
-    ensures refused { IfErr result (λ error. Tells error (at_line number (last_part place reading part.now))) }
+    ensures refused { IfErr result (λ error. IsFaultOf error (at_line number (last_part place reading part.now))) }
 {
     if part.is_empty() {
         return Ok(reading);
@@ -158,7 +168,7 @@ fn take_last(
 /// Takes the lines of the text.
 pub(crate) fn read_lines(alloc: Global, text: &[u8]) -> Result<Reading, SchemaError>
     ensures ok { IfOk result (λ reading. read_parts 1 0 nothing_read (parts_of 10 text.now) ≡ Ok reading) }
-    ensures refused { IfErr result (λ error. Tells error (read_parts 1 0 nothing_read (parts_of 10 text.now))) }
+    ensures refused { IfErr result (λ error. IsFaultOf error (read_parts 1 0 nothing_read (parts_of 10 text.now))) }
 {
     let mut reading = Reading::empty(alloc);
     let mut parts = Parts::of(text, b'\n');

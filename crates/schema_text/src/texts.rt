@@ -5,7 +5,7 @@ ghost use Rattle.std.specs.Option.{option_and_then};
 ghost use Rattle.std.specs.Str.{bytes_eq};
 ghost use Rattle.schema_core.specs.Shapes.{texts_differ};
 ghost use Rattle.schema_text.specs.Words.{some_parts, distinct, path_of, keys_of, enum_texts};
-ghost use Rattle.schema_text.specs.Kinds.{passes};
+ghost use Rattle.schema_text.specs.inner.Kinds.{passes};
 
 use crate::octets::is_enum_text;
 use base_kinds::{NoMemory, Seq, Text, Texts};
@@ -76,7 +76,8 @@ fn read_distinct(
     word: Word,
     most: usize,
 ) -> Result<Option<Texts>, NoMemory>
-    ensures { IfOk result (λ texts. texts ≡ option_and_then distinct (some_parts (passes word) most parts.entry)) }
+    ensures { IfOk result (λ texts. texts ≡
+        option_and_then distinct (some_parts (passes word) most parts.entry)) }
 {
     let Some(texts) = read_texts(alloc, parts, word, most)? else {
         return Ok(None);

@@ -1,7 +1,7 @@
 use Rattle.std.proofs.Common.{◌≡◌, sym, subst, arith, List, ℕ}
 use Rattle.std.specs.declared.cmp.Ordering.TheVariants.{Less, Greater}
-use Rattle.schema_core.specs.Index.{names_cmp}
-use Rattle.schema_core.specs.Wanted.{wanted_names}
+use Rattle.schema_core.specs.inner.Index.{names_cmp}
+use Rattle.schema_core.specs.inner.Wanted.{wanted_names}
 use Rattle.schema_core.proofs.IndexLemmas.{before_middle, behind_middle}
 use Rattle.schema_core.proofs.schema.place_of.Goals as goal
 

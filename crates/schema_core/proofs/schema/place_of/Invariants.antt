@@ -1,6 +1,6 @@
 use Rattle.std.proofs.Common.{◌-◌}
-use Rattle.schema_core.specs.Index.{IsBetween}
-use Rattle.schema_core.specs.Wanted.{wanted_names}
+use Rattle.schema_core.specs.inner.Index.{IsBetween}
+use Rattle.schema_core.specs.inner.Wanted.{wanted_names}
 use Rattle.schema_core.proofs.schema.place_of.Given as goal
 
 abbrev pub invariant-loop-low : goal.invariant-loop-low

@@ -1,5 +1,5 @@
 use Rattle.std.proofs.Common.{ℕ, List, ◌++◌, sym, ap, ◌∙◌}
-use Rattle.schema_text.specs.Kinds.{passes}
+use Rattle.schema_text.specs.inner.Kinds.{passes}
 use Rattle.schema_text.proofs.Taken.{too_many, refused}
 use Rattle.schema_text.proofs.Utf8.{passes_is_utf8}
 use Rattle.schema_text.proofs.texts.read_texts.Goals as goal

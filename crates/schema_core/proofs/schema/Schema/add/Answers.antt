@@ -2,7 +2,7 @@ use Rattle.std.proofs.Common.{◌≡◌, length, arith, List, ℕ, subst}
 use Rattle.std.specs.Prelude.{insert}
 use Rattle.std.proofs.lemmas.Grind.{common_steps}
 use Rattle.base_kinds.specs.Schema.{SchemaNode}
-use Rattle.schema_core.specs.Index.{IsBetween}
+use Rattle.schema_core.specs.inner.Index.{IsBetween}
 use Rattle.schema_core.proofs.IndexLemmas.{kept_then}
 use Rattle.schema_core.proofs.schema.Schema.add.Goals as goal
 

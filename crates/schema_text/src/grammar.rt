@@ -1,6 +1,6 @@
 // Lines, read field by field.
 ghost use Rattle.std.specs.Prelude.{◌≡◌, ◌∷◌, IfOk};
-ghost use Rattle.schema_text.specs.Grammar.{module_line, container_line, limit_of, list_line, reference_of, leaf_of, leaf_line, leaf_list_line, said, line_of};
+ghost use Rattle.schema_text.specs.Grammar.{module_line, container_line, limit_of, list_line, reference_of, leaf_of, leaf_line, leaf_list_line, line_of_fields, line_of};
 
 use crate::line::{Declared, Line};
 use crate::numbers::number_up_to;
@@ -176,7 +176,7 @@ fn read_leaf_list(alloc: Global, mut fields: Parts) -> Result<Option<Line>, NoMe
 
 /// What the fields say.
 fn read_fields(alloc: Global, mut fields: Parts) -> Result<Option<Line>, NoMemory>
-    ensures { IfOk result (λ line. line ≡ said fields.entry) }
+    ensures { IfOk result (λ line. line ≡ line_of_fields fields.entry) }
 {
     let Some(word) = fields.next() else {
         return Ok(None);

@@ -1,17 +1,15 @@
-// Keys and references, which count once every line could be taken.
-ghost use Rattle.std.specs.Prelude.{◌≡◌, ◌<◌, ℕ, Some, length, slice_get, IfOk, IfErr};
+// Keys and references, which count once every line could be taken (RFC 7950 7.8.2, 9.9).
+ghost use Rattle.std.specs.Prelude.{◌≡◌, ◌<◌, ℕ, Some, length, slice_get};
 ghost use Rattle.std.specs.List.{list_all};
 ghost use Rattle.std.specs.Option.{option_map, option_copied};
 ghost use Rattle.base_kinds.specs.Schema.{same_names};
 ghost use Rattle.schema_core.specs.Shapes.{same_shape, same_shapes};
-ghost use Rattle.schema_core.specs.WellFormed.{is_leaf, has_key_leaf, has_target, IsWellFormed};
-ghost use Rattle.schema_text.specs.Schemas.{node_fault, first_fault, schema_of, Tells};
+ghost use Rattle.schema_core.specs.WellFormed.{is_leaf, has_key_leaf, has_target};
+ghost use Rattle.schema_text.specs.Schemas.{node_fault, first_fault};
 
-use crate::cause::{Cause, SchemaError, SchemaFault};
-use crate::reading::{Reading, read_lines};
+use crate::cause::{Cause, SchemaFault};
 use base_kinds::{Shape, Sort, Text};
 use schema_core::{Node, NodeId, Schema};
-use std::alloc::Global;
 
 fn is_leaf(sort: Sort) -> bool
     ensures { result ≡ is_leaf sort }
@@ -116,7 +114,7 @@ fn node_fault(schema: &Schema, id: NodeId) -> Option<Cause>
 }
 
 /// The fault of the first node, in the order of the lines, that lacks a key or the leaf that it refers to.
-fn first_fault(schema: &Schema, lines: &[u32]) -> Option<SchemaFault>
+pub(crate) fn first_fault(schema: &Schema, lines: &[u32]) -> Option<SchemaFault>
     ensures { result ≡ first_fault schema.now schema.now lines.now }
 {
     for number in 0..schema.nodes() {
@@ -128,22 +126,4 @@ fn first_fault(schema: &Schema, lines: &[u32]) -> Option<SchemaFault>
         }
     }
     None
-}
-
-/// The schema that the text is, or its first fault: that of the first line that can't be taken, or where each can be,
-/// that of the first line whose list lacks a key or whose leaf lacks the leaf that it refers to.
-pub fn read_schema(alloc: Global, text: &[u8]) -> Result<Schema, SchemaError>
-    ensures ok { IfOk result (λ schema. schema_of text.now ≡ Ok schema) }
-    ensures refused { IfErr result (λ error. Tells error (schema_of text.now)) }
-    ensures well_formed { IfOk result (λ schema. IsWellFormed schema) }
-{
-    let Reading {
-        schema,
-        lines,
-        module_name: _,
-    } = read_lines(alloc, text)?;
-    match first_fault(&schema, lines.as_slice()) {
-        None => Ok(schema),
-        Some(fault) => Err(SchemaError::Fault(fault)),
-    }
 }

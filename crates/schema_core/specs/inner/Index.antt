@@ -16,10 +16,11 @@ abbrev pub names_in : List SchemaNode → List ℕ → ℕ → List (List ℕ)
 names_in nodes order place = names_at nodes (slice_index order place)
 
 -- the order has each node's number, and the names of the nodes rise along it
-pub record IsKept (nodes : List SchemaNode) (order : List ℕ) : Type 0 where
+pub record IsSortedIndex (nodes : List SchemaNode) (order : List ℕ) : Type 0 where
   pub placed : AllPlaced nodes
   pub few : length nodes ≤ 4096
-  pub rising : (i j : ℕ) → i < j → j < length order → names_cmp (names_in nodes order i) (names_in nodes order j) ≡ Less
+  pub rising : (i j : ℕ) → i < j → j < length order →
+      names_cmp (names_in nodes order i) (names_in nodes order j) ≡ Less
   pub within : EachIndex order (λ place. slice_index order place < length nodes)
   pub complete : EachIndex nodes (λ number. SomeIndex order (λ place. slice_index order place ≡ number))
 
@@ -28,4 +29,5 @@ pub record IsBetween (nodes : List SchemaNode) (order : List ℕ) (names : List 
   pub ordered : low ≤ high
   pub inside : high ≤ length order
   pub below : (place : ℕ) → place < low → names_cmp names (names_in nodes order place) ≡ Greater
-  pub above : (place : ℕ) → high ≤ place → place < length order → names_cmp names (names_in nodes order place) ≡ Less
+  pub above : (place : ℕ) → high ≤ place → place < length order →
+      names_cmp names (names_in nodes order place) ≡ Less

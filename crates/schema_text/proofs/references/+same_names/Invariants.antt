@@ -1,5 +1,5 @@
 use Rattle.std.proofs.Common.{length}
-use Rattle.schema_text.proofs.settling.+same_names.Given as goal
+use Rattle.schema_text.proofs.references.+same_names.Given as goal
 
 abbrev pub decreases-same_names : goal.decreases-same_names
 decreases-same_names l = length l.names.now

@@ -6,4 +6,5 @@ use Rattle.schema_text.specs.Schemas.{schema_of}
 
 -- the schema that a text is, is well-formed
 abbrev pub ReadSchemasAreWellFormed : Type 0
-ReadSchemasAreWellFormed = (text : List ℕ) (schema : List SchemaNode) → schema_of text ≡ Ok schema → IsWellFormed schema
+ReadSchemasAreWellFormed =
+    (text : List ℕ) (schema : List SchemaNode) → schema_of text ≡ Ok schema → IsWellFormed schema

@@ -1,6 +1,6 @@
 use Rattle.std.proofs.Common.{Some, None, sym, ◌∙◌}
 use Rattle.schema_text.proofs.Faults.{no_line, here}
-use Rattle.schema_text.proofs.settling.first_fault.Goals as goal
+use Rattle.schema_text.proofs.references.first_fault.Goals as goal
 
 pub returns-in_default : goal.returns-in_default
 returns-in_default c = sym (c.loop-number.invariant ∙ no_line c.args.schema.now c.args.schema.now c.args.lines.now c.loop-number.number c.in_default.ensures.lookup.3)
