@@ -2,11 +2,6 @@
 use Rattle.std.proofs.Common.{◌≡◌, ℕ, ◌<◌, ◌≤◌, ◌^◌, List, [], ◌∷◌, ◌++◌, nat_le, true, refl, arith}
 use Rattle.std.proofs.lemmas.Bool.{and_parts, leb-true}
 use Rattle.base_kinds.specs.declared.entry.Entry.{Entry}
-use Rattle.base_kinds.specs.declared.entry.Ask.{Ask}
-use Rattle.base_kinds.specs.declared.entry.Ask.TheVariants as asks
-use Rattle.base_kinds.specs.Legal.{is_fit_duration, IsFit}
-use Rattle.base_kinds.specs.Limits.{shortest_duration, longest_duration}
-use Rattle.reference_model.specs.PlainRules.{duration_of}
 use Rattle.base_kinds.specs.History.{last_stamp, stamp_of}
 use Rattle.base_kinds.specs.Records.{counted}
 use Rattle.base_kinds.specs.Step.{new_stamp}
@@ -22,14 +17,3 @@ stamp_bound h entry now below is = rw (last-append 0 h entry, is) (omega (arith,
 -- a count that stops is above a small limit where the number is
 pub counted_le : (count limit : ℕ) → limit < 2 ^ 32 → nat_le (counted count) limit ≡ nat_le count limit
 counted_le count limit small = grind (arith, small)
-
-most_of : (duration : ℕ) → is_fit_duration duration ≡ true → duration ≤ longest_duration
-most_of duration fit = leb-true duration longest_duration (and_parts (nat_le shortest_duration duration) (nat_le duration longest_duration) fit).1
-
--- what is fit lasts at most a day
-pub fit_lasts : (ask : Ask) → longest_duration < duration_of ask → IsFit ask → ⊥
-fit_lasts (asks.Apply ops) long fit = omega (arith, long)
-fit_lasts (asks.Trial id ops duration) long fit = omega (arith, long, most_of duration fit.duration_fits)
-fit_lasts (asks.Confirm id) long fit = omega (arith, long)
-fit_lasts (asks.Cancel id) long fit = omega (arith, long)
-fit_lasts (asks.Extend id duration) long fit = omega (arith, long, most_of duration fit.duration_fits)

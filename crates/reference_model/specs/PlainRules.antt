@@ -10,7 +10,7 @@ use Rattle.base_kinds.specs.Step.{Rules}
 abbrev pub plain_rules : Limits → Rules
 plain_rules limits = record (rules_of [] limits) { valid = λ tree. true; fits = λ tree. true }
 
--- how long a trial is asked to last
+-- how long a trial is asked to last, in nanoseconds; 0 where none is asked for
 abbrev pub duration_of : Ask → ℕ
 duration_of (asks.Trial id ops duration) = duration
 duration_of (asks.Extend id duration) = duration

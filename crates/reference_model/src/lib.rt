@@ -1,4 +1,8 @@
-//! Slow functions over lists that compute the definitions of the configuration side, each as its definition says.
+//! Slow functions over lists that compute the definitions of base_kinds, each as its definition says: the reference that
+//! tests hold faster programs against. It shares no body with them, and so no mistake.
+//!
+//! Start at `effect` (trees.rt), `step_of` (steps.rt) and `is_valid` (validity.rt), each beside its definition in
+//! base_kinds/specs: Tree, Step, Valid. Called by tree_tests alone.
 #![tactic(auto)]
 
 mod key_texts;
@@ -17,7 +21,7 @@ pub use key_texts::key_text;
 pub use matching::{covers, matches};
 pub use parts::{is_covered, part_of};
 pub use schema::{Node, node_at};
-pub use steps::{size_of, step_of};
+pub use steps::{duration_of, size_of, stamp_of, step_of};
 pub use trees::{effect, set_row};
 pub use validity::is_valid;
 pub use values::has_shape;

@@ -40,7 +40,9 @@ fn is_leaf(elem: &Elem, name: &[u8]) -> bool
 #[tactic(auto, using(crate::proofs::Children::steps_at))]
 pub(crate) fn elem_at(path: &[Elem], n: usize) -> &Elem
     requires { n < length path.now }
-    ensures { path_steps_from (take n path.now) (drop n path.now) ≡ (take (n + 1) path.now, result.now) ∷ path_steps_from (take (n + 1) path.now) (drop (n + 1) path.now) }
+    ensures { path_steps_from (take n path.now) (drop n path.now)
+        ≡ (take (n + 1) path.now, result.now)
+        ∷ path_steps_from (take (n + 1) path.now) (drop (n + 1) path.now) }
 {
     &path[n]
 }

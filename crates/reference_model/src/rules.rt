@@ -1,7 +1,7 @@
 // The six rules that a valid tree meets.
-pub(crate) mod keyed;
-pub(crate) mod known;
+pub(crate) mod data_nodes;
+pub(crate) mod leafref;
+pub(crate) mod list_keys;
 pub(crate) mod mandatory;
-pub(crate) mod referring;
-pub(crate) mod shaped;
-pub(crate) mod within;
+pub(crate) mod max_elements;
+pub(crate) mod types;

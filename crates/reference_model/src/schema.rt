@@ -26,7 +26,16 @@ impl Model for Node {
 
     ghost Value = { SchemaNode };
 
-    ghost view = { λ n. record { names = n.names; sort = n.sort; shape = n.shape; keys = n.keys; module_name = n.module_name; is_mandatory = n.is_mandatory; reference = n.reference; maximum = n.maximum } };
+    ghost view = { λ n. record {
+      names = n.names;
+      sort = n.sort;
+      shape = n.shape;
+      keys = n.keys;
+      module_name = n.module_name;
+      is_mandatory = n.is_mandatory;
+      reference = n.reference;
+      maximum = n.maximum;
+    } };
 }
 
 /// The node of the path, where the schema has one.

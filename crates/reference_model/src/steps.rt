@@ -1,29 +1,26 @@
 // One step of a history, without a schema: the event of the clock, and then what becomes of an ask.
-ghost use Rattle.std.specs.Prelude.{◌≡◌, ◌≢◌, ◌+◌, ◌≤◌, ◌<◌, ◌^◌, ◌∷◌, [], Ok, Err, length, not, IfOk, IfErr, OnOk};
+ghost use Rattle.std.specs.Prelude.{◌≡◌, ◌⊎◌, ◌+◌, ◌≤◌, ◌<◌, ◌^◌, ◌∷◌, [], not, OnOk, OnErr, IsErrOf};
+ghost use Rattle.base_lists.specs.Results.{IsUnlessMemory};
 ghost use Rattle.base_kinds.specs.Records.{counted, record_octets};
 ghost use Rattle.base_kinds.specs.History.{last_stamp, stamp_of, world_of};
+ghost use Rattle.base_kinds.specs.Limits.{closing_octets, gate_octets, longest_duration};
 ghost use Rattle.base_kinds.specs.Rules.{size_of, limited};
-ghost use Rattle.base_kinds.specs.Legal.{IsFit};
 ghost use Rattle.base_kinds.specs.Step.{new_stamp, time_at, next_entry, is_due, is_past, is_open, is_other, after_expiry, first_refusal, refusal_cases_of_ops, refusal_cases_of_trial, judge_at, step};
 ghost use Rattle.reference_model.specs.PlainWorlds.{trial_in, world_in};
 ghost use Rattle.reference_model.specs.PlainRules.{plain_rules, duration_of};
 
 use crate::worlds::{PlainWorld, world_of};
-use base_kinds::{Ask, Entries, Entry, Kind, Limits, NoMemory, Refusal, Text};
+use base_kinds::{
+    Ask, CLOSING_OCTETS, EMPTY_LOG_OCTETS, Entries, Entry, GATE_OCTETS, Kind, LATEST_READING,
+    Limits, NoMemory, Refusal, Text,
+};
 use std::alloc::Global;
 
-/// The latest reading of the clock that counts, in nanoseconds since 1970: the beginning of the year 2100.
-const LATEST_READING: u64 = 4_102_444_800_000_000_000;
-
-/// No history of a journal has a stamp as late as this.
-const LATEST_STAMP: u64 = 4_611_686_018_427_387_904;
-
-/// The longest duration of a trial: a day.
-const LONGEST: u64 = 86_400_000_000_000;
-
-/// What becomes of the ask at this reading of the clock, within the limits: an entry, or why it is refused. The event
-/// of the clock is added to the entries, and the new entry isn't.
-#[tactic(auto, using(crate::proofs::Stamps::fit_lasts))]
+/// What becomes of the ask at this reading of the clock, in nanoseconds since 1970, within the limits: an entry, or why it
+/// is refused, `TrialOpen`, `NoTrial`, `WrongId` or `LogFull`. The event of the clock is added to the entries, whether the
+/// ask is refused or not; the new entry isn't.
+///
+/// The last stamp is below 2^62 (`stamp_of` tells it), and a trial is asked for a day at most (`duration_of`).
 pub fn step_of(
     alloc: Global,
     limits: &Limits,
@@ -32,16 +29,15 @@ pub fn step_of(
     author: u32,
     ask: Ask,
 ) -> Result<Entry, Refusal>
-    ensures judged { stamp_of entries.old < 2 ^ 62 → IsFit ask → IfOk result (λ entry. step (plain_rules limits.now) entries.old now author ask ≡ Ok entry) }
-    ensures refused { stamp_of entries.old < 2 ^ 62 → IsFit ask → IfErr result (λ refusal. refusal ≢ Refusal.NoMemory → step (plain_rules limits.now) entries.old now author ask ≡ Err refusal) }
-    ensures clocked { OnOk result (entries.new ≡ after_expiry entries.old now) }
+    requires stamp { stamp_of entries.old < 2 ^ 62 }
+    requires duration { duration_of ask ≤ longest_duration }
+    ensures judged { let defined = step (plain_rules limits.now) entries.old now author ask in
+        IsUnlessMemory Refusal.NoMemory result defined }
+    ensures clocked { (IsErrOf result Refusal.NoMemory → ⊥) →
+        entries.new ≡ after_expiry entries.old now }
+    ensures memory { IsErrOf result Refusal.NoMemory →
+        (entries.new ≡ entries.old) ⊎ (entries.new ≡ after_expiry entries.old now) }
 {
-    if stamp_of(entries.items()) >= LATEST_STAMP {
-        return Err(Refusal::LogFull);
-    }
-    if lasts(&ask) > LONGEST {
-        return Err(Refusal::BadDuration);
-    }
     after_expiry(alloc, entries, now)?;
     let world = world_of(alloc, entries.items())?;
     let stamp = new_stamp(entries.items(), now);
@@ -54,6 +50,7 @@ fn after_expiry(alloc: Global, entries: &mut Entries, now: u64) -> Result<(), No
     requires { stamp_of entries.old < 2 ^ 62 }
     ensures value { OnOk result (entries.new ≡ after_expiry entries.old now) }
     ensures bound { OnOk result (stamp_of entries.new ≤ 2 ^ 62) }
+    ensures err { OnErr result (entries.new ≡ entries.old) }
 {
     let world = world_of(alloc, entries.items())?;
     if is_past(&world, time_at(entries.items(), now)) {
@@ -64,7 +61,8 @@ fn after_expiry(alloc: Global, entries: &mut Entries, now: u64) -> Result<(), No
     Ok(())
 }
 
-fn lasts(ask: &Ask) -> u64
+/// How long a trial is asked to last, in nanoseconds; 0 where none is asked for.
+pub fn duration_of(ask: &Ask) -> u64
     ensures { result ≡ duration_of ask.now }
 {
     match ask {
@@ -78,9 +76,11 @@ fn lasts(ask: &Ask) -> u64
 pub fn size_of(entries: &[Entry]) -> u64
     ensures { result ≡ counted (size_of entries.now) }
 {
-    let mut size = 17u64;
+    let mut size = EMPTY_LOG_OCTETS;
     for entry in entries {
-        size = size.saturating_add(1).saturating_add(entry.record_octets());
+        size = size
+            .saturating_add(GATE_OCTETS)
+            .saturating_add(entry.record_octets());
     }
     size
 }
@@ -107,13 +107,13 @@ fn judge_in(
 ) -> Result<Entry, Refusal>
     requires world { world_in world.now ≡ world_of entries.now }
     requires bound { stamp ≤ 2 ^ 63 }
-    requires duration { duration_of ask ≤ 86400000000000 }
+    requires duration { duration_of ask ≤ longest_duration }
     ensures { result ≡ judge_at (plain_rules limits.now) entries.now stamp author ask }
 {
     match ask {
         Ask::Apply(ops) => {
             let entry = next_entry(entries, stamp, author, Kind::Apply(ops));
-            checked_ops(limits, entries, world, entry, 1, 1)
+            checked_ops(limits, entries, world, entry, 1, GATE_OCTETS)
         }
         Ask::Trial(id, ops, duration) => {
             let kind = Kind::Trial(id, ops, stamp + duration);
@@ -123,7 +123,7 @@ fn judge_in(
                 world,
                 next_entry(entries, stamp, author, kind),
                 2,
-                15,
+                GATE_OCTETS + CLOSING_OCTETS,
             )
         }
         Ask::Confirm(id) => checked_trial(
@@ -157,7 +157,11 @@ fn checked_ops(
     further: u64,
     beside: u64,
 ) -> Result<Entry, Refusal>
-    ensures { result ≡ first_refusal (refusal_cases_of_ops (plain_rules limits.now) entries.now (world_in world.now) [] further (record_octets entry + beside)) entry }
+    ensures { let rules = plain_rules limits.now in
+        let octets = record_octets entry + beside in
+        let world = world_in world.now in
+        let cases = refusal_cases_of_ops rules entries.now world [] further octets in
+        result ≡ first_refusal cases entry }
 {
     if is_open(world) {
         return Err(Refusal::TrialOpen);
@@ -187,7 +191,9 @@ fn checked_extend(
     id: &Text,
     entry: Entry,
 ) -> Result<Entry, Refusal>
-    ensures { result ≡ first_refusal (refusal_cases_of_trial (world_in world.now) id.now ((not (limited limits.now entries.now 2 (record_octets entry + 15)), Refusal.LogFull) ∷ [])) entry }
+    ensures { let octets = record_octets entry + (gate_octets + closing_octets) in
+        result ≡ first_refusal (refusal_cases_of_trial (world_in world.now) id.now
+        ((not (limited limits.now entries.now 2 octets), Refusal.LogFull) ∷ [])) entry }
 {
     if !is_open(world) {
         return Err(Refusal::NoTrial);
@@ -195,7 +201,7 @@ fn checked_extend(
     if is_other(world, id) {
         return Err(Refusal::WrongId);
     }
-    if !has_room(limits, entries, 2, &entry, 15) {
+    if !has_room(limits, entries, 2, &entry, GATE_OCTETS + CLOSING_OCTETS) {
         return Err(Refusal::LogFull);
     }
     Ok(entry)
@@ -253,7 +259,8 @@ fn new_stamp(entries: &[Entry], now: u64) -> u64
     now.min(LATEST_READING).max(stamp_of(entries) + 1)
 }
 
-fn stamp_of(entries: &[Entry]) -> u64
+/// The stamp of the last entry, or 0.
+pub fn stamp_of(entries: &[Entry]) -> u64
     ensures { result ≡ stamp_of entries.now }
 {
     last_stamp(0, entries)

@@ -1,6 +1,6 @@
 // What the operations of a Set do to a tree.
 ghost use Rattle.std.specs.Prelude.{◌≡◌, ◌++◌, IfOk, OnOk};
-ghost use Rattle.base_kinds.specs.Tree.{set_row, set_rows, uncovered, op_effect, is_act, with_act, in_turn, effect};
+ghost use Rattle.base_kinds.specs.Tree.{set_row, set_rows, uncovered, op_effect, with_act, in_turn, effect};
 
 use crate::matching::covers;
 use base_kinds::{Act, Copied, NoMemory, Op, Ops, Path, Row, Rows, Seq};
@@ -32,21 +32,10 @@ fn in_turn(alloc: Global, act: Act, ops: &[Op], tree: Rows) -> Result<Rows, NoMe
     let Some((op, others)) = ops.split_first() else {
         return Ok(tree);
     };
-    if is_act(act, op.act) {
+    if op.act.is_act(act) {
         return in_turn(alloc, act, others, op_effect(alloc, op, &tree)?);
     }
     in_turn(alloc, act, others, tree)
-}
-
-fn is_act(a: Act, b: Act) -> bool
-    ensures { result ≡ is_act a b }
-{
-    match (a, b) {
-        (Act::Delete, Act::Delete) => true,
-        (Act::Replace, Act::Replace) => true,
-        (Act::Update, Act::Update) => true,
-        _ => false,
-    }
 }
 
 fn op_effect(alloc: Global, op: &Op, tree: &Rows) -> Result<Rows, NoMemory>

@@ -2,12 +2,12 @@
 ghost use Rattle.std.specs.Prelude.{◌≡◌, IfOk};
 ghost use Rattle.base_kinds.specs.Valid.{valid};
 
-use crate::rules::keyed::keys_hold;
-use crate::rules::known::nodes_exist;
+use crate::rules::data_nodes::nodes_exist;
+use crate::rules::leafref::leafrefs_resolve;
+use crate::rules::list_keys::keys_hold;
 use crate::rules::mandatory::mandatory_present;
-use crate::rules::referring::leafrefs_resolve;
-use crate::rules::shaped::types_hold;
-use crate::rules::within::max_elements_hold;
+use crate::rules::max_elements::max_elements_hold;
+use crate::rules::types::types_hold;
 use crate::schema::Node;
 use base_kinds::{NoMemory, Row};
 use std::alloc::Global;

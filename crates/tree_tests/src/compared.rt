@@ -1,7 +1,7 @@
 use crate::generator::Generator;
 use base_kinds::{Ops, Path, Paths, Rows, Same, Text, TreeLike};
-use reference_model::{effect, part_of};
 use plain_tree::PlainTree;
+use reference_model::{effect, part_of};
 use std::alloc::Global;
 use std::process::Abort;
 use std::test::Fail;
@@ -77,7 +77,7 @@ fn compare<T: TreeLike>(
 }
 
 #[test]
-fn a_plain_tree_is_as_the_plain_model(rt: HostRuntime) -> Result<(), Fail> {
+fn a_plain_tree_is_as_the_reference_model(rt: HostRuntime) -> Result<(), Fail> {
     let alloc = rt.alloc();
     let most = compare(&rt, alloc, &mut PlainTree::empty(alloc), 300)?;
     assert!(rt; most > 20, "{most} rows at most");

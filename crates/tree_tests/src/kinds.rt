@@ -198,7 +198,11 @@ const REFUSALS: [(Refusal, u8, u8, &str); 21] = [
 #[test]
 fn each_refusal_has_its_number_its_code_and_its_text(rt: HostRuntime) {
     for (refusal, number, code, text) in REFUSALS.iter().copied() {
-        assert_eq!(rt; (refusal.number(), refusal.code()), (number, code), "{refusal:?}");
+        assert_eq!(rt;
+            (refusal.number(), refusal.code()),
+            (number, code),
+            "{refusal:?}"
+        );
         assert_eq!(rt; refusal.text(), text.as_bytes(), "{refusal:?}");
         assert_eq!(rt; refusal.is_memory(), number == 22, "{refusal:?}");
     }

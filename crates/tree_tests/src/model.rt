@@ -1,14 +1,18 @@
 use base_kinds::{
-    Act, Ask, Elem, Entries, Limits, Op, Path, Row, Rows, Seq, Shape, Sort, Text, Value,
+    Act, Ask, Elem, Entries, LONGEST_DURATION, Limits, Op, Path, Row, Rows, Seq, Shape, Sort, Text,
+    Value,
 };
 use reference_model::{
-    Node, covers, effect, has_shape, is_valid, key_text, matches, part_of, size_of, step_of,
-    world_of,
+    Node, covers, duration_of, effect, has_shape, is_valid, key_text, matches, part_of, size_of,
+    stamp_of, step_of, world_of,
 };
 use std::alloc::Global;
 use std::process::Abort;
 
 const MINUTE: u64 = 60_000_000_000;
+
+/// The stamps of these tests are below 2^62.
+const LATEST_STAMP: u64 = 1 << 62;
 
 const LIMITS: Limits = Limits {
     entries: 65_536,
@@ -78,6 +82,7 @@ fn answer(
     now: u64,
     ask: Ask,
 ) -> u64 {
+    assert!(rt; stamp_of(entries.items()) < LATEST_STAMP && duration_of(&ask) <= LONGEST_DURATION);
     match step_of(alloc, limits, entries, now, 1, ask) {
         Ok(entry) => {
             let stamp = entry.stamp;
@@ -211,10 +216,13 @@ fn a_wildcard_delete_of_nothing_is_an_entry(rt: HostRuntime) {
     );
 }
 
+/// Readings, and what a confirm of a trial of a minute from 1000 on becomes at each.
+const CONFIRMED: &[(u64, u64)] = &[(60_000_000_999, 60_000_000_999), (60_000_001_000, 11)];
+
 #[test]
 fn a_trial_is_confirmed_in_its_last_nanosecond(rt: HostRuntime) {
     let alloc = rt.alloc();
-    for (now, wanted) in [(60_000_000_999, 60_000_000_999), (60_000_001_000, 11)] {
+    for (now, wanted) in CONFIRMED.iter().copied() {
         let mut entries = Seq::empty(alloc);
         let trial = hostname_trial(&rt, alloc, "r1");
         assert_eq!(rt;
@@ -240,22 +248,22 @@ fn ask_of(alloc: Global, word: &str, id: Text) -> Ask {
     }
 }
 
+/// Asks one after another, with their ids, and what becomes of each.
+const ASKED: &[(&str, &str, u64)] = &[
+    ("trial", "t", 1),
+    ("trial", "t", 10),
+    ("apply", "", 10),
+    ("confirm", "u", 12),
+    ("cancel", "u", 12),
+    ("cancel", "t", 2),
+    ("cancel", "t", 11),
+];
+
 #[test]
 fn one_trial_at_a_time(rt: HostRuntime) {
     let alloc = rt.alloc();
     let mut entries = Seq::empty(alloc);
-    for (word, name, wanted) in [
-        ("trial", "t", 1),
-        ("trial", "t", 10),
-        ("apply", "", 10),
-        ("confirm", "u", 12),
-        ("cancel", "u", 12),
-        ("cancel", "t", 2),
-        ("cancel", "t", 11),
-    ]
-    .iter()
-    .copied()
-    {
+    for (word, name, wanted) in ASKED.iter().copied() {
         let ask = ask_of(alloc, word, id(&rt, alloc, name));
         assert_eq!(rt; answer(&rt, alloc, &LIMITS, &mut entries, 1, ask), wanted);
     }
@@ -276,25 +284,30 @@ fn cancel_brings_back_what_was_overwritten_and_what_was_deleted(rt: HostRuntime)
     second
         .push(op(&rt, alloc, Act::Delete, "b", &[]))
         .expect(&rt, "memory");
-    for (ask, wanted) in [
-        (Ask::Apply(first), 1000),
-        (Ask::Trial(id(&rt, alloc, "t"), second, MINUTE), 1001),
-        (Ask::Cancel(id(&rt, alloc, "t")), 1002),
-    ] {
-        assert_eq!(rt;
-            answer(&rt, alloc, &LIMITS, &mut entries, 1000, ask),
-            wanted
-        );
-    }
+    let set = Ask::Apply(first);
+    assert_eq!(rt; answer(&rt, alloc, &LIMITS, &mut entries, 1000, set), 1000);
+    let trial = Ask::Trial(id(&rt, alloc, "t"), second, MINUTE);
+    assert_eq!(rt;
+        answer(&rt, alloc, &LIMITS, &mut entries, 1000, trial),
+        1001
+    );
+    let cancel = Ask::Cancel(id(&rt, alloc, "t"));
+    assert_eq!(rt;
+        answer(&rt, alloc, &LIMITS, &mut entries, 1000, cancel),
+        1002
+    );
     let world = world_of(alloc, entries.items()).expect(&rt, "memory");
     assert_eq!(rt; world.tree, rows_of(&rt, alloc, &[("a", "1"), ("b", "2")]));
-    assert_eq!(rt; world.trial, None);
+    assert!(rt; world.trial.is_none());
 }
+
+/// Readings, and what a confirm of a trial that was extended becomes at each.
+const EXTENDED: &[(u64, u64)] = &[(2_000_005_000, 2_000_005_000), (2_000_005_001, 11)];
 
 #[test]
 fn a_clock_that_goes_back_and_a_longer_trial(rt: HostRuntime) {
     let alloc = rt.alloc();
-    for (last, wanted) in [(2_000_005_000, 2_000_005_000), (2_000_005_001, 11)] {
+    for (last, wanted) in EXTENDED.iter().copied() {
         let mut entries = Seq::empty(alloc);
         let trial = Ask::Trial(id(&rt, alloc, "t"), Seq::empty(alloc), 1_000_000_000);
         assert_eq!(rt;
@@ -311,24 +324,28 @@ fn a_clock_that_goes_back_and_a_longer_trial(rt: HostRuntime) {
     }
 }
 
+const NARROW: Limits = Limits {
+    entries: 2,
+    octets: 4096,
+};
+
+/// What becomes of each of three Sets where the log has room for two entries.
+const THREE_SETS: &[u64] = &[1, 2, 18];
+
 #[test]
 fn a_log_of_two_entries(rt: HostRuntime) {
     let alloc = rt.alloc();
-    let limits = Limits {
-        entries: 2,
-        octets: 4096,
-    };
     let mut sets = Seq::empty(alloc);
-    for wanted in [1, 2, 18] {
+    for wanted in THREE_SETS.iter().copied() {
         let set = Ask::Apply(Seq::empty(alloc));
-        assert_eq!(rt; answer(&rt, alloc, &limits, &mut sets, 1, set), wanted);
+        assert_eq!(rt; answer(&rt, alloc, &NARROW, &mut sets, 1, set), wanted);
     }
     let mut trial_second = Seq::empty(alloc);
     let set = Ask::Apply(Seq::empty(alloc));
-    assert_eq!(rt; answer(&rt, alloc, &limits, &mut trial_second, 1, set), 1);
+    assert_eq!(rt; answer(&rt, alloc, &NARROW, &mut trial_second, 1, set), 1);
     let trial = hostname_trial(&rt, alloc, "r1");
     assert_eq!(rt;
-        answer(&rt, alloc, &limits, &mut trial_second, 1, trial),
+        answer(&rt, alloc, &NARROW, &mut trial_second, 1, trial),
         18
     );
 }
@@ -373,18 +390,18 @@ fn a_reference_has_a_target(rt: HostRuntime) {
     assert_eq!(rt; is_valid(alloc, schema.items(), other.items()), Ok(false));
 }
 
+/// Digits, how many of them stand behind the point, and the text of the decimal.
+const DECIMALS: &[(i64, u8, &str)] = &[
+    (15, 1, "1.5"),
+    (-5, 2, "-0.05"),
+    (200, 2, "2.0"),
+    (-9_223_372_036_854_775_808, 18, "-9.223372036854775808"),
+];
+
 #[test]
 fn texts_of_keys(rt: HostRuntime) {
     let alloc = rt.alloc();
-    for (digits, places, text) in [
-        (15, 1, "1.5"),
-        (-5, 2, "-0.05"),
-        (200, 2, "2.0"),
-        (-9_223_372_036_854_775_808, 18, "-9.223372036854775808"),
-    ]
-    .iter()
-    .copied()
-    {
+    for (digits, places, text) in DECIMALS.iter().copied() {
         let value = Value::Dec(digits, places);
         assert!(rt; has_shape(&Shape::Dec(places), &value));
         assert_eq!(rt;

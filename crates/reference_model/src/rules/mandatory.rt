@@ -1,4 +1,5 @@
-// A mandatory leaf stands wherever some row is below the instance of its parent (RFC 7950 7.6.5).
+// Rule 4, mandatory: a mandatory leaf is present wherever some row is below the instance of its parent
+// (RFC 7950 7.6.5).
 ghost use Rattle.std.specs.Prelude.{◌≡◌, ◌≤◌, length, take, drop};
 ghost use Rattle.std.specs.List.{list_all};
 ghost use Rattle.base_kinds.specs.Valid.{stands_below, node_is_present, mandatory_present};
@@ -22,7 +23,8 @@ fn node_is_present(rows: &[Row], node: &Node) -> bool
 
 /// Whether the leaf with these names stands below each instance of its parent.
 fn stands_below_each(rows: &[Row], names: &[Text]) -> bool
-    ensures { result ≡ list_all (λ row. list_all (stands_below rows.now names.now) (ancestors row.path)) rows.now }
+    ensures { result ≡ list_all
+        (λ row. list_all (stands_below rows.now names.now) (ancestors row.path)) rows.now }
 {
     rows.iter()
         .all(|row| stands_on(rows, names, row.path.items(), 0))
@@ -32,7 +34,8 @@ fn stands_below_each(rows: &[Row], names: &[Text]) -> bool
 #[tactic(auto, using(crate::proofs::Children::parents_at, crate::proofs::Children::drop_end))]
 fn stands_on(rows: &[Row], names: &[Text], path: &[Elem], n: usize) -> bool
     requires { n ≤ length path.now }
-    ensures { result ≡ list_all (stands_below rows.now names.now) (ancestors_from (take n path.now) (drop n path.now)) }
+    ensures { let instances = ancestors_from (take n path.now) (drop n path.now) in
+        result ≡ list_all (stands_below rows.now names.now) instances }
 {
     n == path.len()
         || (stands_below(rows, names, &path[..n]) && stands_on(rows, names, path, n + 1))

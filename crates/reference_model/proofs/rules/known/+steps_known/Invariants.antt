@@ -1,5 +1,0 @@
-use Rattle.std.proofs.Common.{length, ◌-◌}
-use Rattle.reference_model.proofs.rules.known.+steps_known.Given as goal
-
-abbrev pub decreases-steps_known : goal.decreases-steps_known
-decreases-steps_known l = length l.path.now - l.n
