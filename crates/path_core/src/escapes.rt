@@ -59,7 +59,8 @@ fn hex_value(digit: u8) -> Option<u8>
 fn read_hex(text: &[u8]) -> Option<(u8, &[u8])>
     ensures some { IfSome result (λ read. text.now ≡ hex_pair read.0 ++ read.1.now) }
     ensures shorter { IfSome result (λ read. length read.1.now < length text.now) }
-    ensures none { IfNone result ((octet : ℕ) (rest : List ℕ) → octet < 256 → text.now ≡ hex_pair octet ++ rest → ⊥) }
+    ensures none { IfNone result ((octet : ℕ) (rest : List ℕ) →
+        octet < 256 → text.now ≡ hex_pair octet ++ rest → ⊥) }
 {
     let (high, others) = text.split_first()?;
     let (low, rest) = others.split_first()?;

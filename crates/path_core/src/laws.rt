@@ -5,17 +5,20 @@ ghost use Rattle.path_core.specs.PathText.{AreElems, IsPathText, IsValueText};
 
 /// Octets are the text of one path at most.
 pub fn one_path()
-    ensures { (text : List ℕ) (path other : List PathElem) → IsPathText text path → IsPathText text other → path ≡ other }
+    ensures { (text : List ℕ) (path other : List PathElem) → IsPathText text path →
+        IsPathText text other → path ≡ other }
 {}
 
 /// Octets spell one value of a key at most.
 pub fn one_value()
-    ensures { (text value other : List ℕ) → IsValueText text value → IsValueText text other → value ≡ other }
+    ensures { (text value other : List ℕ) → IsValueText text value → IsValueText text other →
+        value ≡ other }
 {}
 
 /// A path has one text at most.
 pub fn one_text()
-    ensures { (text other : List ℕ) (path : List PathElem) → IsPathText text path → IsPathText other path → text ≡ other }
+    ensures { (text other : List ℕ) (path : List PathElem) → IsPathText text path →
+        IsPathText other path → text ≡ other }
 {}
 
 /// What is written for a path whose elements have names and rising keys is its text, which is read as that path.

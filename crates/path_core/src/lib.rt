@@ -12,8 +12,6 @@ mod order;
 mod patterns;
 mod prefix;
 mod reading;
-#[cfg(test)]
-mod tests;
 mod writing;
 
 pub use fault::PathFault;

@@ -125,7 +125,8 @@ fn matches_key(elem: &Elem, key: &(Text, Text)) -> bool
 }
 
 fn has_key(keys: &[(Text, Text)], key: &(Text, Text)) -> bool
-    ensures { result ≡ list_any (λ other. bytes_eq key.now.0 other.0 && bytes_eq key.now.1 other.1) keys.now }
+    ensures { result ≡
+        list_any (λ other. bytes_eq key.now.0 other.0 && bytes_eq key.now.1 other.1) keys.now }
 {
     keys.iter().any(|other| is_text(&key.0, other.0.octets()) && is_text(&key.1, other.1.octets()))
 }

@@ -20,7 +20,8 @@ fn push_copies(alloc: Global, elems: &[Elem], path: &mut Path) -> Result<(), NoM
 /// The prefix's elements and then the path's, at most 32 together.
 pub fn join_prefix(alloc: Global, prefix: &Path, path: &Path) -> Result<Path, PathFault>
     ensures ok { IfOk result (λ joined. joined ≡ prefix.now ++ path.now) }
-    ensures bad { IsErrOf result PathFault.BadPath ↔ (MOST_PATH_ELEMENTS < length prefix.now + length path.now) }
+    ensures bad { IsErrOf result PathFault.BadPath ↔
+        (MOST_PATH_ELEMENTS < length prefix.now + length path.now) }
 {
     if prefix.len() > MOST_PATH_ELEMENTS || path.len() > MOST_PATH_ELEMENTS - prefix.len() {
         return Err(PathFault::BadPath);

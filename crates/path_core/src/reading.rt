@@ -39,7 +39,8 @@ fn read_octets(alloc: Global, part: Part, text: &[u8]) -> Result<(Vec<u8>, &[u8]
 fn read_text(alloc: Global, part: Part, text: &[u8]) -> Result<(Text, &[u8]), PathFault>
     ensures ok { IfOk result (λ read. IsTextAt part text.now read.0 read.1.now) }
     ensures shorter { IfOk result (λ read. length read.1.now ≤ length text.now) }
-    ensures bad { IsErrOf result PathFault.BadPath → (octets rest : List ℕ) → IsTextAt part text.now octets rest → ⊥ }
+    ensures bad { IsErrOf result PathFault.BadPath →
+        (octets rest : List ℕ) → IsTextAt part text.now octets rest → ⊥ }
 {
     let (octets, rest) = read_octets(alloc, part, text)?;
     match Text::of(alloc, &octets) {
@@ -52,7 +53,8 @@ fn read_text(alloc: Global, part: Part, text: &[u8]) -> Result<(Text, &[u8]), Pa
 /// The text that the octets spell, in the form in which a path's text has the values of its keys.
 pub fn read_value_text(alloc: Global, text: &[u8]) -> Result<Text, PathFault>
     ensures ok { IfOk result (λ value. IsValueText text.now value) }
-    ensures bad { IsErrOf result PathFault.BadPath → (value : List ℕ) → IsValueText text.now value → ⊥ }
+    ensures bad { IsErrOf result PathFault.BadPath →
+        (value : List ℕ) → IsValueText text.now value → ⊥ }
 {
     let (value, rest) = read_text(alloc, Part::Value, text)?;
     if !rest.is_empty() {
@@ -65,7 +67,8 @@ pub fn read_value_text(alloc: Global, text: &[u8]) -> Result<Text, PathFault>
 fn read_key(alloc: Global, begun: &[u8]) -> Result<((Text, Text), &[u8]), PathFault>
     ensures ok { IfOk result (λ read. IsKeyAt (91 ∷ begun.now) read.0 read.1.now) }
     ensures shorter { IfOk result (λ read. length read.1.now ≤ length begun.now) }
-    ensures bad { IsErrOf result PathFault.BadPath → (key : List ℕ × List ℕ) (rest : List ℕ) → IsKeyAt (91 ∷ begun.now) key rest → ⊥ }
+    ensures bad { IsErrOf result PathFault.BadPath →
+        (key : List ℕ × List ℕ) (rest : List ℕ) → IsKeyAt (91 ∷ begun.now) key rest → ⊥ }
 {
     let (name, named) = read_text(alloc, Part::Name, begun)?;
     let Some(given) = after(named, b'=') else {
@@ -92,7 +95,8 @@ fn may_follow(keys: &[(Text, Text)], key: &(Text, Text)) -> bool
 fn read_keys(alloc: Global, text: &[u8]) -> Result<(Keys, &[u8]), PathFault>
     ensures ok { IfOk result (λ read. AreKeysAt text.now read.0 read.1.now) }
     ensures shorter { IfOk result (λ read. length read.1.now ≤ length text.now) }
-    ensures bad { IsErrOf result PathFault.BadPath → (keys : List (List ℕ × List ℕ)) (rest : List ℕ) → AreKeysAt text.now keys rest → ⊥ }
+    ensures bad { IsErrOf result PathFault.BadPath →
+        (keys : List (List ℕ × List ℕ)) (rest : List ℕ) → AreKeysAt text.now keys rest → ⊥ }
 {
     let mut keys = Seq::empty(alloc);
     let mut rest = text;
@@ -121,7 +125,8 @@ fn ends_elem(rest: &[u8]) -> bool
 fn read_elem(alloc: Global, text: &[u8]) -> Result<(Elem, &[u8]), PathFault>
     ensures ok { IfOk result (λ read. IsElemAt text.now read.0 read.1.now) }
     ensures shorter { IfOk result (λ read. length read.1.now < length text.now) }
-    ensures bad { IsErrOf result PathFault.BadPath → (elem : PathElem) (rest : List ℕ) → IsElemAt text.now elem rest → ⊥ }
+    ensures bad { IsErrOf result PathFault.BadPath →
+        (elem : PathElem) (rest : List ℕ) → IsElemAt text.now elem rest → ⊥ }
 {
     let Some(begun) = after(text, b'/') else {
         return Err(PathFault::BadPath);
@@ -148,7 +153,8 @@ pub fn read_path_text(alloc: Global, text: &[u8]) -> Result<Path, PathFault>
     ensures ok { IfOk result (λ path. IsPathText text.now path) }
     // It is no other path's.
     ensures only { IfOk result (λ path. (other : List PathElem) → IsPathText text.now other → other ≡ path) }
-    ensures bad { IsErrOf result PathFault.BadPath → (path : List PathElem) → IsPathText text.now path → ⊥ }
+    ensures bad { IsErrOf result PathFault.BadPath →
+        (path : List PathElem) → IsPathText text.now path → ⊥ }
 {
     let mut path = Seq::empty(alloc);
     if is_root(text) {

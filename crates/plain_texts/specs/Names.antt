@@ -15,7 +15,8 @@ is_in_name octet = begins_name octet || is_ascii_digit octet || octet == 46 || o
 -- NAME: a letter or `_`, and up to 63 letters, digits, `_`, `.` or `-`
 abbrev pub is_name : List ℕ → Bool
 is_name [] = false
-is_name (octet ∷ octets) = begins_name octet && list_all is_in_name octets && nat_le (length octets) 63
+is_name (octet ∷ octets) =
+    begins_name octet && list_all is_in_name octets && nat_le (length octets) 63
 
 -- the octets as they are, where they are a name
 abbrev pub name_of : List ℕ → Option (List ℕ)

@@ -9,8 +9,6 @@ mod limits;
 mod names;
 mod node;
 mod schema;
-#[cfg(test)]
-mod tests;
 mod wanted;
 
 pub use limits::{MOST_ELEMENTS, MOST_ENUM_TEXTS, MOST_KEYS, MOST_NAMES, MOST_NODES, MOST_PLACES};

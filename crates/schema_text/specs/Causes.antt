@@ -1,4 +1,4 @@
--- How a cause is printed.
+-- How a cause is printed. The texts are this project's own.
 use Rattle.std.specs.Prelude.{ℕ, List, codes}
 use Rattle.schema_text.specs.declared.cause.Cause.{Cause}
 use Rattle.schema_text.specs.declared.cause.Cause.TheVariants.{Syntax, NoModule, NoParent, Twice, TooLarge, NoKey, BadRef}

@@ -15,8 +15,6 @@ mod reading;
 mod references;
 mod schemas;
 mod shapes;
-#[cfg(test)]
-mod tests;
 mod texts;
 
 pub use cause::{Cause, SchemaError, SchemaFault};

@@ -49,7 +49,8 @@ IsInRange (lines.Cancel author id) = IsFitAuthor author × IsUtf8 id
 IsInRange (lines.Extend author id span) = IsFitAuthor author × IsUtf8 id × IsWhole span
 IsInRange (lines.Get author path) = IsFitAuthor author × AreElems path
 IsInRange (lines.Sub line) = IsFitSubscription line
-IsInRange (lines.Open author name mode only) = IsFitAuthor author × IsTrue (is_name name) × (mode ≢ modes.Other)
+IsInRange (lines.Open author name mode only) =
+    IsFitAuthor author × IsTrue (is_name name) × (mode ≢ modes.Other)
 IsInRange (lines.Turn name) = IsTrue (is_name name)
 IsInRange (lines.Poll name) = IsTrue (is_name name)
 IsInRange (lines.End name) = IsTrue (is_name name)

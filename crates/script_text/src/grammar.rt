@@ -39,7 +39,8 @@ fn read_change(alloc: Global, act: Act, octets: &[u8]) -> Result<Line, LineFault
 
 /// `A ID`, what follows `confirm` and `cancel`.
 fn read_named(alloc: Global, octets: &[u8]) -> Result<(u32, Text), LineFault>
-    ensures ok { IfOk result (λ read. (make : ℕ → List ℕ → ScriptLine) → IsNamed make octets.now (make read.0 read.1)) }
+    ensures ok { IfOk result (λ read.
+        (make : ℕ → List ℕ → ScriptLine) → IsNamed make octets.now (make read.0 read.1)) }
     ensures no_line { IsErrOf result LineFault.NoLine →
         (make : ℕ → List ℕ → ScriptLine) (line : ScriptLine) → IsNamed make octets.now line → ⊥ }
 {
@@ -50,9 +51,11 @@ fn read_named(alloc: Global, octets: &[u8]) -> Result<(u32, Text), LineFault>
 
 /// `A ID SECONDS`, what follows `trial` and `extend`.
 fn read_timed(alloc: Global, octets: &[u8]) -> Result<(u32, Text, Span), LineFault>
-    ensures ok { IfOk result (λ read. (make : ℕ → List ℕ → Duration → ScriptLine) → IsTimed make octets.now (make read.0 read.1 read.2)) }
+    ensures ok { IfOk result (λ read. (make : ℕ → List ℕ → Duration → ScriptLine) →
+        IsTimed make octets.now (make read.0 read.1 read.2)) }
     ensures no_line { IsErrOf result LineFault.NoLine →
-        (make : ℕ → List ℕ → Duration → ScriptLine) (line : ScriptLine) → IsTimed make octets.now line → ⊥ }
+        (make : ℕ → List ℕ → Duration → ScriptLine) (line : ScriptLine) →
+        IsTimed make octets.now line → ⊥ }
 {
     let (author, rest) = first::<Author>(alloc, octets)?;
     let (id, seconds) = first::<Id>(alloc, rest)?;

@@ -1,9 +1,9 @@
 // Paths: texts, patterns, order, prefixes.
+use base_kinds::{Bytes, Elem, Keys, Path, Text};
 use path_core::{
     PathFault, cmp_paths, covers, join_prefix, matches, read_path_text, read_value_text,
     write_path_text, write_value_text,
 };
-use base_kinds::{Bytes, Elem, Keys, Path, Text};
 use std::alloc::Global;
 use std::process::Abort;
 use std::test::Fail;

@@ -1,6 +1,6 @@
 // Schemas: nodes by their names.
-use schema_core::{MOST_NODES, Node, NodeId, Schema};
 use base_kinds::{Copied, Elem, Keys, Path, Same, Shape, Text, Texts};
+use schema_core::{MOST_NODES, Node, NodeId, Schema};
 use std::alloc::Global;
 use std::process::Abort;
 use std::test::Fail;

@@ -21,7 +21,8 @@ hex_pair octet = hex_digit (octet / 16) ∷ hex_digit (octet % 16) ∷ []
 
 -- no octet's spelling stands at the front
 abbrev pub NoOctet : Part → List ℕ → Type 0
-NoOctet part text = (octet : ℕ) (rest : List ℕ) → octet < 256 → text ≡ octet_text (test_of part) octet ++ rest → ⊥
+NoOctet part text =
+    (octet : ℕ) (rest : List ℕ) → octet < 256 → text ≡ octet_text (test_of part) octet ++ rest → ⊥
 
 abbrev pub Lacks : ℕ → List ℕ → Type 0
 Lacks octet text = (rest : List ℕ) → text ≡ octet ∷ rest → ⊥

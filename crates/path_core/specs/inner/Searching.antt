@@ -16,7 +16,8 @@ test_by Front = covers
 -- the pattern passes on the path, and on some rest of the path, exactly where the others pass on some rest of what is left
 pub record IsSkip (extent : Extent) (pattern path others left : List Elem) : Type 0 where
   pub here : test_by extent pattern path ≡ list_any (test_by extent others) (suffixes left)
-  pub below : list_any (test_by extent pattern) (suffixes path) ≡ list_any (test_by extent others) (suffixes left)
+  pub below : list_any (test_by extent pattern) (suffixes path) ≡
+      list_any (test_by extent others) (suffixes left)
   pub shorter : length others + length left < length pattern + length path
 
 -- `Never` says that none of the path's rests passes either

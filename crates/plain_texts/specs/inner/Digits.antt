@@ -3,4 +3,6 @@ use Rattle.std.specs.Prelude.{ℕ, List, Bool, not, ◌&&◌, ◌||◌, ◌==◌
 
 -- some octet, no sign, and no zero in front of other digits
 abbrev pub begins_plainly : List ℕ → Bool
-begins_plainly octets = not (length octets == 0) && not (slice_index octets 0 == 43) && (not (slice_index octets 0 == 48) || length octets == 1)
+begins_plainly octets =
+    not (length octets == 0) && not (slice_index octets 0 == 43)
+    && (not (slice_index octets 0 == 48) || length octets == 1)

@@ -16,4 +16,6 @@ pub record EndsLater (front more longer : List ℕ) (others : List (List ℕ)) :
   pub longest : length front ≤ length longer
 
 abbrev pub FirstLineStays : List ℕ → List ℕ → Type 0
-FirstLineStays front more = ((first : List ℕ) × ((rest : List ℕ) × EndsInFront front more first rest)) ⊎ ((longer : List ℕ) × ((others : List (List ℕ)) × EndsLater front more longer others))
+FirstLineStays front more =
+    ((first : List ℕ) × ((rest : List ℕ) × EndsInFront front more first rest))
+    ⊎ ((longer : List ℕ) × ((others : List (List ℕ)) × EndsLater front more longer others))
