@@ -27,15 +27,20 @@ row_line row = codes "    " ++ row_text row
 
 -- an operation in a line of its own: two spaces, what it does, a space, its path; then its rows
 abbrev pub op_lines : Op → List ℕ
-op_lines op = codes "  " ++ (act_text op.act ++ (32 ∷ (path_text op.path ++ (10 ∷ flat_map row_line op.rows))))
+op_lines op =
+    codes "  "
+    ++ (act_text op.act ++ (32 ∷ (path_text op.path ++ (10 ∷ flat_map row_line op.rows))))
 
 -- the deletes, then the replaces, then the updates, each in list order
 abbrev pub ops_lines : List Op → List ℕ
-ops_lines ops = flat_map op_lines (with_act Delete ops) ++ (flat_map op_lines (with_act Replace ops) ++ flat_map op_lines (with_act Update ops))
+ops_lines ops =
+    flat_map op_lines (with_act Delete ops)
+    ++ (flat_map op_lines (with_act Replace ops) ++ flat_map op_lines (with_act Update ops))
 
 abbrev pub kind_text : Kind → List ℕ
 kind_text (kinds.Apply ops) = codes "apply"
-kind_text (kinds.Trial id ops deadline) = codes "trial " ++ (escaped is_key_octet id ++ (32 ∷ decimal deadline))
+kind_text (kinds.Trial id ops deadline) =
+    codes "trial " ++ (escaped is_key_octet id ++ (32 ∷ decimal deadline))
 kind_text kinds.Confirm = codes "confirm"
 kind_text kinds.Cancel = codes "cancel"
 kind_text kinds.Expire = codes "expire"
@@ -49,11 +54,13 @@ ops_of _ = []
 
 -- number, stamp and author, each with a space behind it
 abbrev pub entry_front : Entry → List ℕ
-entry_front entry = decimal entry.number ++ (32 ∷ (decimal entry.stamp ++ (32 ∷ (decimal entry.author ++ 32 ∷ []))))
+entry_front entry =
+    decimal entry.number ++ (32 ∷ (decimal entry.stamp ++ (32 ∷ (decimal entry.author ++ 32 ∷ []))))
 
 -- number, stamp, author and kind in a line, and then the operations
 abbrev pub entry_lines : Entry → List ℕ
-entry_lines entry = entry_front entry ++ (kind_text entry.kind ++ (10 ∷ ops_lines (ops_of entry.kind)))
+entry_lines entry =
+    entry_front entry ++ (kind_text entry.kind ++ (10 ∷ ops_lines (ops_of entry.kind)))
 
 -- the entries, oldest first
 abbrev pub log_text : List Entry → List ℕ
