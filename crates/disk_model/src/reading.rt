@@ -1,4 +1,5 @@
-ghost use Rattle.std.specs.Prelude.{◌≡◌, ◌≤◌, ◌<◌, ◌+◌, ◌-◌, ◌^◌, ◌++◌, ℕ, List, [], Option, length, take, drop, min, IfOk, OnOk, OnErr, IsErrOf};
+ghost use Rattle.std.specs.Prelude.{◌≡◌, ◌≤◌, ◌<◌, ◌+◌, ◌-◌, ◌^◌, ◌++◌, ℕ, List, [], Option};
+ghost use Rattle.std.specs.Prelude.{length, take, drop, min, IfOk, OnOk, OnErr, IsErrOf};
 ghost use Rattle.edge_traits.specs.Faults.{HasCause, Rose};
 ghost use Rattle.disk_model.specs.Calls.{CallEnds, WhereArmed};
 ghost use Rattle.disk_model.specs.Content.{Content, Tells, ReadsAt};
@@ -12,11 +13,13 @@ use std::alloc::Global;
 /// How many octets one read asks for.
 const PIECE_OCTETS: usize = 65536;
 
-/// Reads a disk whole: its length, and then its octets from the start in pieces, until that length is read
-/// or a read gives none.
+/// Reads a disk whole: its length, and then its octets from the start in pieces of 65,536, until that length is
+/// read or a read gives none. `Failed` where a call of the disk failed, behind which none is made; `NoMemory` where
+/// there is no room for the octets and one piece.
 pub fn read_whole<D: Disk>(alloc: Global, disk: &mut D) -> Result<Bytes, ReadFault>
     ensures octets { IfOk result (λ octets. Tells (D.told disk.old) (λ c. octets ≡ c.seen)) }
-    ensures failed { IsErrOf result ReadFault.Failed → Rose (D.faults disk.old) (D.faults disk.new) }
+    ensures failed { IsErrOf result ReadFault.Failed
+        → Rose (D.faults disk.old) (D.faults disk.new) }
     ensures keeps { D.told disk.new ≡ D.told disk.old }
     ensures calls { WhereArmed (D.fuse disk.old) (D.told disk.old) (λ c.
         ReadingEnds (1 + reads_of (length c.seen)) (D.fuse disk.old) (D.fuse disk.new) result) }
@@ -26,7 +29,8 @@ pub fn read_whole<D: Disk>(alloc: Global, disk: &mut D) -> Result<Bytes, ReadFau
     read_part(alloc, disk, 0, size)
 }
 
-/// Reads so many octets of a disk from a place on, in pieces, or those up to its end.
+/// Reads so many octets of a disk from a place on, in pieces of 65,536, or those up to its end.
+/// It fails as `read_whole` does.
 pub fn read_part<D: Disk>(
     alloc: Global,
     disk: &mut D,
@@ -36,10 +40,12 @@ pub fn read_part<D: Disk>(
     requires { place + size < 2 ^ 64 }
     ensures octets { IfOk result (λ octets.
         Tells (D.told disk.old) (λ c. octets ≡ take size (drop place c.seen))) }
-    ensures failed { IsErrOf result ReadFault.Failed → Rose (D.faults disk.old) (D.faults disk.new) }
+    ensures failed { IsErrOf result ReadFault.Failed
+        → Rose (D.faults disk.old) (D.faults disk.new) }
     ensures keeps { D.told disk.new ≡ D.told disk.old }
-    ensures calls { WhereArmed (D.fuse disk.old) (D.told disk.old) (λ c. place + size ≤ length c.seen →
-        ReadingEnds (reads_of size) (D.fuse disk.old) (D.fuse disk.new) result) }
+    ensures calls { WhereArmed (D.fuse disk.old) (D.told disk.old) (λ c.
+        place + size ≤ length c.seen
+        → ReadingEnds (reads_of size) (D.fuse disk.old) (D.fuse disk.new) result) }
     ensures quiet { ¬ (IsErrOf result ReadFault.Failed) → D.faults disk.new ≡ D.faults disk.old }
 {
     let mut octets = room_for(alloc, size as usize)?;
@@ -65,10 +71,12 @@ fn read_on<D: Disk>(
     requires { 0 < left }
     ensures more { IfOk result (λ n. (n ≤ min (length piece.new) left)
         × (octets.new.items ≡ octets.old.items ++ take n piece.new)) }
-    ensures read { IfOk result (λ n. Tells (D.told disk.old) (λ c. ReadsAt c.seen place n piece.new)) }
+    ensures read { IfOk result
+        (λ n. Tells (D.told disk.old) (λ c. ReadsAt c.seen place n piece.new)) }
     ensures fills { IfOk result (λ n. WhereArmed (D.fuse disk.old) (D.told disk.old) (λ c.
         n ≡ min (min (length piece.old) left) (length (drop place c.seen)))) }
-    ensures failed { IsErrOf result ReadFault.Failed → Rose (D.faults disk.old) (D.faults disk.new) }
+    ensures failed { IsErrOf result ReadFault.Failed
+        → Rose (D.faults disk.old) (D.faults disk.new) }
     ensures keeps { D.told disk.new ≡ D.told disk.old }
     ensures calls { ReadingEnds 1 (D.fuse disk.old) (D.fuse disk.new) result }
     ensures quiet { ¬ (IsErrOf result ReadFault.Failed) → D.faults disk.new ≡ D.faults disk.old }

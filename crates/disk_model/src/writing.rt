@@ -10,7 +10,8 @@ use edge_traits::Failed;
 
 /// Writes a piece and syncs. After an `Err` the write counts as made for what a stop may leave.
 pub fn put_synced<D: Disk>(disk: &mut D, place: u64, piece: &[u8]) -> Result<(), Failed>
-    ensures ok { OnOk result (WhereTold (D.told disk.old) (D.told disk.new) (PutSynced place piece.now)) }
+    ensures ok { OnOk result
+        (WhereTold (D.told disk.old) (D.told disk.new) (PutSynced place piece.now)) }
     ensures err { OnErr result (WhereTold (D.told disk.old) (D.told disk.new)
         (λ old new. Changes (mask_after_write place (length piece.now) old.mask) old new)) }
     ensures calls { CallsEnd 2 (D.fuse disk.old) (D.fuse disk.new) result }

@@ -4,7 +4,7 @@ use Rattle.disk_model.specs.Images.{IsImage, mask_after_write, with_range_filled
 use Rattle.disk_model.proofs.Images.{image_of_touched, image_of_written}
 use Rattle.base_kinds.specs.declared.fill.Fill.{Fill}
 use Rattle.base_kinds.specs.declared.fill.Fill.TheVariants.{Old, New, Octet}
-use Rattle.memory_disks.specs.Kept.{IsFree, AllFree}
+use Rattle.memory_disks.specs.inner.Kept.{IsFree, AllFree}
 use Rattle.memory_disks.specs.Octets.{octets_after_stop, with_ranges_filled, octets_after_write}
 use Rattle.memory_disks.proofs.Laid.{wrote_laid}
 

@@ -3,7 +3,7 @@ use Rattle.std.proofs.Common.{◌≡◌, ℕ, Bool, true, false, List, [], ◌�
 use Rattle.disk_model.specs.Images.{IsImage, mask_after_write, mask_after_sync}
 use Rattle.disk_model.proofs.Images.{image_of_touched, image_of_front, image_of_cut, image_of_written, image_self}
 use Rattle.base_kinds.specs.declared.fill.Fill.{Fill}
-use Rattle.memory_disks.specs.Kept.{IsFused, AllFree, HasBase, LeftAfter, base_of, seen_of, left_of}
+use Rattle.memory_disks.specs.inner.Kept.{IsFused, AllFree, HasBase, LeftAfter, base_of, seen_of, left_of}
 use Rattle.memory_disks.specs.Octets.{octets_after_write, octets_after_stop}
 use Rattle.memory_disks.proofs.Laid.{wrote_laid}
 use Rattle.memory_disks.proofs.Free.{all_more, all_take, all_written, image_left, image_left_written}

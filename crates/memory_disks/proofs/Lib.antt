@@ -1,4 +1,3 @@
-pub mod Examples
 pub mod Free
 pub mod Fused
 pub mod Laid

@@ -8,7 +8,7 @@ use Rattle.disk_model.specs.Arming.{Arming, AllPass, outcome_of, arming_after, a
 use Rattle.disk_model.specs.Calls.{Fuse, CallsPassed, CallFailed, CallEnds}
 use Rattle.disk_model.specs.declared.outcome.Outcome.{Outcome}
 use Rattle.disk_model.specs.declared.outcome.Outcome.TheVariants.{Passes, Fails, Stops}
-use Rattle.memory_disks.specs.Calls.{content_after_write, content_after_failed_write, content_after_cut, content_after_failed_cut, content_after_sync}
+use Rattle.memory_disks.specs.Contents.{content_after_write, content_after_failed_write, content_after_cut, content_after_failed_cut, content_after_sync}
 use Rattle.memory_disks.specs.Octets.{octets_after_write}
 use Rattle.memory_disks.specs.Fuses.{FuseView, fuse_of, with_call_counted, WriteGives, CutGives, after_sync}
 use Rattle.memory_disks.proofs.Laid.{wrote_laid}

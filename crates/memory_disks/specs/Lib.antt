@@ -1,7 +1,6 @@
-pub mod Calls
+pub mod Contents
 pub mod Fuses
-pub mod Kept
-pub mod Logs
+pub mod inner
 pub mod Octets
-pub mod Queues
 pub mod Views
+pub mod worked

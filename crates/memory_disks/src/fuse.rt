@@ -1,11 +1,14 @@
-ghost use Rattle.std.specs.Prelude.{◌≡◌, ◌↔◌, ◌≤◌, ◌∷◌, ℕ, [], length, take, drop, min, true, IsOk, Some, None, IfOk, OnOk, OnErr, refl};
+ghost use Rattle.std.specs.Prelude.{◌≡◌, ◌↔◌, ◌≤◌, ◌∷◌, ℕ, [], length, take, drop, min, true};
+ghost use Rattle.std.specs.Prelude.{IsOk, Some, None, IfOk, OnOk, OnErr, refl};
 ghost use Rattle.edge_traits.specs.Faults.{HasCause};
 ghost use Rattle.disk_model.specs.Arming.{outcome_of, restarted, with_failure, with_stop};
-ghost use Rattle.disk_model.specs.Calls.{CallEnds, FillsBuffer, armed_with, starved as starved_fuse};
-ghost use Rattle.disk_model.specs.Content.{Content, WhereTold, Tells, SeesImage, ReadsAt, Changes, Wrote};
+ghost use Rattle.disk_model.specs.Calls.{CallEnds, armed_with, starved};
+ghost use Rattle.disk_model.specs.Content.{Content, ReadsAt, Changes, Wrote};
 ghost use Rattle.disk_model.specs.Images.{IsImage, mask_after_sync, mask_after_write};
-ghost use Rattle.memory_disks.specs.Calls.{synced_content};
-ghost use Rattle.memory_disks.specs.Fuses.{FuseView, fuse_of, first_arming, with_call_counted, starved, after_look, after_sync, WriteGives, CutGives, image_left, made_of};
+ghost use Rattle.memory_disks.specs.Fuses.{FuseView, fuse_of, first_arming, with_call_counted};
+ghost use Rattle.memory_disks.specs.Fuses.{after_look, after_sync, after_want_of_memory};
+ghost use Rattle.memory_disks.specs.Fuses.{WriteGives, CutGives, image_left, new_disk_of};
+ghost use Rattle.memory_disks.specs.Views.{new_disk_of as disk_of};
 
 use crate::lines::Lines;
 use crate::log::Log;
@@ -18,8 +21,8 @@ use std::alloc::Global;
 use std::marker::Model;
 use std::snapshot::Snapshot;
 
-/// A disk in memory that stops and fails in the calls for which it is armed, and else fails for want of memory alone.
-/// After a stop each call fails.
+/// A disk in memory that stops and fails in the calls for which it is armed, and else fails for want of memory
+/// alone. After a stop each call fails.
 #[derive(Drop)]
 pub struct FuseDisk {
     pub(crate) alloc: Global,
@@ -41,14 +44,18 @@ pub struct FuseDisk {
 
 impl Model for FuseDisk {
     ghost use Rattle.std.specs.Prelude.{option_map};
-    ghost use Rattle.memory_disks.specs.Kept.{IsFused, seen_of, left_of};
-    ghost use Rattle.memory_disks.specs.Logs.{mask_of, past_of};
+    ghost use Rattle.memory_disks.specs.inner.Kept.{IsFused, seen_of, left_of};
+    ghost use Rattle.memory_disks.specs.inner.Logs.{mask_of, past_of};
     ghost use Rattle.memory_disks.specs.Fuses.{FuseView};
 
     ghost Value = { FuseView };
 
     ghost view = { λ d. record {
-      content = record { seen = seen_of (option_map (λ s. s.value.items) d.before) d.octets.items; mask = mask_of d.log; past = past_of d.log };
+      content = record {
+        seen = seen_of (option_map (λ s. s.value.items) d.before) d.octets.items;
+        mask = mask_of d.log;
+        past = past_of d.log;
+      };
       faults = d.faults;
       starved = d.starved;
       arming = d.arming;
@@ -57,14 +64,17 @@ impl Model for FuseDisk {
       left = left_of (option_map (λ s. s.value.items) d.before) d.octets.items;
     } };
 
-    ghost invariant = { λ d. IsFused d.arming.stopped (option_map (λ s. s.value.items) d.before) (option_map (λ s. s.items) d.safe) d.base.value.items d.octets.items d.written.items (mask_of d.log) };
+    ghost invariant = { λ d. IsFused d.arming.stopped (option_map (λ s. s.value.items) d.before)
+        (option_map (λ s. s.items) d.safe) d.base.value.items d.octets.items d.written.items
+        (mask_of d.log) };
 }
 
 impl FuseDisk {
     /// A disk that passes this many calls and stops in the next. What the inner disk holds counts as synced for
     /// what a stop fills in. Takes no memory.
     pub fn make(inner: MemDisk, passes: u64, fill: Fill) -> FuseDisk
-        ensures { result ≡ record (made_of inner.content.seen inner.starved (first_arming passes fill)) { content = inner.content } }
+        ensures { result ≡ record (new_disk_of inner.content.seen inner.starved (first_arming passes fill))
+            { content = inner.content } }
     {
         let (alloc, octets, log, starved) = inner.into_parts();
         FuseDisk {
@@ -83,7 +93,7 @@ impl FuseDisk {
 
     /// What the stop left, and before a stop the disk as it reads. Takes no memory.
     pub fn image(self) -> MemDisk
-        ensures octets { result ≡ record { content = synced_content (image_left self); faults = 0; starved = self.starved } }
+        ensures octets { result ≡ disk_of (image_left self) self.starved }
         ensures image { IsImage self.content.mask result.content.seen }
     {
         let FuseDisk {
@@ -97,7 +107,7 @@ impl FuseDisk {
 
     /// A new disk of that image, for which the stops and failures that still wait go on. Takes no memory.
     pub fn again(self) -> FuseDisk
-        ensures octets { result ≡ made_of (image_left self) self.starved (restarted self.arming) }
+        ensures octets { result ≡ new_disk_of (image_left self) self.starved (restarted self.arming) }
         ensures image { IsImage self.content.mask result.content.seen }
     {
         let FuseDisk {
@@ -133,9 +143,9 @@ impl Disk for FuseDisk {
     fn len(&mut self) -> Result<u64, Failed>
         ensures passes { IsOk result ↔ (outcome_of self.old.arming ≡ Outcome.Passes) }
         ensures looked { self.new ≡ after_look (outcome_of self.old.arming) (with_call_counted self.old) }
-        ensures length { IfOk result (λ n. Tells (Some self.old.content) (λ c. n ≡ length c.seen)) }
+        ensures length { IfOk result (λ n. n ≡ length self.old.content.seen) }
         ensures keeps { Some self.new.content ≡ Some self.old.content }
-        ensures image { SeesImage (Some self.old.content) }
+        ensures image { IsImage self.old.content.mask self.old.content.seen }
         ensures call { CallEnds (fuse_of self.old) (fuse_of self.new) result }
         ensures cause { HasCause self.old.faults self.new.faults result }
     {
@@ -147,13 +157,12 @@ impl Disk for FuseDisk {
     fn read(&mut self, place: u64, into: &mut [u8]) -> Result<usize, Failed>
         ensures passes { IsOk result ↔ (outcome_of self.old.arming ≡ Outcome.Passes) }
         ensures looked { self.new ≡ after_look (outcome_of self.old.arming) (with_call_counted self.old) }
-        ensures count { IfOk result (λ n. n ≡ min (length into.old) (length (drop place self.old.content.seen))) }
         ensures bound { IfOk result (λ n. n ≤ length into.new) }
-        ensures octets { IfOk result (λ n. Tells (Some self.old.content) (λ c. ReadsAt c.seen place n into.new)) }
-        ensures fills { IfOk result (λ n.
-            FillsBuffer (fuse_of self.old) (Some self.old.content) place (length into.old) n) }
+        ensures octets { IfOk result (λ n. ReadsAt self.old.content.seen place n into.new) }
+        ensures fills { IfOk result
+            (λ n. n ≡ min (length into.old) (length (drop place self.old.content.seen))) }
         ensures keeps { Some self.new.content ≡ Some self.old.content }
-        ensures image { SeesImage (Some self.old.content) }
+        ensures image { IsImage self.old.content.mask self.old.content.seen }
         ensures call { CallEnds (fuse_of self.old) (fuse_of self.new) result }
         ensures cause { HasCause self.old.faults self.new.faults result }
     {
@@ -164,13 +173,12 @@ impl Disk for FuseDisk {
     /// Fails where it is armed, and else for want of memory alone.
     fn write_at(&mut self, place: u64, piece: &[u8]) -> Result<(), Failed>
         ensures gives { WriteGives (outcome_of self.old.arming) place piece.now result (with_call_counted self.old) self.new }
-        ensures written { OnOk result (WhereTold (Some self.old.content) (Some self.new.content)
-            (λ old new. Wrote place piece.now old.seen new.seen)) }
-        ensures stays { OnErr result (WhereTold (Some self.old.content) (Some self.new.content)
-            (λ old new. new.seen ≡ old.seen)) }
-        ensures images { WhereTold (Some self.old.content) (Some self.new.content)
-            (λ old new. Changes (mask_after_write place (length piece.now) old.mask) old new) }
-        ensures image { SeesImage (Some self.old.content) }
+        ensures written { OnOk result
+            (Wrote place piece.now self.old.content.seen self.new.content.seen) }
+        ensures stays { OnErr result (self.new.content.seen ≡ self.old.content.seen) }
+        ensures images { Changes (mask_after_write place (length piece.now) self.old.content.mask)
+            self.old.content self.new.content }
+        ensures image { IsImage self.old.content.mask self.old.content.seen }
         ensures call { CallEnds (fuse_of self.old) (fuse_of self.new) result }
         ensures cause { HasCause self.old.faults self.new.faults result }
     {
@@ -181,13 +189,11 @@ impl Disk for FuseDisk {
     /// Fails where it is armed, and else for want of memory alone.
     fn cut(&mut self, length: u64) -> Result<(), Failed>
         ensures gives { CutGives (outcome_of self.old.arming) length result (with_call_counted self.old) self.new }
-        ensures cut { OnOk result (WhereTold (Some self.old.content) (Some self.new.content)
-            (λ old new. new.seen ≡ take length old.seen)) }
-        ensures stays { OnErr result (WhereTold (Some self.old.content) (Some self.new.content)
-            (λ old new. new.seen ≡ old.seen)) }
-        ensures images { WhereTold (Some self.old.content) (Some self.new.content)
-            (λ old new. Changes (take length old.mask) old new) }
-        ensures image { SeesImage (Some self.old.content) }
+        ensures cut { OnOk result (self.new.content.seen ≡ take length self.old.content.seen) }
+        ensures stays { OnErr result (self.new.content.seen ≡ self.old.content.seen) }
+        ensures images { Changes (take length self.old.content.mask)
+            self.old.content self.new.content }
+        ensures image { IsImage self.old.content.mask self.old.content.seen }
         ensures call { CallEnds (fuse_of self.old) (fuse_of self.new) result }
         ensures cause { HasCause self.old.faults self.new.faults result }
     {
@@ -199,12 +205,11 @@ impl Disk for FuseDisk {
     fn sync(&mut self) -> Result<(), Failed>
         ensures passes { IsOk result ↔ (outcome_of self.old.arming ≡ Outcome.Passes) }
         ensures synced { self.new ≡ after_sync (outcome_of self.old.arming) (with_call_counted self.old) }
-        ensures seen { OnOk result (WhereTold (Some self.old.content) (Some self.new.content)
-            (λ old new. new.seen ≡ old.seen)) }
-        ensures images { OnOk result (WhereTold (Some self.old.content) (Some self.new.content)
-            (λ old new. Changes (mask_after_sync old.seen) old new)) }
+        ensures seen { OnOk result (self.new.content.seen ≡ self.old.content.seen) }
+        ensures images { OnOk result (Changes (mask_after_sync self.old.content.seen)
+            self.old.content self.new.content) }
         ensures keeps { OnErr result (Some self.new.content ≡ Some self.old.content) }
-        ensures image { SeesImage (Some self.old.content) }
+        ensures image { IsImage self.old.content.mask self.old.content.seen }
         ensures call { CallEnds (fuse_of self.old) (fuse_of self.new) result }
         ensures cause { HasCause self.old.faults self.new.faults result }
     {
@@ -229,9 +234,9 @@ impl Armed for FuseDisk {
 
     fn fail_after(&mut self, passes: u64) -> Result<(), NoMemory>
         ensures armed { OnOk result (self.new ≡ record self.old { arming = with_failure passes self.old.arming }) }
-        ensures not_armed { OnErr result (self.new ≡ starved self.old) }
+        ensures not_armed { OnErr result (self.new ≡ after_want_of_memory self.old) }
         ensures ok { OnOk result (fuse_of self.new ≡ armed_with (with_failure passes) (fuse_of self.old)) }
-        ensures err { OnErr result (fuse_of self.new ≡ starved_fuse (fuse_of self.old)) }
+        ensures err { OnErr result (fuse_of self.new ≡ starved (fuse_of self.old)) }
         ensures told { Some self.new.content ≡ Some self.old.content }
         ensures faults { self.new.faults ≡ self.old.faults }
     {
@@ -246,9 +251,9 @@ impl Armed for FuseDisk {
 
     fn stop_after(&mut self, passes: u64, fill: Fill) -> Result<(), NoMemory>
         ensures armed { OnOk result (self.new ≡ record self.old { arming = with_stop passes fill self.old.arming }) }
-        ensures not_armed { OnErr result (self.new ≡ starved self.old) }
+        ensures not_armed { OnErr result (self.new ≡ after_want_of_memory self.old) }
         ensures ok { OnOk result (fuse_of self.new ≡ armed_with (with_stop passes fill) (fuse_of self.old)) }
-        ensures err { OnErr result (fuse_of self.new ≡ starved_fuse (fuse_of self.old)) }
+        ensures err { OnErr result (fuse_of self.new ≡ starved (fuse_of self.old)) }
         ensures told { Some self.new.content ≡ Some self.old.content }
         ensures faults { self.new.faults ≡ self.old.faults }
     {

@@ -1,7 +1,7 @@
 // The steps of a disk that stops, over its parts.
 ghost use Rattle.std.specs.Prelude.{◌≡◌, ◌++◌, ◌∷◌, [], ◌<◌, length, true, false, Some, IsSome, OnOk, OnErr, vec_len, option_map};
 ghost use Rattle.std.specs.Vec.{vec_capacity};
-ghost use Rattle.memory_disks.specs.Kept.{base_of};
+ghost use Rattle.memory_disks.specs.inner.Kept.{base_of};
 ghost use Rattle.memory_disks.specs.Octets.{octets_after_write, octets_after_stop, with_ranges_filled};
 
 use crate::octets::{paint, paint_all, write_over};

@@ -1,4 +1,7 @@
-//! Disks in memory: one that never stops, and one that stops and fails in the calls for which it is armed.
+//! Disks in memory for tests and scripts: `MemDisk`, which never stops, and `FuseDisk`, which stops and fails in the
+//! calls for which it is armed (disk_model's `Armed`).
+//! Start with the calls of src/memory.rt and src/fuse.rt, and in specs/ with Contents (what each call makes of a disk's
+//! content), Views, Fuses (what a call makes of a disk that stops) and Octets (what writes and stops make of octets).
 #![tactic(auto)]
 
 mod fuse;
@@ -14,4 +17,3 @@ pub use base_kinds::Fill;
 pub use fuse::FuseDisk;
 pub use lines::NO_STOP;
 pub use memory::MemDisk;
-

@@ -1,6 +1,6 @@
 ghost use Rattle.std.specs.Prelude.{◌≡◌, ◌∷◌, [], take};
 ghost use Rattle.disk_model.specs.Images.{mask_after_sync, mask_after_write};
-ghost use Rattle.memory_disks.specs.Logs.{mask_of, past_of};
+ghost use Rattle.memory_disks.specs.inner.Logs.{mask_of, past_of};
 
 use std::snapshot::Snapshot;
 

@@ -1,10 +1,12 @@
-ghost use Rattle.std.specs.Prelude.{◌≡◌, ◌≤◌, ◌↔◌, ℕ, [], length, take, drop, min, true, false, IsTrue, IsOk, Some, IfOk, OnOk, OnErr};
+ghost use Rattle.std.specs.Prelude.{◌≡◌, ◌≤◌, ℕ, [], length, take, drop, min, false, IsOk, Some};
+ghost use Rattle.std.specs.Prelude.{IfOk, OnOk, OnErr};
 ghost use Rattle.edge_traits.specs.Faults.{HasCause};
-ghost use Rattle.disk_model.specs.Content.{Content, WhereTold, Tells, SeesImage, ReadsAt, Changes, Wrote};
+ghost use Rattle.disk_model.specs.Calls.{CallEnds};
+ghost use Rattle.disk_model.specs.Content.{Content, ReadsAt, Changes, Wrote};
 ghost use Rattle.disk_model.specs.Images.{IsImage, mask_after_sync, mask_after_write};
-ghost use Rattle.memory_disks.specs.Calls.{content_after_write, content_after_failed_write, content_after_cut, content_after_sync, synced_content};
-ghost use Rattle.disk_model.specs.Calls.{CallEnds, FillsBuffer};
-ghost use Rattle.memory_disks.specs.Views.{DiskView, fuse_of, with_starved_call};
+ghost use Rattle.memory_disks.specs.Contents.{content_after_write, content_after_failed_write};
+ghost use Rattle.memory_disks.specs.Contents.{content_after_cut, content_after_sync, synced_content};
+ghost use Rattle.memory_disks.specs.Views.{DiskView, fuse_of, new_disk_of, with_starved_call};
 
 use crate::log::Log;
 use crate::octets::{copy_from, write_over};
@@ -26,29 +28,33 @@ pub struct MemDisk {
 
 impl Model for MemDisk {
     ghost use Rattle.disk_model.specs.Images.{IsImage};
-    ghost use Rattle.memory_disks.specs.Logs.{mask_of, past_of};
+    ghost use Rattle.memory_disks.specs.inner.Logs.{mask_of, past_of};
     ghost use Rattle.memory_disks.specs.Views.{DiskView};
 
     ghost Value = { DiskView };
 
-    ghost view = { λ d. record { content = record { seen = d.octets.items; mask = mask_of d.log; past = past_of d.log }; faults = d.faults; starved = d.starved } };
+    ghost view = { λ d. record {
+      content = record { seen = d.octets.items; mask = mask_of d.log; past = past_of d.log };
+      faults = d.faults;
+      starved = d.starved;
+    } };
 
     ghost invariant = { λ d. IsImage (mask_of d.log) d.octets.items };
 }
 
 impl MemDisk {
-    ghost use Rattle.memory_disks.specs.Logs.{mask_of, past_of};
+    ghost use Rattle.memory_disks.specs.inner.Logs.{mask_of, past_of};
 
     /// An empty disk. Takes no memory.
     pub fn make(alloc: Global) -> MemDisk
-        ensures { result ≡ record { content = synced_content []; faults = 0; starved = false } }
+        ensures { result ≡ new_disk_of [] false }
     {
         MemDisk::holding(alloc, Vec::new(alloc), false)
     }
 
     /// A disk with these octets, all synced.
     pub fn of(alloc: Global, octets: &[u8]) -> Result<MemDisk, NoMemory>
-        ensures { IfOk result (λ disk. disk ≡ record { content = synced_content octets.now; faults = 0; starved = false }) }
+        ensures { IfOk result (λ disk. disk ≡ new_disk_of octets.now false) }
     {
         let octets = octets.to_vec(alloc)?;
         Ok(MemDisk::holding(alloc, octets, false))
@@ -56,7 +62,7 @@ impl MemDisk {
 
     /// A disk with these octets, all synced. Takes no memory.
     pub(crate) fn holding(alloc: Global, octets: Vec<u8>, starved: bool) -> MemDisk
-        ensures { result ≡ record { content = synced_content octets.items; faults = 0; starved = starved } }
+        ensures { result ≡ new_disk_of octets.items starved }
     {
         MemDisk {
             alloc,
@@ -111,9 +117,9 @@ impl Disk for MemDisk {
     fn len(&mut self) -> Result<u64, Failed>
         ensures ok { result ≡ Ok (length self.old.content.seen) }
         ensures same { self.new ≡ self.old }
-        ensures image { SeesImage (Some self.old.content) }
+        ensures image { IsImage self.old.content.mask self.old.content.seen }
         ensures call { CallEnds (fuse_of self.old) (fuse_of self.new) result }
-        ensures length { IfOk result (λ n. Tells (Some self.old.content) (λ c. n ≡ length c.seen)) }
+        ensures length { IfOk result (λ n. n ≡ length self.old.content.seen) }
         ensures keeps { Some self.new.content ≡ Some self.old.content }
         ensures cause { HasCause self.old.faults self.new.faults result }
     {
@@ -124,12 +130,12 @@ impl Disk for MemDisk {
     fn read(&mut self, place: u64, into: &mut [u8]) -> Result<usize, Failed>
         ensures ok { result ≡ Ok (min (length into.old) (length (drop place self.old.content.seen))) }
         ensures same { self.new ≡ self.old }
-        ensures image { SeesImage (Some self.old.content) }
+        ensures image { IsImage self.old.content.mask self.old.content.seen }
         ensures call { CallEnds (fuse_of self.old) (fuse_of self.new) result }
-        ensures fills { IfOk result (λ n.
-            FillsBuffer (fuse_of self.old) (Some self.old.content) place (length into.old) n) }
+        ensures fills { IfOk result
+            (λ n. n ≡ min (length into.old) (length (drop place self.old.content.seen))) }
         ensures bound { IfOk result (λ n. n ≤ length into.new) }
-        ensures octets { IfOk result (λ n. Tells (Some self.old.content) (λ c. ReadsAt c.seen place n into.new)) }
+        ensures octets { IfOk result (λ n. ReadsAt self.old.content.seen place n into.new) }
         ensures keeps { Some self.new.content ≡ Some self.old.content }
         ensures cause { HasCause self.old.faults self.new.faults result }
     {
@@ -138,14 +144,18 @@ impl Disk for MemDisk {
 
     /// Fails for want of memory alone, and then changes nothing that a read gives.
     fn write_at(&mut self, place: u64, piece: &[u8]) -> Result<(), Failed>
-        ensures ok { OnOk result (self.new ≡ record self.old { content = content_after_write place piece.now self.old.content }) }
-        ensures err { OnErr result (self.new ≡ with_starved_call (content_after_failed_write place piece.now self.old.content) self.old) }
-        ensures images { WhereTold (Some self.old.content) (Some self.new.content) (λ old new. Changes (mask_after_write place (length piece.now) old.mask) old new) }
-        ensures image { SeesImage (Some self.old.content) }
+        ensures ok { OnOk result (self.new ≡ record self.old {
+          content = content_after_write place piece.now self.old.content;
+        }) }
+        ensures err { OnErr result (self.new ≡ with_starved_call
+            (content_after_failed_write place piece.now self.old.content) self.old) }
+        ensures images { Changes (mask_after_write place (length piece.now) self.old.content.mask)
+            self.old.content self.new.content }
+        ensures image { IsImage self.old.content.mask self.old.content.seen }
         ensures call { CallEnds (fuse_of self.old) (fuse_of self.new) result }
-        ensures stays { OnErr result (WhereTold (Some self.old.content) (Some self.new.content)
-            (λ old new. new.seen ≡ old.seen)) }
-        ensures written { OnOk result (WhereTold (Some self.old.content) (Some self.new.content) (λ old new. Wrote place piece.now old.seen new.seen)) }
+        ensures stays { OnErr result (self.new.content.seen ≡ self.old.content.seen) }
+        ensures written { OnOk result
+            (Wrote place piece.now self.old.content.seen self.new.content.seen) }
         ensures cause { HasCause self.old.faults self.new.faults result }
     {
         self.log = self.log.after_write(place, piece.len());
@@ -163,12 +173,12 @@ impl Disk for MemDisk {
     fn cut(&mut self, length: u64) -> Result<(), Failed>
         ensures ok { IsOk result }
         ensures to { self.new ≡ record self.old { content = content_after_cut length self.old.content } }
-        ensures images { WhereTold (Some self.old.content) (Some self.new.content) (λ old new. Changes (take length old.mask) old new) }
-        ensures image { SeesImage (Some self.old.content) }
+        ensures images { Changes (take length self.old.content.mask)
+            self.old.content self.new.content }
+        ensures image { IsImage self.old.content.mask self.old.content.seen }
         ensures call { CallEnds (fuse_of self.old) (fuse_of self.new) result }
-        ensures stays { OnErr result (WhereTold (Some self.old.content) (Some self.new.content)
-            (λ old new. new.seen ≡ old.seen)) }
-        ensures cut { OnOk result (WhereTold (Some self.old.content) (Some self.new.content) (λ old new. new.seen ≡ take length old.seen)) }
+        ensures stays { OnErr result (self.new.content.seen ≡ self.old.content.seen) }
+        ensures cut { OnOk result (self.new.content.seen ≡ take length self.old.content.seen) }
         ensures cause { HasCause self.old.faults self.new.faults result }
     {
         self.log = self.log.after_cut(length);
@@ -180,10 +190,11 @@ impl Disk for MemDisk {
     fn sync(&mut self) -> Result<(), Failed>
         ensures ok { IsOk result }
         ensures now { self.new ≡ record self.old { content = content_after_sync self.old.content } }
-        ensures images { OnOk result (WhereTold (Some self.old.content) (Some self.new.content) (λ old new. Changes (mask_after_sync old.seen) old new)) }
-        ensures image { SeesImage (Some self.old.content) }
+        ensures images { OnOk result (Changes (mask_after_sync self.old.content.seen)
+            self.old.content self.new.content) }
+        ensures image { IsImage self.old.content.mask self.old.content.seen }
         ensures call { CallEnds (fuse_of self.old) (fuse_of self.new) result }
-        ensures seen { OnOk result (WhereTold (Some self.old.content) (Some self.new.content) (λ old new. new.seen ≡ old.seen)) }
+        ensures seen { OnOk result (self.new.content.seen ≡ self.old.content.seen) }
         ensures keeps { OnErr result (Some self.new.content ≡ Some self.old.content) }
         ensures cause { HasCause self.old.faults self.new.faults result }
     {

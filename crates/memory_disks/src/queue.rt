@@ -1,6 +1,6 @@
 ghost use Rattle.std.specs.Prelude.{◌≡◌, [], ◌∷◌, ◌++◌, ℕ, OnOk, OnErr};
 ghost use Rattle.disk_model.specs.Arming.{line_that_hits, lines_after};
-ghost use Rattle.memory_disks.specs.Queues.{in_order, HasFirst};
+ghost use Rattle.memory_disks.specs.inner.Queues.{in_order, HasFirst};
 
 use base_lists::NoMemory;
 use std::alloc::Global;
@@ -16,7 +16,7 @@ pub struct Queue<T> {
 impl<T> Model for Queue<T> {
     ghost use Rattle.std.specs.Prelude.{List, ℕ};
     ghost use Rattle.std.specs.Coded.{coded_list, coded×, coded_ℕ};
-    ghost use Rattle.memory_disks.specs.Queues.{in_order, HasFirst};
+    ghost use Rattle.memory_disks.specs.inner.Queues.{in_order, HasFirst};
 
     ghost Value = { List (ℕ × T) };
 

@@ -4,8 +4,10 @@ ghost use Rattle.edge_traits.specs.Faults.{HasCause};
 ghost use Rattle.disk_model.specs.Arming.{outcome_of};
 ghost use Rattle.disk_model.specs.Calls.{CallEnds};
 ghost use Rattle.disk_model.specs.Images.{IsImage};
-ghost use Rattle.memory_disks.specs.Calls.{content_after_failed_write, content_after_failed_cut};
-ghost use Rattle.memory_disks.specs.Fuses.{FuseView, fuse_of, with_call_counted, after_failure, stopped, after_look, after_sync, WriteGives, CutGives, StopsInWrite, IsReady};
+ghost use Rattle.memory_disks.specs.Fuses.{FuseView, fuse_of, with_call_counted, after_failure};
+ghost use Rattle.memory_disks.specs.Fuses.{after_quiet_stop, after_look, after_sync, StopsInWrite};
+ghost use Rattle.memory_disks.specs.Fuses.{after_failed_write, after_failed_cut, WriteGives, CutGives};
+ghost use Rattle.memory_disks.specs.inner.Ready.{IsReady};
 
 use crate::fuse::FuseDisk;
 use crate::leaving::{keep_base, leave, leave_written, write_noted};
@@ -35,7 +37,7 @@ impl FuseDisk {
 
     /// A write fails. It counts as made for what a stop may leave.
     pub(crate) fn fail_write(&mut self, place: u64, piece: &[u8]) -> Failed
-        ensures { self.new ≡ after_failure (content_after_failed_write place piece.now self.old.content) self.old }
+        ensures { self.new ≡ after_failed_write place piece.now self.old }
     {
         self.log = self.log.after_write(place, piece.len());
         self.fail()
@@ -43,7 +45,7 @@ impl FuseDisk {
 
     /// A cut fails. It counts as made for what a stop may leave.
     pub(crate) fn fail_cut(&mut self, length: u64) -> Failed
-        ensures { self.new ≡ after_failure (content_after_failed_cut length self.old.content) self.old }
+        ensures { self.new ≡ after_failed_cut length self.old }
     {
         self.log = self.log.after_cut(length);
         self.fail()
@@ -52,7 +54,7 @@ impl FuseDisk {
     /// Stops in a call that writes nothing.
     pub(crate) fn stop(&mut self, fill: Fill) -> Failed
         requires { IsReady (Outcome.Stops fill) self.old }
-        ensures { self.new ≡ stopped fill self.old.content.seen self.old.written (after_failure self.old.content self.old) }
+        ensures { self.new ≡ after_quiet_stop fill (after_failure self.old.content self.old) }
     {
         self.before = Some(Snapshot::of(&self.octets));
         leave(&mut self.octets, self.safe.take(), &self.written, fill);
@@ -63,7 +65,7 @@ impl FuseDisk {
     /// Stops in a cut, which isn't made.
     pub(crate) fn stop_cut(&mut self, fill: Fill, length: u64) -> Failed
         requires { IsReady (Outcome.Stops fill) self.old }
-        ensures { self.new ≡ stopped fill self.old.content.seen self.old.written (after_failure (content_after_failed_cut length self.old.content) self.old) }
+        ensures { self.new ≡ after_quiet_stop fill (after_failed_cut length self.old) }
     {
         self.log = self.log.after_cut(length);
         self.stop(fill)

@@ -1,5 +1,5 @@
 use Rattle.std.proofs.Common.{ap, ◌∙◌, refl, option_map, Some}
-use Rattle.memory_disks.specs.Kept.{base_of}
+use Rattle.memory_disks.specs.inner.Kept.{base_of}
 use Rattle.memory_disks.proofs.Fused.{fused_cut, fused_as, fused_front}
 use Rattle.memory_disks.proofs.fuse.FuseDisk.cut_on.Goals as goal
 

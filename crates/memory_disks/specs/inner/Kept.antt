@@ -37,7 +37,8 @@ abbrev pub LeftAfter : Bool → Option (List ℕ) → Type 0
 LeftAfter false before = before ≡ None
 LeftAfter true before = Unit {0}
 
-pub record IsFused (stopped : Bool) (before safe : Option (List ℕ)) (base octets : List ℕ) (written : List (ℕ × ℕ)) (mask : List (Option ℕ)) : Type 0 where
+pub record IsFused (stopped : Bool) (before safe : Option (List ℕ)) (base octets : List ℕ)
+    (written : List (ℕ × ℕ)) (mask : List (Option ℕ)) : Type 0 where
   pub base_is : IsImage mask base
   pub seen_is : IsImage mask (seen_of before octets)
   pub left_is : IsImage mask octets

@@ -1,0 +1,5 @@
+-- What private functions and what is kept inside alone cite.
+pub mod Kept
+pub mod Logs
+pub mod Queues
+pub mod Ready
