@@ -13,7 +13,7 @@ use Rattle.std.proofs.lemmas.Slice.Eq.{bytes_eq-Decides}
 use Rattle.std.specs.Str.{bytes_eq}
 use Rattle.base_kinds.specs.Paths.{key_cmp, text_cmp}
 use Rattle.json_rows.specs.Entries.{KeyList, same_key, same_keys}
-use Rattle.json_rows.specs.Indexes.{IsIndexed}
+use Rattle.json_rows.specs.inner.Indexes.{IsIndexed}
 
 then_eq : (first second : Ordering) → is_eq (ordering_then first second) ≡ (is_eq first && is_eq second)
 then_eq Less second = refl

@@ -1,5 +1,3 @@
-pub mod Numbers
-pub mod DecimalTexts
 pub mod KeyPlaces
 pub mod Sorted
 pub mod TextData
@@ -9,3 +7,4 @@ pub mod Meanings
 pub mod Apart
 pub mod Walks
 pub mod ValuesRead
+pub mod Faults

@@ -77,28 +77,28 @@ unfolding Last
 last_gives path there [] old each = inr (refl, tt)
 last_gives path there (row ∷ rows) old each = last_more path there row rows old (same_path row.path path) refl each.0 (last_gives path there rows (cond (same_path row.path path) (Some row.value) old) each.1)
 
-same_values : (path : List Elem) (walked rows : List Row) → IsPermutation walked rows → IsRising rows → last_value path walked None ≡ value_at path rows
+same_values : (path : List Elem) (rows_of_walk rows : List Row) → IsPermutation rows_of_walk rows → IsRising rows → last_value path rows_of_walk None ≡ value_at path rows
 unfolding Last
-same_values path walked rows moved rising =
+same_values path rows_of_walk rows moved rising =
     let there = value_at path rows in
-    let back = IsPermutation-sym walked rows moved in
-    let each = to_each (Gives path there) walked (All-permutation (Gives path there) rows walked back (from_each (Gives path there) rows (each_gives path rows rising))) in
+    let back = IsPermutation-sym rows_of_walk rows moved in
+    let each = to_each (Gives path there) rows_of_walk (All-permutation (Gives path there) rows rows_of_walk back (from_each (Gives path there) rows (each_gives path rows rising))) in
     ⊎_elim
     (λ found. found)
-    (λ missed. missed.0 ∙ sym (none_there path rows (to_each (Misses path) rows (All-permutation (Misses path) walked rows moved (from_each (Misses path) walked missed.1)))))
-    (last_gives path there walked None each)
+    (λ missed. missed.0 ∙ sym (none_there path rows (to_each (Misses path) rows (All-permutation (Misses path) rows_of_walk rows moved (from_each (Misses path) rows_of_walk missed.1)))))
+    (last_gives path there rows_of_walk None each)
 
 pub no_rows : IsRising []
 unfolding IsStrictlySortedBy
 no_rows = tt
 
 -- rows that rise are the tree that the same rows make in any order
-pub tree_of_rows : (walked rows : List Row) → IsPermutation walked rows → IsRising rows → set_rows walked [] ≡ rows
-tree_of_rows walked rows moved rising =
-    values_decide (set_rows walked []) rows (rising_sets walked [] no_rows) rising (λ path. value_at_sets path walked [] ∙ same_values path walked rows moved rising)
+pub tree_of_rows : (rows_of_walk rows : List Row) → IsPermutation rows_of_walk rows → IsRising rows → set_rows rows_of_walk [] ≡ rows
+tree_of_rows rows_of_walk rows moved rising =
+    values_decide (set_rows rows_of_walk []) rows (rising_sets rows_of_walk [] no_rows) rising (λ path. value_at_sets path rows_of_walk [] ∙ same_values path rows_of_walk rows moved rising)
 
-pub tree_of_tested : (walked rows : List Row) → IsPermutation walked rows → IsTrue (rises row_cmp rows) → set_rows walked [] ≡ rows
-tree_of_tested walked rows moved tested = tree_of_rows walked rows moved ((test_says_rising rows).0 tested)
+pub tree_of_tested : (rows_of_walk rows : List Row) → IsPermutation rows_of_walk rows → IsTrue (rises row_cmp rows) → set_rows rows_of_walk [] ≡ rows
+tree_of_tested rows_of_walk rows moved tested = tree_of_rows rows_of_walk rows moved ((test_says_rising rows).0 tested)
 
 pub tree_of_itself : (rows : List Row) → IsTrue (rises row_cmp rows) → set_rows rows [] ≡ rows
 tree_of_itself rows tested = tree_of_tested rows rows (IsPermutation-refl rows) tested
@@ -127,9 +127,9 @@ rises_from (row ∷ rows) distinct sorted =
     sorted_from_all_adjacent row_total all row (λ k within. less_from (get_or all k row).path (get_or all (k + 1) row).path (path_cmp (get_or all k row).path (get_or all (k + 1) row).path) refl (apart_from_distinct same_path_rows all k (k + 1) row distinct (omega arith) within) (sorted k row (omega arith) within))
 
 -- rows with paths of their own rise once they are sorted
-pub sorted_rise : (walked rows : List Row) → IsDistinct same_path_rows walked → IsPermutation walked rows → IsSortedByKey (λ (row : Row). row.path) path_cmp rows → IsTrue (rises row_cmp rows)
-sorted_rise walked rows distinct moved sorted =
-    (test_says_rising rows).1 (rises_from rows (IsDistinct-IsPermutation same_path_rows (λ a b. path_turns a.path b.path) walked rows moved distinct) sorted)
+pub sorted_rise : (rows_of_walk rows : List Row) → IsDistinct same_path_rows rows_of_walk → IsPermutation rows_of_walk rows → IsSortedByKey (λ (row : Row). row.path) path_cmp rows → IsTrue (rises row_cmp rows)
+sorted_rise rows_of_walk rows distinct moved sorted =
+    (test_says_rising rows).1 (rises_from rows (IsDistinct-IsPermutation same_path_rows (λ a b. path_turns a.path b.path) rows_of_walk rows moved distinct) sorted)
 
-pub tree_of_sorted : (walked rows : List Row) → IsDistinct same_path_rows walked → IsPermutation walked rows → IsSortedByKey (λ (row : Row). row.path) path_cmp rows → rows ≡ set_rows walked []
-tree_of_sorted walked rows distinct moved sorted = sym (tree_of_tested walked rows moved (sorted_rise walked rows distinct moved sorted))
+pub tree_of_sorted : (rows_of_walk rows : List Row) → IsDistinct same_path_rows rows_of_walk → IsPermutation rows_of_walk rows → IsSortedByKey (λ (row : Row). row.path) path_cmp rows → rows ≡ set_rows rows_of_walk []
+tree_of_sorted rows_of_walk rows distinct moved sorted = sym (tree_of_tested rows_of_walk rows moved (sorted_rise rows_of_walk rows distinct moved sorted))

@@ -3,7 +3,7 @@ use Rattle.std.proofs.Common.{◌≡◌, ℕ, List, Bool, true, false, cond, Non
 use Rattle.std.specs.Str.{is_utf8}
 use Rattle.std.proofs.lemmas.Str.{IsUtf8-from_is_utf8, is_utf8-from_IsUtf8}
 use Rattle.serde_json.specs.Read.{read}
-use Rattle.json_rows.specs.Reading.{data_of}
+use Rattle.json_rows.specs.Rows.{data_of}
 
 pub data_of_text : (text : List ℕ) → IsUtf8 text → data_of text ≡ read text
 data_of_text text is = ap (λ test. cond test (read text) None) (is_utf8-from_IsUtf8 text is)

@@ -6,7 +6,7 @@ use Rattle.base_kinds.specs.declared.schema.Shape.{Shape}
 use Rattle.base_kinds.specs.declared.value.Value.{Value}
 use Rattle.base_kinds.specs.Values.{same_scalar, all_differ}
 use Rattle.scalar_order.proofs.OneMore.{differ_more}
-use Rattle.json_rows.specs.Leaves.{leaf_at, if_new, values_from}
+use Rattle.json_rows.specs.Leaves.{leaf_at, unless_listed, values_from}
 
 -- what the items give behind values that may be equal
 abbrev pub behind : Option Shape → List Value → Items → Option (List Value)
@@ -22,4 +22,4 @@ pub one_read : (shape : Option Shape) (done : List Value) (json : Data) (value :
 one_read shape done json value others is =
     ap (λ differ. cond differ (values_from shape (done ++ value ∷ []) others) None) (differ_more done value)
     ∙ by (λ w. values_from shape (done ++ w ∷ []) others) value (all_differ done) (list_any (same_scalar value) done)
-    ∙ ap (λ read. cond (all_differ done) (option_and_then (λ w. values_from shape (done ++ w ∷ []) others) (option_and_then (if_new done) read)) None) (sym is)
+    ∙ ap (λ read. cond (all_differ done) (option_and_then (λ w. values_from shape (done ++ w ∷ []) others) (option_and_then (unless_listed done) read)) None) (sym is)

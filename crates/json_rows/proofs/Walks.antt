@@ -18,9 +18,10 @@ use Rattle.json_rows.specs.declared.fault.RowsFault.{RowsFault}
 use Rattle.json_rows.specs.declared.fault.RowsFault.TheVariants.{BadValue}
 use Rattle.json_rows.specs.Leaves.{leaf_at, values_from}
 use Rattle.json_rows.specs.Members.{if_fresh, fresh_child, child_named, name_in}
-use Rattle.json_rows.specs.Entries.{KeyList, and_then, keys_from, same_key, same_keys, if_other, keys_agree}
-use Rattle.json_rows.specs.Walk.{below, with_row, leaf_told, list_told, at_node, members_at, entries_at, object_at}
-use Rattle.json_rows.specs.Reading.{is_entry, entry_told, at_found, at_end, walked}
+use Rattle.base_lists.specs.Results.{and_then}
+use Rattle.json_rows.specs.Entries.{KeyList, keys_of_entry, same_key, same_keys, keys_unless_seen, entry_keys_agree}
+use Rattle.json_rows.specs.Walk.{below, rows_with_row, rows_with_leaf, rows_with_leaf_list, rows_at_node, rows_of_members, rows_of_entries, rows_of_object}
+use Rattle.json_rows.specs.Rows.{is_entry, rows_of_entry, rows_at_node_of_path, rows_at_path, rows_of_walk}
 use Rattle.json_rows.proofs.Apart.{Apart, Adds, adds_none, adds_one, adds_both, adds_wider, adds_above, distinct_rows}
 
 -- what an answer came from
@@ -29,7 +30,7 @@ record Came {A B : Type 0} (told : Result A RowsFault) (next : A → Result B Ro
   pub is : told ≡ Ok value
   pub then : next value ≡ Ok out
 
-came : {A B : Type 0} (told : Result A RowsFault) (next : A → Result B RowsFault) (out : B) → and_then next told ≡ Ok out → Came told next out
+came : {A B : Type 0} (told : Result A RowsFault) (next : A → Result B RowsFault) (out : B) → and_then told next ≡ Ok out → Came told next out
 came (Ok value) next out is = record { value = value; is = refl; then = is }
 came (Err fault) next out is = absurd (cc)
 
@@ -56,26 +57,26 @@ fresh_name seen name (Some child) node is = by_test (list_any (bytes_eq name) se
     by_test true child is = absurd (cc)
     by_test false child is = refl
 
-other_keys : (seen : List KeyList) (keys : KeyList) (same : KeyList) → if_other seen keys ≡ Ok same → (list_any (same_keys keys) seen ≡ false) × (keys ≡ same)
+other_keys : (seen : List KeyList) (keys : KeyList) (same : KeyList) → keys_unless_seen seen keys ≡ Ok same → (list_any (same_keys keys) seen ≡ false) × (keys ≡ same)
 other_keys seen keys same is = by_test (list_any (same_keys keys) seen) is
   where
     by_test : (test : Bool) → cond test (Err BadValue) (Ok keys) ≡ Ok same → (test ≡ false) × (keys ≡ same)
     by_test true is = absurd (cc)
     by_test false is = (refl, cc)
 
-leaf_adds : (above : List Elem) (name : List ℕ) (rows out : List Row) (value : Option Value) → leaf_told (below above name []) rows value ≡ Ok out → Adds above (is_named name) rows out
+leaf_adds : (above : List Elem) (name : List ℕ) (rows out : List Row) (value : Option Value) → rows_with_leaf (below above name []) rows value ≡ Ok out → Adds above (is_named name) rows out
 leaf_adds above name rows out None is = absurd (cc)
 leaf_adds above name rows out (Some value) is =
-    let joined : with_row (below above name []) rows value ≡ out = cc in
+    let joined : rows_with_row (below above name []) rows value ≡ out = cc in
     adds_one above (is_named name) rows out (record { path = below above name []; value = value }) (record { name = name; keys = [] }) refl (own_name name) joined
 
-list_adds : (above : List Elem) (name : List ℕ) (rows out : List Row) (found : Option (List Value)) → list_told (below above name []) rows found ≡ Ok out → Adds above (is_named name) rows out
+list_adds : (above : List Elem) (name : List ℕ) (rows out : List Row) (found : Option (List Value)) → rows_with_leaf_list (below above name []) rows found ≡ Ok out → Adds above (is_named name) rows out
 list_adds above name rows out None is = absurd (cc)
 list_adds above name rows out (Some []) is =
     let same : rows ≡ out = cc in
     subst (λ after. Adds above (is_named name) rows after) same (adds_none above (is_named name) rows)
 list_adds above name rows out (Some (value ∷ others)) is =
-    let joined : with_row (below above name []) rows (values.List (value ∷ others)) ≡ out = cc in
+    let joined : rows_with_row (below above name []) rows (values.List (value ∷ others)) ≡ out = cc in
     adds_one above (is_named name) rows out (record { path = below above name []; value = values.List (value ∷ others) }) (record { name = name; keys = [] }) refl (own_name name) joined
 
 same_named : (name : List ℕ) (elem : Elem) → is_named name elem ≡ true → name ≡ elem.name
@@ -139,7 +140,7 @@ keyed_is_not_other name seen keys elem is other =
     true≢false (sym same ∙ (other_parts name seen keys elem other).1)
 
 mutual
-  node_adds : (sort : Sort) (schema : List SchemaNode) (node : SchemaNode) (above : List Elem) (name : List ℕ) (rows out : List Row) (json : Data) → at_node sort schema node above name rows json ≡ Ok out → Adds above (is_named name) rows out
+  node_adds : (sort : Sort) (schema : List SchemaNode) (node : SchemaNode) (above : List Elem) (name : List ℕ) (rows out : List Row) (json : Data) → rows_at_node sort schema node above name rows json ≡ Ok out → Adds above (is_named name) rows out
   node_adds sorts.Container schema node above name rows out (object ms) is = adds_above above (record { name = name; keys = [] }) (is_new []) (is_named name) rows out (members_add schema (below above name []) [] rows out ms is) (own_name name)
   node_adds sorts.List schema node above name rows out (array items) is = adds_wider above (is_other name []) (is_named name) rows out (entries_add schema node above name [] rows out items is) (λ elem passes. (and_parts (bytes_eq name elem.name) true passes).0)
   node_adds sorts.LeafList schema node above name rows out (array items) is = list_adds above name rows out (values_from node.shape [] items) is
@@ -160,14 +161,14 @@ mutual
   node_adds sorts.LeafList schema node above name rows out (string s) is = absurd (cc)
   node_adds sorts.LeafList schema node above name rows out (object ms) is = absurd (cc)
 
-  members_add : (schema : List SchemaNode) (here : List Elem) (seen : List (List ℕ)) (rows out : List Row) (members : Members) → members_at schema here seen rows members ≡ Ok out → Adds here (is_new seen) rows out
+  members_add : (schema : List SchemaNode) (here : List Elem) (seen : List (List ℕ)) (rows out : List Row) (members : Members) → rows_of_members schema here seen rows members ≡ Ok out → Adds here (is_new seen) rows out
   members_add schema here seen rows out no_members is =
       let same : rows ≡ out = cc in
       subst (λ after. Adds here (is_new seen) rows after) same (adds_none here (is_new seen) rows)
   members_add schema here seen rows out (member text json others) is =
       let name = name_in text in
-      let child = came (fresh_child schema (names_of here) seen text) (λ child. and_then (λ more. members_at schema here (seen ++ name_in text ∷ []) more others) (at_node child.sort schema child here (name_in text) rows json)) out is in
-      let more = came (at_node child.value.sort schema child.value here name rows json) (λ more. members_at schema here (seen ++ name_in text ∷ []) more others) out child.then in
+      let child = came (fresh_child schema (names_of here) seen text) (λ child. and_then (rows_at_node child.sort schema child here (name_in text) rows json) (λ more. rows_of_members schema here (seen ++ name_in text ∷ []) more others)) out is in
+      let more = came (rows_at_node child.value.sort schema child.value here name rows json) (λ more. rows_of_members schema here (seen ++ name_in text ∷ []) more others) out child.then in
       let fresh = fresh_name seen name (child_named schema (names_of here) text) child.value child.is in
       adds_both here (is_named name) (is_new (seen ++ name ∷ [])) (is_new seen) rows more.value out
       (node_adds child.value.sort schema child.value here name rows more.value json more.is)
@@ -176,14 +177,14 @@ mutual
       (named_is_new seen name fresh)
       (λ elem new. (new_parts seen name elem new).0)
 
-  entries_add : (schema : List SchemaNode) (node : SchemaNode) (above : List Elem) (name : List ℕ) (seen : List KeyList) (rows out : List Row) (items : Items) → entries_at schema node above name seen rows items ≡ Ok out → Adds above (is_other name seen) rows out
+  entries_add : (schema : List SchemaNode) (node : SchemaNode) (above : List Elem) (name : List ℕ) (seen : List KeyList) (rows out : List Row) (items : Items) → rows_of_entries schema node above name seen rows items ≡ Ok out → Adds above (is_other name seen) rows out
   entries_add schema node above name seen rows out no_items is =
       let same : rows ≡ out = cc in
       subst (λ after. Adds above (is_other name seen) rows after) same (adds_none above (is_other name seen) rows)
   entries_add schema node above name seen rows out (item json others) is =
-      let keys = came (and_then (if_other seen) (keys_from schema (names_of above ++ name ∷ []) json [] node.keys)) (λ keys. and_then (λ more. entries_at schema node above name (seen ++ keys ∷ []) more others) (object_at schema (below above name keys) rows json)) out is in
-      let more = came (object_at schema (below above name keys.value) rows json) (λ more. entries_at schema node above name (seen ++ keys.value ∷ []) more others) out keys.then in
-      let read = came (keys_from schema (names_of above ++ name ∷ []) json [] node.keys) (if_other seen) keys.value keys.is in
+      let keys = came (and_then (keys_of_entry schema (names_of above ++ name ∷ []) json [] node.keys) (keys_unless_seen seen)) (λ keys. and_then (rows_of_object schema (below above name keys) rows json) (λ more. rows_of_entries schema node above name (seen ++ keys ∷ []) more others)) out is in
+      let more = came (rows_of_object schema (below above name keys.value) rows json) (λ more. rows_of_entries schema node above name (seen ++ keys.value ∷ []) more others) out keys.then in
+      let read = came (keys_of_entry schema (names_of above ++ name ∷ []) json [] node.keys) (keys_unless_seen seen) keys.value keys.is in
       let other = other_keys seen read.value keys.value read.then in
       let fresh : list_any (same_keys keys.value) seen ≡ false = subst (λ k. list_any (same_keys k) seen ≡ false) other.1 other.0 in
       adds_both above (is_keyed name keys.value) (is_other name (seen ++ keys.value ∷ [])) (is_other name seen) rows more.value out
@@ -193,7 +194,7 @@ mutual
       (keyed_is_other name seen keys.value fresh)
       (λ elem another. (other_parts name seen keys.value elem another).0)
 
-  object_adds : (schema : List SchemaNode) (here : List Elem) (rows out : List Row) (json : Data) → object_at schema here rows json ≡ Ok out → Adds here (is_new []) rows out
+  object_adds : (schema : List SchemaNode) (here : List Elem) (rows out : List Row) (json : Data) → rows_of_object schema here rows json ≡ Ok out → Adds here (is_new []) rows out
   object_adds schema here rows out (object ms) is = members_add schema here [] rows out ms is
   object_adds schema here rows out null is = absurd (cc)
   object_adds schema here rows out (boolean b) is = absurd (cc)
@@ -204,23 +205,23 @@ mutual
 apart_of : (above : List Elem) (test : Elem → Bool) (out : List Row) → Adds above test [] out → Apart out
 apart_of above test out adds = subst Apart (sym adds.joined) adds.apart
 
-last_apart : (schema : List SchemaNode) (node : SchemaNode) (path : List Elem) (last : Elem) (json : Data) (out : List Row) (test : Bool) → cond test (entry_told schema node path last.keys json) (at_node node.sort schema node (take (length path - 1) path) last.name [] json) ≡ Ok out → Apart out
+last_apart : (schema : List SchemaNode) (node : SchemaNode) (path : List Elem) (last : Elem) (json : Data) (out : List Row) (test : Bool) → cond test (rows_of_entry schema node path last.keys json) (rows_at_node node.sort schema node (take (length path - 1) path) last.name [] json) ≡ Ok out → Apart out
 last_apart schema node path last json out true is =
-    let agreed = came (keys_agree schema (names_of path) last.keys json node.keys) (λ same. object_at schema path [] json) out is in
+    let agreed = came (entry_keys_agree schema (names_of path) last.keys json node.keys) (λ same. rows_of_object schema path [] json) out is in
     apart_of path (is_new []) out (object_adds schema path [] out json agreed.then)
 last_apart schema node path last json out false is =
     apart_of (take (length path - 1) path) (is_named last.name) out (node_adds node.sort schema node (take (length path - 1) path) last.name [] out json is)
 
-found_apart : (schema : List SchemaNode) (path : List Elem) (last : Elem) (node : Option SchemaNode) (json : Option Data) (out : List Row) → at_found schema path last node json ≡ Ok out → Apart out
+found_apart : (schema : List SchemaNode) (path : List Elem) (last : Elem) (node : Option SchemaNode) (json : Option Data) (out : List Row) → rows_at_node_of_path schema path last node json ≡ Ok out → Apart out
 found_apart schema path last None json out is = absurd (cc)
 found_apart schema path last (Some node) None out is = absurd (cc)
 found_apart schema path last (Some node) (Some json) out is = last_apart schema node path last json out (is_entry node.sort last.keys) is
 
-end_apart : (schema : List SchemaNode) (path : List Elem) (last : Option Elem) (json : Option Data) (out : List Row) → at_end schema path last json ≡ Ok out → Apart out
+end_apart : (schema : List SchemaNode) (path : List Elem) (last : Option Elem) (json : Option Data) (out : List Row) → rows_at_path schema path last json ≡ Ok out → Apart out
 end_apart schema path None None out is = absurd (cc)
 end_apart schema path None (Some json) out is = apart_of path (is_new []) out (object_adds schema path [] out json is)
 end_apart schema path (Some last) json out is = found_apart schema path last (node_at schema path) json out is
 
 -- no two rows of a walk have one path
-pub walked_distinct : (schema : List SchemaNode) (path : List Elem) (json : Option Data) (out : List Row) → walked schema path json ≡ Ok out → IsDistinct (λ a b. same_path a.path b.path) out
+pub walked_distinct : (schema : List SchemaNode) (path : List Elem) (json : Option Data) (out : List Row) → rows_of_walk schema path json ≡ Ok out → IsDistinct (λ a b. same_path a.path b.path) out
 walked_distinct schema path json out is = distinct_rows out (end_apart schema path (slice_get path (length path - 1)) json out is)

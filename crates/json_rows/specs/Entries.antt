@@ -4,6 +4,7 @@ use Rattle.std.specs.List.{list_any}
 use Rattle.std.specs.Str.{bytes_eq}
 use Rattle.std.specs.Ordering.{is_gt}
 use Rattle.std.specs.Cmp.Lexicographic.{pointwise}
+use Rattle.base_lists.specs.Results.{and_then}
 use Rattle.serde_json.specs.Data.{Data}
 use Rattle.serde_json.specs.Find.{get}
 use Rattle.base_kinds.specs.declared.value.Value.{Value}
@@ -18,48 +19,50 @@ use Rattle.json_rows.specs.Members.{child_at, qualified}
 abbrev pub KeyList : Type 0
 KeyList = List (List ℕ × List ℕ)
 
--- what follows a value, or the fault
-abbrev pub and_then : {A B : Type 0} → (A → Result B RowsFault) → Result A RowsFault → Result B RowsFault
-and_then f (Ok value) = f value
-and_then f (Err fault) = Err fault
-
 -- a member has one spelling in an object, or is left out
-abbrev pub one_spelling : Option Data → Option Data → Result (Option Data) RowsFault
-one_spelling None other = Ok other
-one_spelling (Some json) None = Ok (Some json)
-one_spelling (Some json) (Some other) = Err BadValue
+abbrev pub only_member : Option Data → Option Data → Result (Option Data) RowsFault
+only_member None other = Ok other
+only_member (Some json) None = Ok (Some json)
+only_member (Some json) (Some other) = Err BadValue
 
 -- the text of the key that a key leaf's value is
-abbrev pub text_told : Option Value → Result (Option (List ℕ)) RowsFault
-text_told None = Err BadValue
-text_told (Some value) = Ok (Some (key_text value))
+abbrev pub key_text_of : Option Value → Result (Option (List ℕ)) RowsFault
+key_text_of None = Err BadValue
+key_text_of (Some value) = Ok (Some (key_text value))
 
-abbrev pub key_told : SchemaNode → Option Data → Result (Option (List ℕ)) RowsFault
-key_told leaf None = Ok None
-key_told leaf (Some json) = text_told (leaf_at leaf.shape json)
+abbrev pub key_of_member : SchemaNode → Option Data → Result (Option (List ℕ)) RowsFault
+key_of_member leaf None = Ok None
+key_of_member leaf (Some json) = key_text_of (leaf_at leaf.shape json)
 
-abbrev pub key_at : Option SchemaNode → List ℕ → Data → Result (Option (List ℕ)) RowsFault
-key_at None name entry = Err BadValue
-key_at (Some leaf) name entry = and_then (key_told leaf) (one_spelling (get name entry) (get (qualified leaf.module_name name) entry))
+abbrev pub key_of_leaf : Option SchemaNode → List ℕ → Data → Result (Option (List ℕ)) RowsFault
+key_of_leaf None name entry = Err BadValue
+key_of_leaf (Some leaf) name entry =
+    and_then (only_member (get name entry) (get (qualified leaf.module_name name) entry))
+    (key_of_member leaf)
 
 -- the text of the key of this name in an entry of the list with these names, where the entry has it
-abbrev pub key_read : List SchemaNode → List (List ℕ) → List ℕ → Data → Result (Option (List ℕ)) RowsFault
-key_read schema names name entry = key_at (child_at schema names name) name entry
+abbrev pub key_of_entry :
+    List SchemaNode → List (List ℕ) → List ℕ → Data → Result (Option (List ℕ)) RowsFault
+key_of_entry schema names name entry = key_of_leaf (child_at schema names name) name entry
 
 -- the keys with one more, which stands before the first whose name is above its own
 abbrev pub with_key : List ℕ × List ℕ → KeyList → KeyList
 with_key key [] = key ∷ []
-with_key key (other ∷ others) = if is_gt (text_cmp other.0 key.0) then key ∷ other ∷ others else other ∷ with_key key others
+with_key key (other ∷ others) =
+    if is_gt (text_cmp other.0 key.0) then key ∷ other ∷ others else other ∷ with_key key others
 
 -- a key that is there
-abbrev pub needed : Option (List ℕ) → Result (List ℕ) RowsFault
-needed None = Err BadValue
-needed (Some text) = Ok text
+abbrev pub required_key : Option (List ℕ) → Result (List ℕ) RowsFault
+required_key None = Err BadValue
+required_key (Some text) = Ok text
 
 -- the keys of an entry of an array, which has them all, in the order of their names; they are read in that of the list
-abbrev pub keys_from : List SchemaNode → List (List ℕ) → Data → KeyList → List (List ℕ) → Result KeyList RowsFault
-keys_from schema names entry done [] = Ok done
-keys_from schema names entry done (key ∷ others) = and_then (λ text. keys_from schema names entry (with_key (key, text) done) others) (and_then needed (key_read schema names key entry))
+abbrev pub keys_of_entry :
+    List SchemaNode → List (List ℕ) → Data → KeyList → List (List ℕ) → Result KeyList RowsFault
+keys_of_entry schema names entry done [] = Ok done
+keys_of_entry schema names entry done (key ∷ others) =
+    and_then (and_then (key_of_entry schema names key entry) required_key)
+    (λ text. keys_of_entry schema names entry (with_key (key, text) done) others)
 
 abbrev pub same_key : List ℕ × List ℕ → List ℕ × List ℕ → Bool
 same_key a b = bytes_eq a.0 b.0 && bytes_eq a.1 b.1
@@ -69,15 +72,19 @@ abbrev pub same_keys : KeyList → KeyList → Bool
 same_keys = pointwise same_key
 
 -- the keys of an entry, where no entry before it in the array had them
-abbrev pub if_other : List KeyList → KeyList → Result KeyList RowsFault
-if_other seen keys = if list_any (same_keys keys) seen then Err BadValue else Ok keys
+abbrev pub keys_unless_seen : List KeyList → KeyList → Result KeyList RowsFault
+keys_unless_seen seen keys = if list_any (same_keys keys) seen then Err BadValue else Ok keys
 
 -- a key that the path has too is the same there
-abbrev pub agrees : KeyList → List ℕ → Option (List ℕ) → Result (Option (List ℕ)) RowsFault
-agrees keys name None = Ok None
-agrees keys name (Some text) = if list_any (same_key (name, text)) keys then Ok (Some text) else Err BadValue
+abbrev pub key_as_in_path : KeyList → List ℕ → Option (List ℕ) → Result (Option (List ℕ)) RowsFault
+key_as_in_path keys name None = Ok None
+key_as_in_path keys name (Some text) =
+    if list_any (same_key (name, text)) keys then Ok (Some text) else Err BadValue
 
 -- the keys of an entry agree with those of its path, as far as the entry has them
-abbrev pub keys_agree : List SchemaNode → List (List ℕ) → KeyList → Data → List (List ℕ) → Result ⊤ RowsFault
-keys_agree schema names keys entry [] = Ok tt
-keys_agree schema names keys entry (key ∷ others) = and_then (λ same. keys_agree schema names keys entry others) (and_then (agrees keys key) (key_read schema names key entry))
+abbrev pub entry_keys_agree :
+    List SchemaNode → List (List ℕ) → KeyList → Data → List (List ℕ) → Result ⊤ RowsFault
+entry_keys_agree schema names keys entry [] = Ok tt
+entry_keys_agree schema names keys entry (key ∷ others) =
+    and_then (and_then (key_of_entry schema names key entry) (key_as_in_path keys key))
+    (λ same. entry_keys_agree schema names keys entry others)

@@ -1,9 +1,8 @@
-pub mod Texts
 pub mod Leaves
 pub mod Members
 pub mod Entries
-pub mod Indexes
 pub mod Walk
-pub mod Reading
-pub mod Laws
-pub mod Examples
+pub mod Rows
+pub mod inner
+pub mod laws
+pub mod worked

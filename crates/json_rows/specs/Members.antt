@@ -34,12 +34,14 @@ if_of_module module_name node = if is_of_module module_name node then Some node 
 
 -- the child that a member names
 abbrev pub child_named : List SchemaNode → List (List ℕ) → List ℕ → Option SchemaNode
-child_named schema names text = option_and_then (if_of_module (module_in text)) (child_at schema names (name_in text))
+child_named schema names text =
+    option_and_then (if_of_module (module_in text)) (child_at schema names (name_in text))
 
 abbrev pub if_fresh : List (List ℕ) → List ℕ → Option SchemaNode → Result SchemaNode RowsFault
 if_fresh seen name None = Err NotInSchema
 if_fresh seen name (Some child) = if list_any (bytes_eq name) seen then Err BadValue else Ok child
 
 -- the child that a member names, where no member before it in the object named the same
-abbrev pub fresh_child : List SchemaNode → List (List ℕ) → List (List ℕ) → List ℕ → Result SchemaNode RowsFault
+abbrev pub fresh_child :
+    List SchemaNode → List (List ℕ) → List (List ℕ) → List ℕ → Result SchemaNode RowsFault
 fresh_child schema names seen text = if_fresh seen (name_in text) (child_named schema names text)

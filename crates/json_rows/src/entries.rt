@@ -7,9 +7,10 @@ ghost use Rattle.serde_json.specs.View.{view};
 ghost use Rattle.serde_json.specs.Find.{get};
 ghost use Rattle.base_kinds.specs.Paths.{text_cmp};
 ghost use Rattle.schema_core.specs.Nodes.{names_at, names_above};
+ghost use Rattle.base_lists.specs.Results.{IsUnlessMemory};
 ghost use Rattle.json_rows.specs.Leaves.{leaf_at};
 ghost use Rattle.json_rows.specs.Members.{qualified};
-ghost use Rattle.json_rows.specs.Entries.{one_spelling, text_told, key_read, needed, and_then, with_key, keys_from, same_key, same_keys, if_other, agrees, keys_agree};
+ghost use Rattle.json_rows.specs.Entries.{only_member, key_text_of, key_of_entry, required_key, with_key, keys_of_entry, same_key, same_keys, keys_unless_seen, key_as_in_path, entry_keys_agree};
 
 use crate::fault::RowsFault;
 use crate::leaves::leaf_at;
@@ -42,8 +43,10 @@ fn only_member<'j>(
     name: &str,
     qualified: &str,
 ) -> Result<Option<&'j Json>, RowsFault>
-    ensures ok { IfOk result (λ found. one_spelling (get name.now (view entry.now)) (get qualified.now (view entry.now)) ≡ Ok (option_map (λ json. view json.now) found)) }
-    ensures fault { IfErr result (λ fault. one_spelling (get name.now (view entry.now)) (get qualified.now (view entry.now)) ≡ Err fault) }
+    ensures ok { IfOk result (λ found. only_member (get name.now (view entry.now))
+        (get qualified.now (view entry.now)) ≡ Ok (option_map (λ json. view json.now) found)) }
+    ensures fault { IfErr result (λ fault. only_member (get name.now (view entry.now))
+        (get qualified.now (view entry.now)) ≡ Err fault) }
 {
     match (entry.get(name), entry.get(qualified)) {
         (None, other) => Ok(other),
@@ -53,9 +56,11 @@ fn only_member<'j>(
 }
 
 /// The text of the key that a key leaf's value is.
-fn text_told(alloc: Global, leaf: &Node, json: &Json) -> Result<Text, RowsFault>
-    ensures ok { IfOk result (λ text. text_told (leaf_at leaf.now.shape (view json.now)) ≡ Ok (Some text)) }
-    ensures fault { IfErr result (λ fault. fault ≢ RowsFault.NoMemory → text_told (leaf_at leaf.now.shape (view json.now)) ≡ Err fault) }
+fn key_text_of(alloc: Global, leaf: &Node, json: &Json) -> Result<Text, RowsFault>
+    ensures ok { IfOk result (λ text. key_text_of (leaf_at leaf.now.shape (view json.now))
+        ≡ Ok (Some text)) }
+    ensures fault { IfErr result (λ fault. fault ≢ RowsFault.NoMemory
+        → key_text_of (leaf_at leaf.now.shape (view json.now)) ≡ Err fault) }
 {
     let Some(value) = leaf_at(alloc, leaf.shape(), json)? else {
         return Err(RowsFault::BadValue);
@@ -64,7 +69,7 @@ fn text_told(alloc: Global, leaf: &Node, json: &Json) -> Result<Text, RowsFault>
 }
 
 /// The text of the key with this name in an entry of the list, where the entry has it.
-fn key_read(
+fn key_of_entry(
     alloc: Global,
     schema: &Schema,
     list: NodeId,
@@ -72,8 +77,8 @@ fn key_read(
     entry: &Json,
 ) -> Result<Option<Text>, RowsFault>
     requires { list.0 < length schema.now }
-    ensures ok { IfOk result (λ key. key_read schema.now (names_at schema.now list.0) name.now (view entry.now) ≡ Ok key) }
-    ensures fault { IfErr result (λ fault. fault ≢ RowsFault.NoMemory → key_read schema.now (names_at schema.now list.0) name.now (view entry.now) ≡ Err fault) }
+    ensures answer { IsUnlessMemory RowsFault.NoMemory result
+        (key_of_entry schema.now (names_at schema.now list.0) name.now (view entry.now)) }
 {
     let Some(id) = schema.child_of(Some(list), name.octets()) else {
         return Err(RowsFault::BadValue);
@@ -82,7 +87,7 @@ fn key_read(
     let full = qualified(alloc, leaf.module_name(), name)?;
     match only_member(entry, str_of(name), full.as_str())? {
         None => Ok(None),
-        Some(json) => Ok(Some(text_told(alloc, leaf, json)?)),
+        Some(json) => Ok(Some(key_text_of(alloc, leaf, json)?)),
     }
 }
 
@@ -116,7 +121,7 @@ fn with_key(keys: Keys, key: (Text, Text)) -> Result<Keys, NoMemory>
 }
 
 /// The keys of an entry of an array, which has them all.
-pub(crate) fn keys_of(
+pub(crate) fn keys_of_entry(
     alloc: Global,
     schema: &Schema,
     list: NodeId,
@@ -124,12 +129,12 @@ pub(crate) fn keys_of(
     entry: &Json,
 ) -> Result<Keys, RowsFault>
     requires { list.0 < length schema.now }
-    ensures ok { IfOk result (λ keys. keys_from schema.now (names_at schema.now list.0) (view entry.now) [] names.now ≡ Ok keys) }
-    ensures fault { IfErr result (λ fault. fault ≢ RowsFault.NoMemory → keys_from schema.now (names_at schema.now list.0) (view entry.now) [] names.now ≡ Err fault) }
+    ensures answer { IsUnlessMemory RowsFault.NoMemory result
+        (keys_of_entry schema.now (names_at schema.now list.0) (view entry.now) [] names.now) }
 {
     let mut keys: Keys = Seq::empty(alloc);
     for name in names {
-        let Some(text) = key_read(alloc, schema, list, name, entry)? else {
+        let Some(text) = key_of_entry(alloc, schema, list, name, entry)? else {
             return Err(RowsFault::BadValue);
         };
         keys = with_key(keys, (name.copy(alloc)?, text))?;
@@ -145,7 +150,7 @@ fn has_key(keys: &Keys, name: &Text, text: &Text) -> bool
 }
 
 /// Looks whether the entry's keys are those of its path, as far as it has them.
-pub(crate) fn keys_agree(
+pub(crate) fn entry_keys_agree(
     alloc: Global,
     schema: &Schema,
     list: NodeId,
@@ -154,11 +159,14 @@ pub(crate) fn keys_agree(
     entry: &Json,
 ) -> Result<(), RowsFault>
     requires { list.0 < length schema.now }
-    ensures ok { OnOk result (keys_agree schema.now (names_at schema.now list.0) keys.now (view entry.now) names.now ≡ Ok tt) }
-    ensures fault { IfErr result (λ fault. fault ≢ RowsFault.NoMemory → keys_agree schema.now (names_at schema.now list.0) keys.now (view entry.now) names.now ≡ Err fault) }
+    ensures ok { OnOk result (entry_keys_agree schema.now (names_at schema.now list.0) keys.now
+        (view entry.now) names.now ≡ Ok tt) }
+    ensures fault { IfErr result (λ fault. fault ≢ RowsFault.NoMemory
+        → entry_keys_agree schema.now (names_at schema.now list.0) keys.now
+        (view entry.now) names.now ≡ Err fault) }
 {
     for name in names {
-        if let Some(text) = key_read(alloc, schema, list, name, entry)? {
+        if let Some(text) = key_of_entry(alloc, schema, list, name, entry)? {
             if !has_key(keys, name, &text) {
                 return Err(RowsFault::BadValue);
             }

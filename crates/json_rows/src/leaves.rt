@@ -5,21 +5,21 @@ ghost use Rattle.base_kinds.specs.declared.schema.Shape.TheVariants as shapes;
 ghost use Rattle.base_kinds.specs.Values.{is_list};
 ghost use Rattle.serde_json.specs.Data.{number as number_data_of, string};
 ghost use Rattle.serde_json.specs.View.{view, number_view};
-ghost use Rattle.json_rows.specs.Leaves.{meaning, leaf_of, leaf_at};
+ghost use Rattle.json_rows.specs.Leaves.{value_of_data, leaf_of, leaf_at};
 
-use crate::texts::{decimal_of, integer_of, natural_of, octets_of, text_of};
+use crate::texts::{octets_of, text_of};
 use base_kinds::{NoMemory, Shape, Value};
 use serde_json::{Number, Value as Json};
 use std::alloc::Global;
-use value_core::check_value;
+use value_core::{check_value, read_decimal, read_integer, read_natural};
 
-fn int_meant(width: u8, json: &Json) -> Option<Value>
-    ensures { result ≡ meaning (shapes.Int width) (view json.now) }
+fn int_of(width: u8, json: &Json) -> Option<Value>
+    ensures { result ≡ value_of_data (shapes.Int width) (view json.now) }
 {
     match json {
         Json::Number(number) => number.as_i64().map(Value::Int),
         Json::String(text) => if width == 64 {
-            integer_of(text.as_bytes()).map(Value::Int)
+            read_integer(text.as_bytes()).map(Value::Int)
         } else {
             None
         },
@@ -27,13 +27,13 @@ fn int_meant(width: u8, json: &Json) -> Option<Value>
     }
 }
 
-fn uint_meant(width: u8, json: &Json) -> Option<Value>
-    ensures { result ≡ meaning (shapes.Uint width) (view json.now) }
+fn uint_of(width: u8, json: &Json) -> Option<Value>
+    ensures { result ≡ value_of_data (shapes.Uint width) (view json.now) }
 {
     match json {
         Json::Number(number) => number.as_u64().map(Value::Uint),
         Json::String(text) => if width == 64 {
-            natural_of(text.as_bytes()).map(Value::Uint)
+            read_natural(text.as_bytes()).map(Value::Uint)
         } else {
             None
         },
@@ -42,33 +42,34 @@ fn uint_meant(width: u8, json: &Json) -> Option<Value>
 }
 
 /// The decimal that the text of the integer spells.
-fn whole_decimal(alloc: Global, places: u8, number: &Number) -> Result<Option<Value>, NoMemory>
-    ensures { IfOk result (λ value. value ≡ meaning (shapes.Dec places) (number_data_of (number_view number.now))) }
+fn decimal_of_integer(alloc: Global, places: u8, number: &Number) -> Result<Option<Value>, NoMemory>
+    ensures { IfOk result (λ value. value ≡ value_of_data (shapes.Dec places)
+        (number_data_of (number_view number.now))) }
 {
     let Some(integer) = number.as_i64() else {
         return Ok(None);
     };
     let text = format!(in alloc; "{integer}")?;
-    Ok(decimal_meant(places, text.as_bytes()))
+    Ok(decimal_of_text(places, text.as_bytes()))
 }
 
-fn decimal_meant(places: u8, text: &[u8]) -> Option<Value>
-    ensures { result ≡ meaning (shapes.Dec places) (string text.now) }
+fn decimal_of_text(places: u8, text: &[u8]) -> Option<Value>
+    ensures { result ≡ value_of_data (shapes.Dec places) (string text.now) }
 {
-    let digits = decimal_of(places, text)?;
+    let digits = read_decimal(places, text)?;
     Some(Value::Dec(digits, places))
 }
 
 /// What the JSON value would mean, before its range or the listed texts are looked at.
-fn meaning(alloc: Global, shape: &Shape, json: &Json) -> Result<Option<Value>, NoMemory>
-    ensures { IfOk result (λ value. value ≡ meaning shape.now (view json.now)) }
+fn value_of_data(alloc: Global, shape: &Shape, json: &Json) -> Result<Option<Value>, NoMemory>
+    ensures { IfOk result (λ value. value ≡ value_of_data shape.now (view json.now)) }
 {
     match (shape, json) {
         (Shape::Bool, Json::Bool(is)) => Ok(Some(Value::Bool(*is))),
-        (Shape::Int(width), _) => Ok(int_meant(*width, json)),
-        (Shape::Uint(width), _) => Ok(uint_meant(*width, json)),
-        (Shape::Dec(places), Json::Number(number)) => whole_decimal(alloc, *places, number),
-        (Shape::Dec(places), Json::String(text)) => Ok(decimal_meant(*places, text.as_bytes())),
+        (Shape::Int(width), _) => Ok(int_of(*width, json)),
+        (Shape::Uint(width), _) => Ok(uint_of(*width, json)),
+        (Shape::Dec(places), Json::Number(number)) => decimal_of_integer(alloc, *places, number),
+        (Shape::Dec(places), Json::String(text)) => Ok(decimal_of_text(*places, text.as_bytes())),
         (Shape::Text, Json::String(text)) => Ok(Some(Value::Text(text_of(alloc, text.as_str())?))),
         (Shape::Bin, Json::String(text)) => Ok(octets_of(alloc, text.as_bytes())?.map(Value::Bin)),
         (Shape::Enum(_), Json::String(text)) => Ok(Some(Value::Enum(text_of(
@@ -84,7 +85,7 @@ pub(crate) fn leaf_of(alloc: Global, shape: &Shape, json: &Json) -> Result<Optio
     ensures ok { IfOk result (λ value. value ≡ leaf_of shape.now (view json.now)) }
     ensures scalar { IfOk result (λ value. IfSome value (λ v. is_list v ≡ false)) }
 {
-    let Some(value) = meaning(alloc, shape, json)? else {
+    let Some(value) = value_of_data(alloc, shape, json)? else {
         return Ok(None);
     };
     if check_value(shape, &value) {

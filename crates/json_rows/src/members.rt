@@ -46,9 +46,11 @@ fn is_of_module(module_name: Option<&str>, node: &Node) -> bool
 /// The child that a member with this name names.
 fn child_named(schema: &Schema, parent: Option<NodeId>, text: &str) -> Option<NodeId>
     requires { ForSome parent (λ id. id.0 < length schema.now) }
-    ensures node { child_named schema.now (names_above schema.now parent) text.now ≡ option_and_then (λ id. slice_get schema.now id.0) result }
+    ensures node { child_named schema.now (names_above schema.now parent) text.now ≡ option_and_then
+        (λ id. slice_get schema.now id.0) result }
     ensures within { IfSome result (λ id. id.0 < length schema.now) }
-    ensures named { IfSome result (λ id. names_at schema.now id.0 ≡ names_above schema.now parent ++ name_in text.now ∷ []) }
+    ensures named { IfSome result (λ id. names_at schema.now id.0 ≡ names_above schema.now parent
+        ++ name_in text.now ∷ []) }
 {
     let spelling = spelling_of(text);
     let id = schema.child_of(parent, spelling.name.as_bytes())?;
@@ -73,10 +75,13 @@ pub(crate) fn fresh_child(
     text: &str,
 ) -> Result<NodeId, RowsFault>
     requires { ForSome parent (λ id. id.0 < length schema.now) }
-    ensures ok { IfOk result (λ id. IfSome (slice_get schema.now id.0) (λ child. fresh_child schema.now (names_above schema.now parent) seen.now text.now ≡ Ok child)) }
+    ensures ok { IfOk result (λ id. IfSome (slice_get schema.now id.0) (λ child. fresh_child schema.now
+        (names_above schema.now parent) seen.now text.now ≡ Ok child)) }
     ensures within { IfOk result (λ id. id.0 < length schema.now) }
-    ensures named { IfOk result (λ id. names_at schema.now id.0 ≡ names_above schema.now parent ++ name_in text.now ∷ []) }
-    ensures fault { IfErr result (λ fault. fresh_child schema.now (names_above schema.now parent) seen.now text.now ≡ Err fault) }
+    ensures named { IfOk result (λ id. names_at schema.now id.0 ≡ names_above schema.now parent
+        ++ name_in text.now ∷ []) }
+    ensures fault { IfErr result (λ fault. fresh_child schema.now (names_above schema.now parent) seen.now
+        text.now ≡ Err fault) }
 {
     let Some(id) = child_named(schema, parent, text) else {
         return Err(RowsFault::NotInSchema);

@@ -18,7 +18,7 @@ pub(crate) struct SeenKeys {
 impl Model for SeenKeys {
     ghost use Rattle.std.specs.Prelude.{List};
     ghost use Rattle.json_rows.specs.Entries.{KeyList};
-    ghost use Rattle.json_rows.specs.Indexes.{IsIndexed};
+    ghost use Rattle.json_rows.specs.inner.Indexes.{IsIndexed};
 
     ghost Value = { List KeyList };
 

@@ -4,12 +4,12 @@ ghost use Rattle.std.specs.Option.{ForSome};
 ghost use Rattle.base_kinds.specs.Schema.{names_of};
 ghost use Rattle.serde_json.specs.View.{view, items_view, members_view};
 ghost use Rattle.schema_core.specs.Nodes.{names_at, names_above};
-ghost use Rattle.json_rows.specs.Walk.{at_node, members_at, entries_at, object_at};
+ghost use Rattle.json_rows.specs.Walk.{rows_at_node, rows_of_members, rows_of_entries, rows_of_object};
 
-use crate::entries::keys_of;
+use crate::entries::keys_of_entry;
 use crate::fault::RowsFault;
+use crate::leaf_rows::{add_keys, add_leaf, add_list, below};
 use crate::members::{fresh_child, spelling_of};
-use crate::rows::{add_keys, add_leaf, add_list, below};
 use crate::seen_keys::SeenKeys;
 use crate::texts::text_of;
 use base_kinds::{Path, Rows, Seq, Sort, Texts};
@@ -32,8 +32,10 @@ pub(crate) fn add_node(
     requires node { slice_get schema.now id.0 ≡ Some node.now }
     requires within { id.0 < length schema.now }
     requires named { names_at schema.now id.0 ≡ names_of above.now ++ name.now ∷ [] }
-    ensures ok { OnOk result (at_node node.now.sort schema.now node.now above.now name.now rows.old (view json.now) ≡ Ok rows.new) }
-    ensures fault { IfErr result (λ fault. fault ≢ RowsFault.NoMemory → at_node node.now.sort schema.now node.now above.now name.now rows.old (view json.now) ≡ Err fault) }
+    ensures ok { OnOk result (rows_at_node node.now.sort schema.now node.now above.now name.now rows.old
+        (view json.now) ≡ Ok rows.new) }
+    ensures fault { IfErr result (λ fault. fault ≢ RowsFault.NoMemory → rows_at_node node.now.sort schema.now
+        node.now above.now name.now rows.old (view json.now) ≡ Err fault) }
 {
     match (node.sort(), json) {
         (Sort::Container, Json::Object(members)) => {
@@ -67,8 +69,10 @@ fn add_members(
 ) -> Result<(), RowsFault>
     requires within { ForSome parent (λ id. id.0 < length schema.now) }
     requires named { names_above schema.now parent ≡ names_of here.now }
-    ensures ok { OnOk result (members_at schema.now here.now [] rows.old (members_view members.now.entries) ≡ Ok rows.new) }
-    ensures fault { IfErr result (λ fault. fault ≢ RowsFault.NoMemory → members_at schema.now here.now [] rows.old (members_view members.now.entries) ≡ Err fault) }
+    ensures ok { OnOk result (rows_of_members schema.now here.now [] rows.old
+        (members_view members.now.entries) ≡ Ok rows.new) }
+    ensures fault { IfErr result (λ fault. fault ≢ RowsFault.NoMemory → rows_of_members schema.now here.now []
+        rows.old (members_view members.now.entries) ≡ Err fault) }
 {
     let mut seen: Texts = Seq::empty(alloc);
     for (text, json) in members.iter() {
@@ -94,12 +98,14 @@ fn add_entries(
 ) -> Result<(), RowsFault>
     requires within { id.0 < length schema.now }
     requires named { names_at schema.now id.0 ≡ names_of above.now ++ name.now ∷ [] }
-    ensures ok { OnOk result (entries_at schema.now node.now above.now name.now [] rows.old (items_view items.now.items) ≡ Ok rows.new) }
-    ensures fault { IfErr result (λ fault. fault ≢ RowsFault.NoMemory → entries_at schema.now node.now above.now name.now [] rows.old (items_view items.now.items) ≡ Err fault) }
+    ensures ok { OnOk result (rows_of_entries schema.now node.now above.now name.now [] rows.old
+        (items_view items.now.items) ≡ Ok rows.new) }
+    ensures fault { IfErr result (λ fault. fault ≢ RowsFault.NoMemory → rows_of_entries schema.now node.now
+        above.now name.now [] rows.old (items_view items.now.items) ≡ Err fault) }
 {
     let mut seen = SeenKeys::empty(alloc);
     for item in items {
-        let keys = keys_of(alloc, schema, id, node.keys().items(), item)?;
+        let keys = keys_of_entry(alloc, schema, id, node.keys().items(), item)?;
         add_keys(alloc, &mut seen, &keys)?;
         let here = below(alloc, above, name, keys)?;
         add_object(alloc, schema, Some(id), &here, item, rows)?;
@@ -119,8 +125,9 @@ pub(crate) fn add_object(
 ) -> Result<(), RowsFault>
     requires within { ForSome parent (λ id. id.0 < length schema.now) }
     requires named { names_above schema.now parent ≡ names_of here.now }
-    ensures ok { OnOk result (object_at schema.now here.now rows.old (view json.now) ≡ Ok rows.new) }
-    ensures fault { IfErr result (λ fault. fault ≢ RowsFault.NoMemory → object_at schema.now here.now rows.old (view json.now) ≡ Err fault) }
+    ensures ok { OnOk result (rows_of_object schema.now here.now rows.old (view json.now) ≡ Ok rows.new) }
+    ensures fault { IfErr result (λ fault. fault ≢ RowsFault.NoMemory → rows_of_object schema.now here.now
+        rows.old (view json.now) ≡ Err fault) }
 {
     match json {
         Json::Object(members) => add_members(alloc, schema, parent, here, members, rows),

@@ -14,7 +14,7 @@ use Rattle.base_kinds.specs.Schema.{SchemaNode, names_of, same_names, node_of, n
 use Rattle.base_kinds.specs.Valid.{if_some, step_has_node, row_has_nodes, row_has_type, has_just_keys}
 use Rattle.base_kinds.specs.Ancestors.{path_steps_from, path_steps}
 use Rattle.history_laws.proofs.PathOrder.{elem_total}
-use Rattle.json_text.specs.Laws.{IsWhole, row_ordered, step_ordered, in_name_order}
+use Rattle.json_text.specs.laws.Rows.{IsWhole, row_ordered, step_ordered, in_name_order}
 use Rattle.schema_core.proofs.NodeLemmas.{same_decides}
 use Rattle.json_text.proofs.Parts.{apart, equal_texts}
 

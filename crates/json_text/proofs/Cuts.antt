@@ -2,7 +2,7 @@
 use Rattle.std.proofs.Common.{◌≡◌, ℕ, suc, ◌+◌, ◌<◌, ◌≤◌, List, [], ◌∷◌, Bool, true, false, cond, length, take, drop, get_or, refl, ap, sym, ◌∙◌, arith}
 use Rattle.base_kinds.specs.declared.operation.Row.{Row}
 use Rattle.json_text.specs.Runs.{with_front, runs}
-use Rattle.json_text.specs.Splits.{run_length}
+use Rattle.json_text.specs.inner.Splits.{run_length}
 
 front_at : (same : Row → Row → Bool) (row next : Row) (rows : List Row) (is : Bool) → same row next ≡ is
     → runs same (next ∷ rows) ≡ (next ∷ take (run_length same next rows) rows) ∷ runs same (drop (run_length same next rows) rows)

@@ -1,5 +1,5 @@
 -- What is written nests no deeper than what is read.
-use Rattle.std.proofs.Common.{◌≡◌, ℕ, zero, suc, ◌*◌, ◌≤◌, List, [], ◌∷◌, map, length, Bool, true, false, cond, Option, Some, None, Ordering, Less, Equal, Greater, ap, ◌∙◌, arith}
+use Rattle.std.proofs.Common.{◌≡◌, ℕ, zero, suc, ◌*◌, ◌≤◌, List, [], ◌∷◌, map, length, Bool, true, false, cond, Option, Some, None, Ok, Ordering, Less, Equal, Greater, ap, ◌∙◌, arith}
 use Rattle.std.specs.Prelude.{fold, max}
 use Rattle.std.specs.Ordering.{match_ordering, nat_cmp}
 use Rattle.std.specs.Cmp.Lexicographic.{slice_cmp}
@@ -8,7 +8,7 @@ use Rattle.serde_json.specs.Read.{read, max_depth}
 use Rattle.serde_json.specs.View.{items_of}
 use Rattle.std.specs.Prelude.{IsUtf8}
 use Rattle.std.proofs.lemmas.Str.{is_utf8-from_IsUtf8}
-use Rattle.json_rows.specs.Reading.{data_of}
+use Rattle.json_rows.specs.Rows.{data_of, rows_of_data, rows_of}
 use Rattle.serde_json.specs.Find.{of_integer}
 use Rattle.base_kinds.specs.declared.path.Elem.{Elem}
 use Rattle.base_kinds.specs.declared.operation.Row.{Row}
@@ -21,7 +21,9 @@ use Rattle.base_kinds.specs.Schema.{SchemaNode, names_of, node_at}
 use Rattle.base_kinds.specs.Values.{is_list, values_in}
 use Rattle.json_text.specs.Leaves.{is_wide, scalar_data, leaf_data}
 use Rattle.json_text.specs.Runs.{runs, share_name, share_entry}
-use Rattle.json_text.specs.Trees.{member_name, value_data, node_data, child_of_rows, with_member, members_data, member_step, most_levels, ends_plain, value_at_node, json_data}
+use Rattle.json_text.specs.Trees.{member_name, value_data, node_data, child_of_rows, with_member, members_data, ends_plain, value_at_node, json_data}
+use Rattle.base_kinds.specs.Limits.{most_elements}
+use Rattle.json_text.specs.inner.Steps.{member_step}
 
 either_deep : (n : ℕ) (b : Bool) (d e : Data) → depth d ≤ n → depth e ≤ n → depth (cond b d e) ≤ n
 either_deep n true d e p q = p
@@ -49,6 +51,9 @@ leaf_deep shape value =
     let many = scalars_deep shape (values_in value) in
     let one = scalar_deep shape value in
     either_deep 1 (is_list value) (array (items_of (map (scalar_data shape) (values_in value)))) (scalar_data shape value) (omega (arith, many)) (omega (arith, one))
+
+pub leaf_within : (shape : Shape) (value : Value) → depth (leaf_data shape value) ≤ max_depth
+leaf_within shape value = let one = leaf_deep shape value in omega (arith, one)
 
 put_at : (o : Ordering) (n : ℕ) (k l : List ℕ) (d e : Data) (ms : Members) → depth d ≤ n → depth e ≤ n → members_depth ms ≤ n → members_depth (put k d ms) ≤ n → members_depth (match_ordering o (member k d (member l e ms)) (member l d ms) (member l e (put k d ms))) ≤ n
 put_at Less n k l d e ms p q r later = more_deep _ _ n p (more_deep _ _ n q r)
@@ -105,11 +110,15 @@ at_node_deep n inside p None path rows = omega arith
 at_node_deep n inside p (Some node) path rows = let one = p rows in either_deep (suc (suc n)) (ends_plain path) _ (object (inside rows)) (node_deep n inside p node.sort node.shape _ rows) (omega (arith, one))
 
 pub json_deep : (schema : List SchemaNode) (path : List Elem) (rows : List Row) → depth (json_data schema path rows) ≤ max_depth
-json_deep schema [] rows = let all = members_deep most_levels schema None [] 0 rows in omega (arith, all)
+json_deep schema [] rows = let all = members_deep most_elements schema None [] 0 rows in omega (arith, all)
 json_deep schema (elem ∷ elems) rows =
-    let all = at_node_deep (2 * most_levels) _ (members_deep most_levels schema None (names_of (elem ∷ elems)) (length (elem ∷ elems))) (node_at schema (elem ∷ elems)) (elem ∷ elems) rows in
+    let all = at_node_deep (2 * most_elements) _ (members_deep most_elements schema None (names_of (elem ∷ elems)) (length (elem ∷ elems))) (node_at schema (elem ∷ elems)) (elem ∷ elems) rows in
     omega (arith, all)
 
 -- UTF-8 that is read is the data of the text
 pub data_read : (text : List ℕ) (json : Data) → IsUtf8 text → read text ≡ Some json → data_of text ≡ Some json
 data_read text json utf8 is = ap (λ t. cond t (read text) None) (is_utf8-from_IsUtf8 text utf8) ∙ is
+
+-- and then the text means what its data means
+pub text_back : (schema : List SchemaNode) (path : List Elem) (rows : List Row) (text : List ℕ) (json : Data) → data_of text ≡ Some json → rows_of_data schema path (Some json) ≡ Ok rows → rows_of schema path text ≡ Ok rows
+text_back schema path rows text json is means = ap (λ (found : Option Data). rows_of_data schema path found) is ∙ means

@@ -11,8 +11,9 @@ use Rattle.base_kinds.specs.declared.operation.Row.{Row}
 use Rattle.base_kinds.specs.Schema.{SchemaNode, names_of}
 use Rattle.json_rows.specs.declared.fault.RowsFault.{RowsFault}
 use Rattle.json_rows.specs.declared.fault.RowsFault.TheVariants.{BadValue}
-use Rattle.json_rows.specs.Entries.{KeyList, and_then, keys_from, same_keys, if_other}
-use Rattle.json_rows.specs.Walk.{Told, below, members_at, entries_at, object_at}
+use Rattle.base_lists.specs.Results.{and_then}
+use Rattle.json_rows.specs.Entries.{KeyList, keys_of_entry, same_keys, keys_unless_seen}
+use Rattle.json_rows.specs.Walk.{RowsOrFault, below, rows_of_members, rows_of_entries, rows_of_object}
 use Rattle.json_text.proofs.RunsBack.{whole}
 
 none_or : (a b : Bool) → a ≡ false → b ≡ false → (a || b) ≡ false
@@ -23,8 +24,8 @@ module _ (schema : List SchemaNode) (node : SchemaNode) (here : List Elem) (name
     pub keys : KeyList
     pub rows : List Row
     pub same : IsPermutation entry rows
-    pub keyed : keys_from schema (names_of here ++ name ∷ []) (object (inside entry)) [] node.keys ≡ Ok keys
-    pub told : (before : List Row) → members_at schema (below here name keys) [] before (inside entry) ≡ Ok (before ++ rows)
+    pub keyed : keys_of_entry schema (names_of here ++ name ∷ []) (object (inside entry)) [] node.keys ≡ Ok keys
+    pub told : (before : List Row) → rows_of_members schema (below here name keys) [] before (inside entry) ≡ Ok (before ++ rows)
     pub labelled : keys ≡ keys_in entry
 
   abbrev pub AllOther : KeyList → (gs : List (List Row)) → AllByRecursion EntryBack gs → Type 0
@@ -67,7 +68,7 @@ module _ (schema : List SchemaNode) (node : SchemaNode) (here : List Elem) (name
   pub record EntriesTold (seen : List KeyList) (gs : List (List Row)) : Type 0 where
     pub rows : List Row
     pub same : IsPermutation (whole gs) rows
-    pub told : (before : List Row) → entries_at schema node here name seen before (items gs) ≡ Ok (before ++ rows)
+    pub told : (before : List Row) → rows_of_entries schema node here name seen before (items gs) ≡ Ok (before ++ rows)
 
   entries_from : (gs : List (List Row)) (all : AllByRecursion EntryBack gs) → DistinctKeys gs all → (seen : List KeyList) → Unseen seen gs all → EntriesTold seen gs
   entries_from [] all own seen fresh = record { rows = []; same = IsPermutation-refl []; told = λ before. ap Ok (sym (append-nil before)) }
@@ -78,9 +79,9 @@ module _ (schema : List SchemaNode) (node : SchemaNode) (here : List Elem) (name
         rows = e.rows ++ rest.rows;
         same = IsPermutation-append _ _ _ _ e.same rest.same;
         told = λ before.
-            let after : KeyList → Told = λ keys. and_then (λ (more : List Row). entries_at schema node here name (seen ++ keys ∷ []) more (items gs)) (object_at schema (below here name keys) before (object (inside g))) in
-            ap (λ (r : Result KeyList RowsFault). and_then after (and_then (if_other seen) r)) e.keyed ∙ ap (λ (t : Bool). and_then after (cond t (Err BadValue) (Ok e.keys))) fresh.0
-            ∙ ap (and_then (λ (more : List Row). entries_at schema node here name (seen ++ e.keys ∷ []) more (items gs))) (e.told before) ∙ rest.told (before ++ e.rows) ∙ ap Ok (append_assoc before e.rows rest.rows);
+            let after : KeyList → RowsOrFault = λ keys. and_then (rows_of_object schema (below here name keys) before (object (inside g))) (λ (more : List Row). rows_of_entries schema node here name (seen ++ keys ∷ []) more (items gs)) in
+            ap (λ (r : Result KeyList RowsFault). and_then (and_then r (keys_unless_seen seen)) after) e.keyed ∙ ap (λ (t : Bool). and_then (cond t (Err BadValue) (Ok e.keys)) after) fresh.0
+            ∙ ap (λ answer. and_then answer (λ (more : List Row). rows_of_entries schema node here name (seen ++ e.keys ∷ []) more (items gs))) (e.told before) ∙ rest.told (before ++ e.rows) ∙ ap Ok (append_assoc before e.rows rest.rows);
       }
 
   -- the entries are read as their rows

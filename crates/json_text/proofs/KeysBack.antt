@@ -6,8 +6,9 @@ use Rattle.serde_json.specs.Data.{Data}
 use Rattle.base_kinds.specs.Schema.{SchemaNode}
 use Rattle.base_kinds.specs.Paths.{text_cmp}
 use Rattle.json_rows.specs.declared.fault.RowsFault.{RowsFault}
-use Rattle.json_rows.specs.Entries.{KeyList, and_then, key_read, with_key, needed, keys_from}
-use Rattle.json_text.specs.Laws.{with_name, in_name_order}
+use Rattle.base_lists.specs.Results.{and_then}
+use Rattle.json_rows.specs.Entries.{KeyList, key_of_entry, with_key, required_key, keys_of_entry}
+use Rattle.json_text.specs.laws.Rows.{with_name, in_name_order}
 
 abbrev pub firsts : KeyList → List (List ℕ)
 firsts keys = map (λ (key : List ℕ × List ℕ). key.0) keys
@@ -31,14 +32,14 @@ all_with P key (other ∷ others) a all = all_with_at P (is_gt (text_cmp other.0
 module _ (schema : List SchemaNode) (names : List (List ℕ)) (json : Data) where
   -- the entry has the key
   abbrev pub Read : List ℕ × List ℕ → Type 0
-  Read key = key_read schema names key.0 json ≡ Ok (Some key.1)
+  Read key = key_of_entry schema names key.0 json ≡ Ok (Some key.1)
 
   abbrev pub Readable : List ℕ → Type 0
-  Readable name = (text : List ℕ) × (key_read schema names name json ≡ Ok (Some text))
+  Readable name = (text : List ℕ) × (key_of_entry schema names name json ≡ Ok (Some text))
 
   pub record KeysTold (done : KeyList) (ks : List (List ℕ)) : Type 0 where
     pub keys : KeyList
-    pub is : keys_from schema names json done ks ≡ Ok keys
+    pub is : keys_of_entry schema names json done ks ≡ Ok keys
     pub reads : AllByRecursion Read keys
     pub order : firsts keys ≡ in_name_order (firsts done) ks
 
@@ -49,7 +50,7 @@ module _ (schema : List SchemaNode) (names : List (List ℕ)) (json : Data) wher
       let rest = keys_told (with_key (k, text) done) ks (all_with Read (k, text) done all.0.1 reads) all.1 in
       record {
         keys = rest.keys;
-        is = ap (λ (r : Result (Option (List ℕ)) RowsFault). and_then (λ t. keys_from schema names json (with_key (k, t) done) ks) (and_then needed r)) all.0.1 ∙ rest.is;
+        is = ap (λ (r : Result (Option (List ℕ)) RowsFault). and_then (and_then r required_key) (λ t. keys_of_entry schema names json (with_key (k, t) done) ks)) all.0.1 ∙ rest.is;
         reads = rest.reads;
         order = rest.order ∙ ap (λ (ns : List (List ℕ)). in_name_order ns ks) (firsts_with (k, text) done);
       }
@@ -61,13 +62,13 @@ module _ (schema : List SchemaNode) (names : List (List ℕ)) (json : Data) wher
   same_keys_read (key ∷ a) (other ∷ b) x y e =
       let name : key.0 ≡ other.0 = cc in
       let rest : firsts a ≡ firsts b = cc in
-      let told : Ok (Some key.1) ≡ Ok (Some other.1) = sym x.0 ∙ ap (λ (n : List ℕ). key_read schema names n json) name ∙ y.0 in
+      let told : Ok (Some key.1) ≡ Ok (Some other.1) = sym x.0 ∙ ap (λ (n : List ℕ). key_of_entry schema names n json) name ∙ y.0 in
       let text : key.1 ≡ other.1 = cc in
       let pair : key ≡ other = ap (λ (n : List ℕ). (n, key.1)) name ∙ ap (λ (t : List ℕ). (other.0, t)) text in
       ap (λ (k : List ℕ × List ℕ). k ∷ a) pair ∙ ap (λ (ks : KeyList). other ∷ ks) (same_keys_read a b x.1 y.1 rest)
 
   -- where each key of the element can be read, and the element has just the list's keys in the order of their names
-  pub keys_back : (keys : KeyList) (ks : List (List ℕ)) → AllByRecursion Read keys → AllByRecursion Readable ks → firsts keys ≡ in_name_order [] ks → keys_from schema names json [] ks ≡ Ok keys
+  pub keys_back : (keys : KeyList) (ks : List (List ℕ)) → AllByRecursion Read keys → AllByRecursion Readable ks → firsts keys ≡ in_name_order [] ks → keys_of_entry schema names json [] ks ≡ Ok keys
   keys_back keys ks reads all order =
       let told = keys_told [] ks tt all in
       told.is ∙ ap Ok (same_keys_read told.keys keys told.reads reads (told.order ∙ sym order))

@@ -9,7 +9,7 @@ use Rattle.std.specs.Str.{bytes_eq}
 use Rattle.std.specs.Ordering.{int_eq}
 use Rattle.std.specs.Cmp.{booleans_Decides}
 use Rattle.std.specs.Fmt.{decimal, signed_decimal}
-use Rattle.std.proofs.lemmas.Bool.{eqb-true, and_parts}
+use Rattle.std.proofs.lemmas.Bool.{eqb-true, and_parts, ltb-true}
 use Rattle.std.proofs.lemmas.Bool.Decides.{Decides-int_eq, Decides-eqb, Decides-and, nat_tests}
 use Rattle.std.proofs.lemmas.Slice.Eq.{bytes_eq-Decides}
 use Rattle.std.proofs.lemmas.List.Folds.{list_any-append}
@@ -29,12 +29,15 @@ use Rattle.base_kinds.specs.Texts.{dec_text, base64_text}
 use Rattle.base_kinds.specs.Values.{has_shape, fits_signed, same_scalar, all_differ}
 use Rattle.value_core.specs.KeyTexts.{IsStored}
 use Rattle.value_core.proofs.DecimalTexts.{read_back}
-use Rattle.json_rows.specs.Texts.{integer_of, natural_of, octets_of}
-use Rattle.json_rows.specs.Leaves.{leaf_of, if_shaped, if_new, values_from}
-use Rattle.json_rows.proofs.Numbers.{natural_read, integer_read}
-use Rattle.json_rows.proofs.DecimalTexts.{decimal_read}
+use Rattle.value_core.specs.Base64.{octets_of}
+use Rattle.value_core.specs.Integers.{integer_of, natural_of}
+use Rattle.json_rows.specs.Leaves.{leaf_of, if_shaped, unless_listed, values_from}
+use Rattle.value_core.proofs.Keys.{bytes_from}
+use Rattle.value_core.proofs.IntegersRead.{natural_read, integer_read}
+use Rattle.value_core.proofs.DecimalsRead.{decimal_read}
 use Rattle.json_text.specs.Leaves.{scalar_data}
-use Rattle.json_text.specs.Laws.{IsScalarOf, LeavesReadBack, LeafListsReadBack}
+use Rattle.json_text.specs.laws.ReadBack.{LeavesReadBack, LeafListsReadBack}
+use Rattle.json_text.specs.laws.Rows.{IsScalarOf}
 
 number_back : (z : ℤ) → fits_signed 64 z ≡ true → as_i64 (of_integer z) ≡ Some z
 number_back (pos n) held = ap (λ t. cond t (Some (pos n)) None) held
@@ -71,10 +74,10 @@ octets_back b h = ap (λ r. result_ok r) (decode_of-encode_of standard b refl h)
 back : (shape : Shape) (value : Value) → has_shape shape value ≡ true → is_fit_scalar value ≡ true → IsStored value → leaf_of shape (scalar_data shape value) ≡ Some value
 back shapes.Bool (v.Bool b) fit one held = refl
 back (shapes.Int width) (v.Int z) fit one held = int_at width z (width == 64) refl fit held
-back (shapes.Uint width) (v.Uint n) fit one held = uint_at width n (width == 64) refl fit held
+back (shapes.Uint width) (v.Uint n) fit one held = uint_at width n (width == 64) refl fit (ltb-true n (2 ^ 64) held)
 back (shapes.Dec places) (v.Dec z others) fit one held = dec_at places others z (eqb-true places others fit) (leb-true 1 others (and_parts (nat_le 1 others) (nat_le others 18) one).0) held
 back shapes.Text (v.Text t) fit one held = refl
-back shapes.Bin (v.Bin b) fit one held = ap (λ o. option_and_then (if_shaped shapes.Bin) (option_map values.Bin o)) (octets_back b held)
+back shapes.Bin (v.Bin b) fit one held = ap (λ o. option_and_then (if_shaped shapes.Bin) (option_map values.Bin o)) (octets_back b (bytes_from b held))
 back (shapes.Enum texts) (v.Enum t) fit one held = ap (λ is. cond is (Some (values.Enum t)) None) fit
 back _ _ fit one held = absurd (true≢false (sym fit))
 
@@ -158,7 +161,7 @@ values_back : (shape : Shape) (done xs : List Value) → AllByRecursion (IsScala
 values_back shape done [] all new = ap Some (sym (append-nil done))
 values_back shape done (x ∷ xs) all new =
     let rest = items_of (map (scalar_data shape) xs) in
-    ap (λ (o : Option Value). option_and_then (λ w. values_from (Some shape) (done ++ w ∷ []) rest) (option_and_then (if_new done) o)) (leaf_back shape x all.0)
+    ap (λ (o : Option Value). option_and_then (λ w. values_from (Some shape) (done ++ w ∷ []) rest) (option_and_then (unless_listed done) o)) (leaf_back shape x all.0)
     ∙ ap (λ is. option_and_then (λ w. values_from (Some shape) (done ++ w ∷ []) rest) (cond is None (Some x))) new.0
     ∙ values_back shape (done ++ x ∷ []) xs all.1 new.1 ∙ ap Some (append_assoc done (x ∷ []) xs)
 

@@ -24,14 +24,15 @@ use Rattle.history_laws.proofs.PathOrder.{path_total, elem_total, exact_elems}
 use Rattle.schema_core.specs.Nodes.{is_inner}
 use Rattle.schema_core.proofs.NodeLemmas.{stands_there}
 use Rattle.json_rows.specs.Leaves.{leaf_at}
-use Rattle.json_rows.specs.Entries.{KeyList, key_read, keys_from, same_key, same_keys}
-use Rattle.json_rows.specs.Walk.{below, at_node, members_at}
+use Rattle.json_rows.specs.Entries.{KeyList, key_of_entry, keys_of_entry, same_key, same_keys}
+use Rattle.json_rows.specs.Walk.{below, rows_at_node, rows_of_members}
 use Rattle.schema_core.specs.Identifiers.{lacks_colon}
 use Rattle.schema_core.specs.WellFormed.{is_list_node, is_list_sort, IsWellFormed}
 use Rattle.schema_core.proofs.WellFormedLemmas.{own_lacks_colon, name_lacks_colon, formed_node, key_is_leaf}
-use Rattle.json_text.specs.Laws.{IsWhole, row_ordered, in_name_order}
+use Rattle.json_text.specs.laws.Rows.{IsWhole, row_ordered, in_name_order}
 use Rattle.json_text.specs.Runs.{runs, share_name, share_entry, both, same_name, same_elem}
-use Rattle.json_text.specs.Trees.{is_module, member_name, value_data, node_data, entries_data, child_of_rows, with_member, member_step, members_data}
+use Rattle.json_text.specs.Trees.{is_module, member_name, value_data, node_data, entries_data, child_of_rows, with_member, members_data}
+use Rattle.json_text.specs.inner.Steps.{member_step}
 use Rattle.json_text.proofs.Lasts.{own_name-last}
 use Rattle.json_text.proofs.Parts.{Part, as_members, ObjectBack, RunBack, Differ, all_gathered, unlike, walk, rows_in}
 use Rattle.json_text.proofs.RunsBack.{whole, whole_runs, all_in_runs, IsRun, KeysAgree, are_runs, Below, RunsRise, Rise, runs_rise, all_rising}
@@ -126,7 +127,7 @@ module _ (schema : List SchemaNode) (formed : IsWellFormed schema) where
   pub record NodeBack (sort : Sort) (node : SchemaNode) (here : List Elem) (name : List ℕ) (json : Data) (run : List Row) : Type 0 where
     pub rows : List Row
     pub same : IsPermutation run rows
-    pub told : (before : List Row) → at_node sort schema node here name before json ≡ Ok (before ++ rows)
+    pub told : (before : List Row) → rows_at_node sort schema node here name before json ≡ Ok (before ++ rows)
 
   -- the elements of these rows' paths behind the instance have their key leaves among the others
   abbrev pub AllKeyed : List Row → List Elem → List Row → Type 0
@@ -231,7 +232,7 @@ module _ (schema : List SchemaNode) (formed : IsWellFormed schema) where
       record {
         rows = rows_in back.parts;
         same = back.same;
-        told = λ before. ap (members_at schema place [] before) (same ∙ back.is) ∙ walk schema place back.parts before back.reads back.own;
+        told = λ before. ap (rows_of_members schema place [] before) (same ∙ back.is) ∙ walk schema place back.parts before back.reads back.own;
       }
 
   leaf_run : (levels : ℕ) (here : List Elem) (row : Row) (others : List Row) (good : Good schema levels here row) (node : SchemaNode) → node_of schema (names_of here ++ good.elem.name ∷ []) ≡ Some node → has_just_keys good.elem node.keys ≡ true
@@ -246,7 +247,7 @@ module _ (schema : List SchemaNode) (formed : IsWellFormed schema) where
       record {
         rows = row ∷ others;
         same = IsPermutation-refl (row ∷ others);
-        told = λ before. ap (λ (os : List Row). at_node sorts.Leaf schema node here good.elem.name before (value_data node.shape (row ∷ os))) none
+        told = λ before. ap (λ (os : List Row). rows_at_node sorts.Leaf schema node here good.elem.name before (value_data node.shape (row ∷ os))) none
             ∙ leaf_row_back schema formed levels here row good.elem.name node path good.kept sort taken before ∙ ap (λ (os : List Row). Ok (before ++ row ∷ os)) (sym none);
       }
 
@@ -262,7 +263,7 @@ module _ (schema : List SchemaNode) (formed : IsWellFormed schema) where
       record {
         rows = row ∷ others;
         same = IsPermutation-refl (row ∷ others);
-        told = λ before. ap (λ (os : List Row). at_node sorts.LeafList schema node here good.elem.name before (value_data node.shape (row ∷ os))) none
+        told = λ before. ap (λ (os : List Row). rows_at_node sorts.LeafList schema node here good.elem.name before (value_data node.shape (row ∷ os))) none
             ∙ leaf_list_row_back schema formed levels here row good.elem.name node path good.kept sort taken before ∙ ap (λ (os : List Row). Ok (before ++ row ∷ os)) (sym none);
       }
 
@@ -329,7 +330,7 @@ module _ (schema : List SchemaNode) (formed : IsWellFormed schema) where
         let place_found : node_of schema (names_of place) ≡ Some node = ap (node_of schema) (names_below here e ∙ ap (λ (n : List ℕ). names_of here ++ n ∷ []) same) ∙ found in
         let leaf = key_is_leaf schema formed (names_of place) node there.node key.0 place_found among child_found in
         let this = key_found schema place key.0 r.value back.parts back.reads back.own (any_leaf schema place r key.0 there.node back.parts h.2 child_found leaf (back.found r h.1)) in
-        ap (λ (x : Members). key_read schema (names_of place) key.0 (object x)) back.is ∙ key_is_read schema place key.0 r.value (as_members back.parts) this ∙ ap (λ (t : List ℕ). Ok (Some t)) h.3
+        ap (λ (x : Members). key_of_entry schema (names_of place) key.0 (object x)) back.is ∙ key_is_read schema place key.0 r.value (as_members back.parts) this ∙ ap (λ (t : List ℕ). Ok (Some t)) h.3
 
     pub read_keys : (e : Elem) → e.name ≡ name → (entry : List Row) (ms : Members) → AllGood levels (here ++ e ∷ []) entry → (back : ObjectBack schema (here ++ e ∷ []) (KeyLeaf schema (here ++ e ∷ [])) ms entry) → (keys : List (List ℕ × List ℕ)) → ((key : List ℕ) → list_any (bytes_eq key) (firsts keys) ≡ true → list_any (bytes_eq key) node.keys ≡ true) → AllByRecursion (HasKey entry (here ++ e ∷ [])) keys
         → AllByRecursion (Read schema (names_of (here ++ e ∷ [])) (object ms)) keys
@@ -343,7 +344,7 @@ module _ (schema : List SchemaNode) (formed : IsWellFormed schema) where
     readable names json k [] reads any = absurd (true≢false (sym any))
     readable names json k (key ∷ keys) reads any =
         elim (either_true (bytes_eq k key.0) (list_any (λ (pair : List ℕ × List ℕ). bytes_eq k pair.0) keys) any) [
-          | inl w ↦ (key.1, ap (λ (n : List ℕ). key_read schema names n json) ((bytes_eq-Decides k key.0).0 w) ∙ reads.0)
+          | inl w ↦ (key.1, ap (λ (n : List ℕ). key_of_entry schema names n json) ((bytes_eq-Decides k key.0).0 w) ∙ reads.0)
           | inr w ↦ readable names json k keys reads.1 w
         ]
 
@@ -395,9 +396,9 @@ module _ (schema : List SchemaNode) (formed : IsWellFormed schema) where
           keys = e.keys;
           rows = rows_in back.parts;
           same = back.same;
-          keyed = ap (λ (ns : List (List ℕ)). keys_from schema ns (object (written entry)) [] node.keys) (ap (λ (n : List ℕ). names_of here ++ n ∷ []) (sym same) ∙ sym (names_below here e)) ∙ keys_are;
+          keyed = ap (λ (ns : List (List ℕ)). keys_of_entry schema ns (object (written entry)) [] node.keys) (ap (λ (n : List ℕ). names_of here ++ n ∷ []) (sym same) ∙ sym (names_below here e)) ∙ keys_are;
           labelled = ap (λ (x : Elem). x.keys) (sym here_is);
-          told = λ before. ap (λ (p : List Elem). members_at schema p [] before (written entry)) place_is ∙ ap (members_at schema place [] before) back.is ∙ walk schema place back.parts before back.reads back.own;
+          told = λ before. ap (λ (p : List Elem). rows_of_members schema p [] before (written entry)) place_is ∙ ap (rows_of_members schema place [] before) back.is ∙ walk schema place back.parts before back.reads back.own;
         }
 
     all_entries : (all_rows run : List Row) (gs : List (List Row)) → AllByRecursion (AllGood (suc levels) here) gs → AllByRecursion (IsRun (elem_at (length here))) gs → AllByRecursion IsRising gs → AllByRecursion (AllByRecursion (λ other. name_at (length here) other ≡ name)) gs → node.sort ≡ sorts.List → AllByRecursion (AllKeyed all_rows here) gs
@@ -502,8 +503,8 @@ module _ (schema : List SchemaNode) (formed : IsWellFormed schema) where
             | inl w ↦ inl (key ∙ w ∙ own_is ∙ sym name)
             | inr w ↦ inr (key ∙ w ∙ ap (λ (n : List ℕ). node.module_name ++ 58 ∷ n) (own_is ∙ sym name))
           ];
-          name_plain = ap lacks_colon (name ∙ sym own_is) ∙ own_lacks_colon _ (formed_node schema formed _ node found).names;
-          module_plain = name_lacks_colon _ (formed_node schema formed _ node found).module_name;
+          name_plain = ap lacks_colon (name ∙ sym own_is) ∙ own_lacks_colon node.names (formed_node schema formed _ node found).names;
+          module_plain = name_lacks_colon node.module_name (formed_node schema formed _ node found).module_name;
         },
       )
 
@@ -522,8 +523,8 @@ module _ (schema : List SchemaNode) (formed : IsWellFormed schema) where
       let back = node_back levels inside here all_rows row others good node there.found there.just all.1 is up keyed closed node.sort refl in
       let own_is : own_name node.names ≡ good.elem.name = ap own_name (stands_there schema (names_of here ++ good.elem.name ∷ []) node there.found).2 ∙ own_name-last (names_of here) good.elem.name in
       let found : node_of schema (names_of here ++ own_name node.names ∷ []) ≡ Some node = ap (λ (n : List ℕ). node_of schema (names_of here ++ n ∷ [])) own_is ∙ there.found in
-      let module_name = name_lacks_colon _ (formed_node schema formed _ node there.found).module_name in
-      let own = own_lacks_colon _ (formed_node schema formed _ node there.found).names in
+      let module_name = name_lacks_colon node.module_name (formed_node schema formed _ node there.found).module_name in
+      let own = own_lacks_colon node.names (formed_node schema formed _ node there.found).names in
       let child_is : child_of_rows schema (names_of here) (length here) (row ∷ others) ≡ Some node =
       ap (option_and_then (λ (elem : Elem). node_of schema (names_of here ++ elem.name ∷ []))) (first_is schema (suc levels) here row good) ∙ there.found in
       let part : Part = record {

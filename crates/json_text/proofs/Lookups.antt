@@ -13,7 +13,8 @@ use Rattle.base_kinds.specs.Schema.{SchemaNode, names_of, node_of}
 use Rattle.base_kinds.specs.Keys.{key_text}
 use Rattle.json_rows.specs.Leaves.{leaf_at}
 use Rattle.json_rows.specs.Members.{module_in, name_in, qualified}
-use Rattle.json_rows.specs.Entries.{and_then, one_spelling, key_told, text_told, key_at, key_read}
+use Rattle.base_lists.specs.Results.{and_then}
+use Rattle.json_rows.specs.Entries.{only_member, key_of_member, key_text_of, key_of_leaf, key_of_entry}
 use Rattle.schema_core.specs.Identifiers.{lacks_colon}
 use Rattle.json_text.proofs.Parts.{Part, AnyPart, as_members, AllElse, Distinct, AllRead, apart, equal_texts}
 use Rattle.json_text.proofs.Spellings.{name_alone, name_behind, module_none, module_before}
@@ -45,7 +46,7 @@ module _ (schema : List SchemaNode) (here : List Elem) where
     pub child : SchemaNode
     pub found : node_of schema (names_of here ++ k ∷ []) ≡ Some child
     pub json : Data
-    pub one : one_spelling (get_member k ms) (get_member (qualified child.module_name k) ms) ≡ Ok (Some json)
+    pub one : only_member (get_member k ms) (get_member (qualified child.module_name k) ms) ≡ Ok (Some json)
     pub leaf : leaf_at child.shape json ≡ Some value
     pub name_plain : lacks_colon k ≡ true
     pub module_plain : lacks_colon child.module_name ≡ true
@@ -67,12 +68,12 @@ module _ (schema : List SchemaNode) (here : List Elem) where
       let others : AllElse k ps = subst (λ (n : List ℕ). AllElse n ps) same else in
       let none_k = none_named k k ps (name_alone k plain) reads others in
       let none_q = none_named q k ps (name_behind m k leaf.module_plain) reads others in
-      let one : one_spelling (get_member k ms) (get_member q ms) ≡ Ok (Some p.json) =
+      let one : only_member (get_member k ms) (get_member q ms) ≡ Ok (Some p.json) =
       elim leaf.spelled [
         | inl w ↦ let key : p.key ≡ k = w ∙ same in
-            ap (λ (o : Option Data). one_spelling o (get_member q ms)) (get_here k p ps (sym key)) ∙ ap (one_spelling (Some p.json)) (get_skip q p ps (λ e. two_modules k m plain leaf.module_plain (sym key ∙ sym e)) ∙ none_q)
+            ap (λ (o : Option Data). only_member o (get_member q ms)) (get_here k p ps (sym key)) ∙ ap (only_member (Some p.json)) (get_skip q p ps (λ e. two_modules k m plain leaf.module_plain (sym key ∙ sym e)) ∙ none_q)
         | inr w ↦ let key : p.key ≡ q = w ∙ ap (λ (n : List ℕ). m ++ 58 ∷ n) same in
-            ap (λ (o : Option Data). one_spelling o (get_member q ms)) (get_skip k p ps (λ e. two_modules k m plain leaf.module_plain (e ∙ key)) ∙ none_k) ∙ ap (one_spelling None) (get_here q p ps (sym key))
+            ap (λ (o : Option Data). only_member o (get_member q ms)) (get_skip k p ps (λ e. two_modules k m plain leaf.module_plain (e ∙ key)) ∙ none_k) ∙ ap (only_member None) (get_here q p ps (sym key))
       ] in
       record {
         child = leaf.child;
@@ -98,7 +99,7 @@ module _ (schema : List SchemaNode) (here : List Elem) where
         child = rest.child;
         found = rest.found;
         json = rest.json;
-        one = ap (λ (o : Option Data). one_spelling o (get_member q (as_members (p ∷ ps)))) skip_k ∙ ap (one_spelling (get_member k (as_members ps))) skip_q ∙ rest.one;
+        one = ap (λ (o : Option Data). only_member o (get_member q (as_members (p ∷ ps)))) skip_k ∙ ap (only_member (get_member k (as_members ps))) skip_q ∙ rest.one;
         leaf = rest.leaf;
         name_plain = rest.name_plain;
         module_plain = rest.module_plain;
@@ -113,9 +114,9 @@ module _ (schema : List SchemaNode) (here : List Elem) where
       ]
 
   -- the key's text is read
-  pub key_is_read : (k : List ℕ) (value : Value) (ms : Members) → KeyFound k value ms → key_read schema (names_of here) k (object ms) ≡ Ok (Some (key_text value))
+  pub key_is_read : (k : List ℕ) (value : Value) (ms : Members) → KeyFound k value ms → key_of_entry schema (names_of here) k (object ms) ≡ Ok (Some (key_text value))
   key_is_read k value ms found =
-      ap (λ (o : Option SchemaNode). key_at o k (object ms)) found.found ∙ ap (and_then (key_told found.child)) found.one ∙ ap text_told found.leaf
+      ap (λ (o : Option SchemaNode). key_of_leaf o k (object ms)) found.found ∙ ap (λ answer. and_then answer (key_of_member found.child)) found.one ∙ ap key_text_of found.leaf
 
   -- where the row is that of a leaf right below the instance, the member is that leaf
   abbrev pub KeyLeaf : Row → Part → Type 0

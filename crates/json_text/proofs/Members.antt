@@ -11,7 +11,8 @@ use Rattle.base_kinds.specs.declared.schema.Sort.{Sort}
 use Rattle.base_kinds.specs.declared.schema.Sort.TheVariants as sorts
 use Rattle.schema_core.specs.Nodes.{names_at}
 use Rattle.json_text.specs.Runs.{runs, share_name, share_entry}
-use Rattle.json_text.specs.Trees.{member_step, members_data, node_data}
+use Rattle.json_text.specs.Trees.{members_data, node_data}
+use Rattle.json_text.specs.inner.Steps.{member_step}
 
 pub members_none : (levels : ℕ) (schema : List SchemaNode) (above : Option (List ℕ)) (names : List (List ℕ)) (depth : ℕ) (rows : List Row) → levels ≡ 0 → members_data levels schema above names depth rows ≡ no_members
 unfolding members_data

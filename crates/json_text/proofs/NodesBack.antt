@@ -22,11 +22,11 @@ use Rattle.base_kinds.specs.Values.{is_list, values_in, has_shape, all_differ}
 use Rattle.base_kinds.proofs.Lists.{values_in-List}
 use Rattle.schema_core.specs.Nodes.{is_inner}
 use Rattle.json_rows.specs.Leaves.{leaf_at, values_from}
-use Rattle.json_rows.specs.Walk.{below, leaf_told, list_told, at_node}
+use Rattle.json_rows.specs.Walk.{below, rows_with_leaf, rows_with_leaf_list, rows_at_node}
 use Rattle.json_text.specs.Leaves.{scalar_data, leaf_data}
 use Rattle.schema_core.specs.WellFormed.{is_list_node, IsWellFormed}
 use Rattle.schema_core.proofs.WellFormedLemmas.{formed_node, inner_above}
-use Rattle.json_text.specs.Laws.{IsWhole, IsScalarOf, IsPlainScalar}
+use Rattle.json_text.specs.laws.Rows.{IsWhole, IsScalarOf, IsPlainScalar}
 use Rattle.json_text.specs.Trees.{value_data}
 use Rattle.json_text.proofs.LeavesBack.{leaf_back, leaf_list_back}
 use Rattle.json_text.proofs.Below.{Good, front_passes, some_of, names_below}
@@ -112,15 +112,15 @@ module _ (schema : List SchemaNode) (formed : IsWellFormed schema) (levels : ℕ
   row_again row name path value same = ap (λ (w : Value). record { path = below here name []; value = w }) same ∙ ap (λ (p : List Elem). record { path = p; value = row.value }) (sym path)
 
   pub leaf_row_back : (row : Row) (name : List ℕ) (node : SchemaNode) → row.path ≡ below here name [] → IsWhole row.value → node.sort ≡ sorts.Leaf → Taken node row.value → (before : List Row)
-      → at_node sorts.Leaf schema node here name before (value_data node.shape (row ∷ [])) ≡ Ok (before ++ row ∷ [])
+      → rows_at_node sorts.Leaf schema node here name before (value_data node.shape (row ∷ [])) ≡ Ok (before ++ row ∷ [])
   leaf_row_back row name node path whole sort taken before =
       let shape = taken.shape in
       let fit : has_shape shape row.value ≡ true = ap (λ s. has_type s shape row.value) (sym sort) ∙ taken.taken in
       let alone = shaped_alone shape row.value fit in
       let plain : leaf_data shape row.value ≡ scalar_data shape row.value = ap (λ t. cond t (array (items_of (map (scalar_data shape) (values_in row.value)))) (scalar_data shape row.value)) alone in
-      ap (λ (o : Option Shape). leaf_told (below here name []) before (leaf_at o (value_data o (row ∷ [])))) taken.is
-      ∙ ap (λ d. leaf_told (below here name []) before (leaf_at (Some shape) d)) plain
-      ∙ ap (leaf_told (below here name []) before) (leaf_back shape row.value (record { shaped = fit; plain = whole.alone alone }))
+      ap (λ (o : Option Shape). rows_with_leaf (below here name []) before (leaf_at o (value_data o (row ∷ [])))) taken.is
+      ∙ ap (λ d. rows_with_leaf (below here name []) before (leaf_at (Some shape) d)) plain
+      ∙ ap (rows_with_leaf (below here name []) before) (leaf_back shape row.value (record { shaped = fit; plain = whole.alone alone }))
       ∙ ap (λ (r : Row). Ok (before ++ r ∷ [])) (row_again row name path row.value refl)
 
   pub leaf_value_back : (row : Row) (others : List Row) (node : SchemaNode) → IsWhole row.value → node.sort ≡ sorts.Leaf → Taken node row.value → leaf_at node.shape (value_data node.shape (row ∷ others)) ≡ Some row.value
@@ -131,12 +131,12 @@ module _ (schema : List SchemaNode) (formed : IsWellFormed schema) (levels : ℕ
       let plain : leaf_data shape row.value ≡ scalar_data shape row.value = ap (λ t. cond t (array (items_of (map (scalar_data shape) (values_in row.value)))) (scalar_data shape row.value)) alone in
       ap (λ (o : Option Shape). leaf_at o (value_data o (row ∷ others))) taken.is ∙ ap (λ (d : Data). leaf_at (Some shape) d) plain ∙ leaf_back shape row.value (record { shaped = fit; plain = whole.alone alone })
 
-  some_told : (xs : List Value) (place : List Elem) (before : List Row) → (xs ≡ [] → ⊥) → list_told place before (Some xs) ≡ Ok (before ++ record { path = place; value = values.List xs } ∷ [])
+  some_told : (xs : List Value) (place : List Elem) (before : List Row) → (xs ≡ [] → ⊥) → rows_with_leaf_list place before (Some xs) ≡ Ok (before ++ record { path = place; value = values.List xs } ∷ [])
   some_told [] place before some = absurd (some refl)
   some_told (x ∷ xs) place before some = refl
 
   pub leaf_list_row_back : (row : Row) (name : List ℕ) (node : SchemaNode) → row.path ≡ below here name [] → IsWhole row.value → node.sort ≡ sorts.LeafList → Taken node row.value → (before : List Row)
-      → at_node sorts.LeafList schema node here name before (value_data node.shape (row ∷ [])) ≡ Ok (before ++ row ∷ [])
+      → rows_at_node sorts.LeafList schema node here name before (value_data node.shape (row ∷ [])) ≡ Ok (before ++ row ∷ [])
   leaf_list_row_back row name node path whole sort taken before =
       let shape = taken.shape in
       let place = below here name [] in
@@ -146,9 +146,9 @@ module _ (schema : List SchemaNode) (formed : IsWellFormed schema) (levels : ℕ
       let parts = and_parts (is_list row.value && list_all (has_shape shape) vs) (all_differ vs) fit in
       let listed = and_parts (is_list row.value) (list_all (has_shape shape) vs) parts.0 in
       let many : leaf_data shape row.value ≡ array items = ap (λ t. cond t (array items) (scalar_data shape row.value)) listed.0 in
-      ap (λ (o : Option Shape). at_node sorts.LeafList schema node here name before (value_data o (row ∷ []))) taken.is
-      ∙ ap (at_node sorts.LeafList schema node here name before) many
-      ∙ ap (λ (o : Option Shape). list_told place before (values_from o [] items)) taken.is
-      ∙ ap (list_told place before) (leaf_list_back shape vs (scalars_of shape vs listed.1 whole.inside) parts.1)
+      ap (λ (o : Option Shape). rows_at_node sorts.LeafList schema node here name before (value_data o (row ∷ []))) taken.is
+      ∙ ap (rows_at_node sorts.LeafList schema node here name before) many
+      ∙ ap (λ (o : Option Shape). rows_with_leaf_list place before (values_from o [] items)) taken.is
+      ∙ ap (rows_with_leaf_list place before) (leaf_list_back shape vs (scalars_of shape vs listed.1 whole.inside) parts.1)
       ∙ some_told vs place before (whole.some listed.0)
       ∙ ap (λ (r : Row). Ok (before ++ r ∷ [])) (row_again row name path (values.List vs) (list_again row.value listed.0))

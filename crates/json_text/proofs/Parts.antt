@@ -14,9 +14,9 @@ use Rattle.base_kinds.specs.declared.path.Elem.{Elem}
 use Rattle.base_kinds.specs.declared.operation.Row.{Row}
 use Rattle.base_kinds.specs.Schema.{SchemaNode, names_of}
 use Rattle.json_rows.specs.declared.fault.RowsFault.TheVariants.{BadValue}
-use Rattle.json_rows.specs.Entries.{and_then}
+use Rattle.base_lists.specs.Results.{and_then}
 use Rattle.json_rows.specs.Members.{child_named, name_in, fresh_child, if_fresh}
-use Rattle.json_rows.specs.Walk.{at_node, members_at}
+use Rattle.json_rows.specs.Walk.{rows_at_node, rows_of_members}
 use Rattle.json_text.proofs.RunsBack.{whole}
 use Rattle.json_text.proofs.Picks.{In, in_append}
 
@@ -160,26 +160,26 @@ module _ (schema : List SchemaNode) (here : List Elem) where
     pub child : SchemaNode
     pub named : child_named schema (names_of here) p.key ≡ Some child
     pub spelled : name_in p.key ≡ p.name
-    pub told : (before : List Row) → at_node child.sort schema child here p.name before p.json ≡ Ok (before ++ p.rows)
+    pub told : (before : List Row) → rows_at_node child.sort schema child here p.name before p.json ≡ Ok (before ++ p.rows)
 
   abbrev pub AllRead : List Part → Type 0
   AllRead ps = AllByRecursion Reads ps
 
-  walk_from : (ps : List Part) (seen : List (List ℕ)) (before : List Row) → AllRead ps → AllUnseen seen ps → Distinct ps → members_at schema here seen before (as_members ps) ≡ Ok (before ++ rows_in ps)
+  walk_from : (ps : List Part) (seen : List (List ℕ)) (before : List Row) → AllRead ps → AllUnseen seen ps → Distinct ps → rows_of_members schema here seen before (as_members ps) ≡ Ok (before ++ rows_in ps)
   walk_from [] seen before reads fresh own = ap Ok (sym (append-nil before))
   walk_from (p ∷ ps) seen before reads fresh own =
       let c = reads.0.child in
       let rest = as_members ps in
       let child_is : fresh_child schema (names_of here) seen p.key ≡ Ok c =
       ap (if_fresh seen (name_in p.key)) reads.0.named ∙ ap (λ n. cond (list_any (bytes_eq n) seen) (Err BadValue) (Ok c)) reads.0.spelled ∙ ap (λ t. cond t (Err BadValue) (Ok c)) fresh.0 in
-      ap (and_then (λ (child : SchemaNode). and_then (λ more. members_at schema here (seen ++ name_in p.key ∷ []) more rest) (at_node child.sort schema child here (name_in p.key) before p.json))) child_is
-      ∙ ap (λ n. and_then (λ more. members_at schema here (seen ++ n ∷ []) more rest) (at_node c.sort schema c here n before p.json)) reads.0.spelled
-      ∙ ap (and_then (λ more. members_at schema here (seen ++ p.name ∷ []) more rest)) (reads.0.told before)
+      ap (λ answer. and_then answer (λ (child : SchemaNode). and_then (rows_at_node child.sort schema child here (name_in p.key) before p.json) (λ more. rows_of_members schema here (seen ++ name_in p.key ∷ []) more rest))) child_is
+      ∙ ap (λ n. and_then (rows_at_node c.sort schema c here n before p.json) (λ more. rows_of_members schema here (seen ++ n ∷ []) more rest)) reads.0.spelled
+      ∙ ap (λ answer. and_then answer (λ more. rows_of_members schema here (seen ++ p.name ∷ []) more rest)) (reads.0.told before)
       ∙ walk_from ps (seen ++ p.name ∷ []) (before ++ p.rows) reads.1 (unseen_more seen p.name ps fresh.1 own.0) own.1
       ∙ ap Ok (append_assoc before p.rows (rows_in ps))
 
   -- the members are read as their rows
-  pub walk : (ps : List Part) (before : List Row) → AllRead ps → Distinct ps → members_at schema here [] before (as_members ps) ≡ Ok (before ++ rows_in ps)
+  pub walk : (ps : List Part) (before : List Row) → AllRead ps → Distinct ps → rows_of_members schema here [] before (as_members ps) ≡ Ok (before ++ rows_in ps)
   walk ps before reads own = walk_from ps [] before reads (all_unseen ps) own
 
   new_key : (p : Part) (qs : List Part) → Reads p → AllRead qs → AllElse p.name qs → NewKey p.key qs

@@ -10,12 +10,14 @@ use Rattle.base_kinds.specs.declared.schema.Sort.{Sort}
 use Rattle.base_kinds.specs.declared.schema.Sort.TheVariants as sorts
 use Rattle.base_kinds.specs.Schema.{SchemaNode, names_of, node_of, node_at}
 use Rattle.base_kinds.specs.Valid.{is_leafy, row_has_type}
-use Rattle.json_rows.specs.Entries.{and_then}
-use Rattle.json_rows.specs.Walk.{below, at_node, members_at}
-use Rattle.json_rows.specs.Reading.{in_order, is_entry, entry_told, at_found, at_end, walked, rows_meant}
+use Rattle.base_lists.specs.Results.{and_then}
+use Rattle.json_rows.specs.Walk.{below, rows_at_node, rows_of_members}
+use Rattle.json_rows.specs.Rows.{rows_by_path, is_entry, rows_of_entry, rows_at_node_of_path, rows_at_path, rows_of_walk, rows_of_data}
 use Rattle.schema_core.specs.WellFormed.{IsWellFormed}
-use Rattle.json_text.specs.Laws.{IsWhole, IsPart, ContainersReadBack, ScalarsReadBack}
-use Rattle.json_text.specs.Trees.{most_levels, members_data, node_data, value_data, value_at_node, ends_plain, json_data}
+use Rattle.json_text.specs.laws.ReadBack.{ContainersReadBack, ScalarsReadBack}
+use Rattle.json_text.specs.laws.Rows.{IsWhole, IsPart}
+use Rattle.json_text.specs.Trees.{members_data, node_data, value_data, value_at_node, ends_plain, json_data}
+use Rattle.base_kinds.specs.Limits.{most_elements}
 use Rattle.json_text.proofs.Lasts.{ends_plain-last}
 use Rattle.json_text.proofs.Below.{get_seam, names_below}
 use Rattle.json_text.proofs.NodesBack.{none_of, taken_there, leaf_row_back, leaf_list_row_back}
@@ -39,7 +41,7 @@ module _ (schema : List SchemaNode) (elem : Elem) (elems : List Elem) (node : Sc
   there = last_of elem elems
 
   abbrev inside : List Row → Rattle.serde_json.specs.Data.Members
-  inside = members_data most_levels schema None (names_of path) (length path)
+  inside = members_data most_elements schema None (names_of path) (length path)
 
   place_is : length path - 1 ≡ length there.front
   place_is =
@@ -64,35 +66,35 @@ module _ (schema : List SchemaNode) (elem : Elem) (elems : List Elem) (node : Sc
       ap (λ (o : Option SchemaNode). value_at_node inside o path rows) at
       ∙ ap (λ (t : Bool). cond t (node_data inside node.sort node.shape (length path - 1) rows) (object (inside rows))) plain
 
-  walk_is : (sort : Sort) (json : Data) → node.sort ≡ sort → is_entry sort there.last.keys ≡ false → walked schema path (Some json) ≡ at_node sort schema node there.front there.last.name [] json
+  walk_is : (sort : Sort) (json : Data) → node.sort ≡ sort → is_entry sort there.last.keys ≡ false → rows_of_walk schema path (Some json) ≡ rows_at_node sort schema node there.front there.last.name [] json
   walk_is sort json is entry =
-      ap (λ (o : Option Elem). at_end schema path o (Some json)) get_is ∙ ap (λ (o : Option SchemaNode). at_found schema path there.last o (Some json)) at
-      ∙ ap (λ (s : Sort). cond (is_entry s there.last.keys) (entry_told schema node path there.last.keys json) (at_node s schema node (take (length path - 1) path) there.last.name [] json)) is
-      ∙ ap (λ (t : Bool). cond t (entry_told schema node path there.last.keys json) (at_node sort schema node (take (length path - 1) path) there.last.name [] json)) entry
-      ∙ ap (λ (front : List Elem). at_node sort schema node front there.last.name [] json) front_is
+      ap (λ (o : Option Elem). rows_at_path schema path o (Some json)) get_is ∙ ap (λ (o : Option SchemaNode). rows_at_node_of_path schema path there.last o (Some json)) at
+      ∙ ap (λ (s : Sort). cond (is_entry s there.last.keys) (rows_of_entry schema node path there.last.keys json) (rows_at_node s schema node (take (length path - 1) path) there.last.name [] json)) is
+      ∙ ap (λ (t : Bool). cond t (rows_of_entry schema node path there.last.keys json) (rows_at_node sort schema node (take (length path - 1) path) there.last.name [] json)) entry
+      ∙ ap (λ (front : List Elem). rows_at_node sort schema node front there.last.name [] json) front_is
 
-  container_path : (rows : List Row) → IsWellFormed schema → node.sort ≡ sorts.Container → IsPart schema path rows → rows_meant schema path (Some (json_data schema path rows)) ≡ Ok rows
+  container_path : (rows : List Row) → IsWellFormed schema → node.sort ≡ sorts.Container → IsPart schema path rows → rows_of_data schema path (Some (json_data schema path rows)) ≡ Ok rows
   container_path rows formed is part =
       let good = all_good schema path rows part.below part.known part.shaped part.ordered part.whole in
       let json : json_data schema path rows ≡ object (inside rows) = json_is rows ∙ ap (λ (s : Sort). node_data inside s node.shape (length path - 1) rows) is in
-      ap (λ (d : Data). rows_meant schema path (Some d)) json ∙ ap (and_then in_order) (walk_is sorts.Container (object (inside rows)) is refl)
-      ∙ ap (λ (p : List Elem). and_then in_order (members_at schema p [] [] (inside rows))) last_plain
-      ∙ ordered schema path (inside rows) rows (object_back schema formed most_levels None path rows good part.rising (all_keyed_behind rows path rows part.keyed)) part.rising
+      ap (λ (d : Data). rows_of_data schema path (Some d)) json ∙ ap (λ answer. and_then answer rows_by_path) (walk_is sorts.Container (object (inside rows)) is refl)
+      ∙ ap (λ (p : List Elem). and_then (rows_of_members schema p [] [] (inside rows)) rows_by_path) last_plain
+      ∙ ordered schema path (inside rows) rows (object_back schema formed most_elements None path rows good part.rising (all_keyed_behind rows path rows part.keyed)) part.rising
 
   node_found : node_of schema (names_of there.front ++ there.last.name ∷ []) ≡ Some node
   node_found = ap (node_of schema) (sym (names_below there.front there.last) ∙ ap names_of (sym there.is)) ∙ at
 
-  scalar_path : (row : Row) → IsWellFormed schema → row.path ≡ path → row_has_type schema row ≡ true → IsWhole row.value → (sort : Sort) → node.sort ≡ sort → is_leafy sort ≡ true → rows_meant schema path (Some (json_data schema path (row ∷ []))) ≡ Ok (row ∷ [])
+  scalar_path : (row : Row) → IsWellFormed schema → row.path ≡ path → row_has_type schema row ≡ true → IsWhole row.value → (sort : Sort) → node.sort ≡ sort → is_leafy sort ≡ true → rows_of_data schema path (Some (json_data schema path (row ∷ []))) ≡ Ok (row ∷ [])
   scalar_path row formed own shaped whole sorts.Leaf is scalar =
       let below_is : row.path ≡ below there.front there.last.name [] = own ∙ sym last_plain in
-      let taken = taken_there schema formed most_levels there.front row there.last.name node below_is node_found shaped in
-      ap (λ (d : Data). rows_meant schema path (Some d)) (json_is (row ∷ []) ∙ ap (λ (s : Sort). node_data inside s node.shape (length path - 1) (row ∷ [])) is)
-      ∙ ap (and_then in_order) (walk_is sorts.Leaf (value_data node.shape (row ∷ [])) is refl ∙ leaf_row_back schema formed most_levels there.front row there.last.name node below_is whole is taken [])
+      let taken = taken_there schema formed most_elements there.front row there.last.name node below_is node_found shaped in
+      ap (λ (d : Data). rows_of_data schema path (Some d)) (json_is (row ∷ []) ∙ ap (λ (s : Sort). node_data inside s node.shape (length path - 1) (row ∷ [])) is)
+      ∙ ap (λ answer. and_then answer rows_by_path) (walk_is sorts.Leaf (value_data node.shape (row ∷ [])) is refl ∙ leaf_row_back schema formed most_elements there.front row there.last.name node below_is whole is taken [])
   scalar_path row formed own shaped whole sorts.LeafList is scalar =
       let below_is : row.path ≡ below there.front there.last.name [] = own ∙ sym last_plain in
-      let taken = taken_there schema formed most_levels there.front row there.last.name node below_is node_found shaped in
-      ap (λ (d : Data). rows_meant schema path (Some d)) (json_is (row ∷ []) ∙ ap (λ (s : Sort). node_data inside s node.shape (length path - 1) (row ∷ [])) is)
-      ∙ ap (and_then in_order) (walk_is sorts.LeafList (value_data node.shape (row ∷ [])) is refl ∙ leaf_list_row_back schema formed most_levels there.front row there.last.name node below_is whole is taken [])
+      let taken = taken_there schema formed most_elements there.front row there.last.name node below_is node_found shaped in
+      ap (λ (d : Data). rows_of_data schema path (Some d)) (json_is (row ∷ []) ∙ ap (λ (s : Sort). node_data inside s node.shape (length path - 1) (row ∷ [])) is)
+      ∙ ap (λ answer. and_then answer rows_by_path) (walk_is sorts.LeafList (value_data node.shape (row ∷ [])) is refl ∙ leaf_list_row_back schema formed most_elements there.front row there.last.name node below_is whole is taken [])
   scalar_path row formed own shaped whole _ is scalar = absurd (true≢false (sym scalar))
 
 pub container_back_at : ContainersReadBack

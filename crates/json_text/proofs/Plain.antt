@@ -20,7 +20,9 @@ use Rattle.base_kinds.specs.Schema.{SchemaNode, names_of, node_at}
 use Rattle.base_kinds.specs.Values.{is_list, values_in}
 use Rattle.json_text.specs.Leaves.{is_wide, scalar_data, leaf_data}
 use Rattle.json_text.specs.Runs.{runs, share_name, share_entry}
-use Rattle.json_text.specs.Trees.{member_name, value_data, node_data, child_of_rows, with_member, members_data, member_step, most_levels, ends_plain, value_at_node, json_data}
+use Rattle.json_text.specs.Trees.{member_name, value_data, node_data, child_of_rows, with_member, members_data, ends_plain, value_at_node, json_data}
+use Rattle.base_kinds.specs.Limits.{most_elements}
+use Rattle.json_text.specs.inner.Steps.{member_step}
 
 pub either_plain : (b : Bool) (d e : Data) → has_float d ≡ false → has_float e ≡ false → has_float (cond b d e) ≡ false
 either_plain true d e p q = p
@@ -104,8 +106,8 @@ at_node_plain inside p None path rows = refl
 at_node_plain inside p (Some node) path rows = either_plain (ends_plain path) _ (object (inside rows)) (node_plain inside p node.sort node.shape _ rows) (p rows)
 
 pub json_plain : (schema : List SchemaNode) (path : List Elem) (rows : List Row) → has_float (json_data schema path rows) ≡ false
-json_plain schema [] rows = members_plain most_levels schema None [] 0 rows
+json_plain schema [] rows = members_plain most_elements schema None [] 0 rows
 json_plain schema (elem ∷ elems) rows =
-    at_node_plain _ (members_plain most_levels schema None (names_of (elem ∷ elems)) (length (elem ∷ elems))) (node_at schema (elem ∷ elems)) (elem ∷ elems) rows
+    at_node_plain _ (members_plain most_elements schema None (names_of (elem ∷ elems)) (length (elem ∷ elems))) (node_at schema (elem ∷ elems)) (elem ∷ elems) rows
 
 pub ruleset tree_has_no_float = (json_plain)

@@ -13,11 +13,12 @@ use Rattle.base_kinds.specs.Keys.{key_text}
 use Rattle.std.proofs.lemmas.Slice.Eq.{bytes_eq-Decides}
 use Rattle.history_laws.proofs.Values.{paths_equal as equal_paths}
 use Rattle.base_kinds.specs.Rising.{IsRising}
-use Rattle.json_rows.specs.Entries.{and_then}
-use Rattle.json_rows.specs.Walk.{members_at}
-use Rattle.json_rows.specs.Reading.{in_order}
-use Rattle.json_text.specs.Laws.{IsWhole, IsBelow, row_ordered, keyed_behind, TreesReadBack}
-use Rattle.json_text.specs.Trees.{most_levels}
+use Rattle.base_lists.specs.Results.{and_then}
+use Rattle.json_rows.specs.Walk.{rows_of_members}
+use Rattle.json_rows.specs.Rows.{rows_by_path}
+use Rattle.json_text.specs.laws.ReadBack.{TreesReadBack}
+use Rattle.json_text.specs.laws.Rows.{IsWhole, IsBelow, row_ordered, keyed_behind}
+use Rattle.base_kinds.specs.Limits.{most_elements}
 use Rattle.json_text.proofs.Parts.{ObjectBack, walk, rows_in}
 use Rattle.json_text.proofs.Picks.{In, HasKey, KeyedFrom}
 use Rattle.json_text.proofs.KeysBack.{either_true}
@@ -27,7 +28,7 @@ use Rattle.json_text.proofs.Levels.{object_back}
 use Rattle.json_text.proofs.InOrder.{in_order_again}
 
 pub all_good : (schema : List SchemaNode) (here : List Elem) (rows : List Row) → AllByRecursion (λ row. IsBelow here row.path) rows → list_all (row_has_nodes schema) rows ≡ true → list_all (row_has_type schema) rows ≡ true → list_all (row_ordered schema) rows ≡ true → AllByRecursion (λ row. IsWhole row.value) rows
-    → AllByRecursion (Good schema most_levels here) rows
+    → AllByRecursion (Good schema most_elements here) rows
 all_good schema here [] below known shaped outside whole = tt
 all_good schema here (row ∷ rows) below known shaped outside whole =
     let k = and_parts (row_has_nodes schema row) (list_all (row_has_nodes schema) rows) known in
@@ -65,11 +66,11 @@ all_keyed_behind rows here (row ∷ some) all =
     (keyed_from rows here (drop (length here) row.path) parts.0, all_keyed_behind rows here some parts.1)
 
 -- an object that reads back gives the rows in order
-pub ordered : (schema : List SchemaNode) (here : List Elem) (ms : Members) (rows : List Row) → ObjectBack schema here (KeyLeaf schema here) ms rows → IsRising rows → and_then in_order (members_at schema here [] [] ms) ≡ Ok rows
+pub ordered : (schema : List SchemaNode) (here : List Elem) (ms : Members) (rows : List Row) → ObjectBack schema here (KeyLeaf schema here) ms rows → IsRising rows → and_then (rows_of_members schema here [] [] ms) rows_by_path ≡ Ok rows
 ordered schema here ms rows back up =
-    ap (λ (x : Members). and_then in_order (members_at schema here [] [] x)) back.is ∙ ap (and_then in_order) (walk schema here back.parts [] back.reads back.own) ∙ ap Ok (in_order_again rows (rows_in back.parts) up back.same)
+    ap (λ (x : Members). and_then (rows_of_members schema here [] [] x) rows_by_path) back.is ∙ ap (λ answer. and_then answer rows_by_path) (walk schema here back.parts [] back.reads back.own) ∙ ap Ok (in_order_again rows (rows_in back.parts) up back.same)
 
 pub tree_back : TreesReadBack
 tree_back schema rows formed part =
     let good = all_good schema [] rows part.below part.known part.shaped part.ordered part.whole in
-    ordered schema [] _ rows (object_back schema formed most_levels None [] rows good part.rising (all_keyed_behind rows [] rows part.keyed)) part.rising
+    ordered schema [] _ rows (object_back schema formed most_elements None [] rows good part.rising (all_keyed_behind rows [] rows part.keyed)) part.rising

@@ -22,8 +22,9 @@ use Rattle.history_laws.proofs.Values.{paths_equal as is_path_same}
 use Rattle.schema_core.specs.Nodes.{is_inner}
 use Rattle.schema_core.specs.WellFormed.{is_list_sort, is_list_node, IsWellFormed}
 use Rattle.schema_core.proofs.WellFormedLemmas.{no_root, formed_node, inner_above}
-use Rattle.json_text.specs.Laws.{IsWhole, IsPart, ReadsBack}
-use Rattle.json_text.specs.ValidLaws.{is_plain_elem, IsWholeTree, IsInstance, IsRowPath, ValidTreesReadBack}
+use Rattle.json_text.specs.laws.ReadBack.{ReadsBack}
+use Rattle.json_text.specs.laws.Rows.{IsWhole, IsPart}
+use Rattle.json_text.specs.laws.ValidTrees.{is_plain_elem, IsWholeTree, IsInstance, IsRowPath, ValidTreesReadBack}
 use Rattle.json_text.specs.Trees.{ends_plain}
 use Rattle.json_text.proofs.Below.{front_passes, some_of, names_below}
 use Rattle.json_text.proofs.EntryPaths.{entry_back_at, no_entry_back_at}

@@ -30,8 +30,8 @@ use Rattle.base_lists.specs.Rising.{rises}
 use Rattle.history_laws.proofs.PathOrder.{key_total}
 use Rattle.history_laws.proofs.Values.{paths_equal as is_path_same}
 use Rattle.base_kinds.specs.Rising.{row_cmp}
-use Rattle.json_text.specs.Laws.{IsWhole, IsBelow, IsPart, with_name, in_name_order, step_ordered, row_ordered, keyed_behind}
-use Rattle.json_text.specs.ValidLaws.{is_plain_elem, IsWholeTree, IsInstance}
+use Rattle.json_text.specs.laws.Rows.{IsWhole, IsBelow, IsPart, with_name, in_name_order, step_ordered, row_ordered, keyed_behind}
+use Rattle.json_text.specs.laws.ValidTrees.{is_plain_elem, IsWholeTree, IsInstance}
 use Rattle.json_text.proofs.Below.{names_below}
 use Rattle.json_text.proofs.KeysBack.{either_true, or_left, or_right}
 

@@ -21,7 +21,8 @@ is_wide _ = false
 -- a scalar: a truth value, a number, or a string, which a decimal is too; a list is no scalar
 abbrev pub scalar_data : Shape → Value → Data
 scalar_data shape (v.Bool b) = boolean b
-scalar_data shape (v.Int z) = if is_wide shape then string (signed_decimal z) else number (of_integer z)
+scalar_data shape (v.Int z) =
+    if is_wide shape then string (signed_decimal z) else number (of_integer z)
 scalar_data shape (v.Uint n) = if is_wide shape then string (decimal n) else number (unsigned n)
 scalar_data shape (v.Dec digits places) = string (dec_text digits places)
 scalar_data shape (v.Text text) = string text
@@ -31,7 +32,9 @@ scalar_data shape (v.List' n values) = null
 
 -- a leaf-list is the array of its values (RFC 7951 5.3)
 abbrev pub leaf_data : Shape → Value → Data
-leaf_data shape value = if is_list value then array (items_of (map (scalar_data shape) (values_in value))) else scalar_data shape value
+leaf_data shape value =
+    if is_list value then array (items_of (map (scalar_data shape) (values_in value)))
+    else scalar_data shape value
 
 -- the text of a leaf or a leaf-list
 abbrev pub leaf_text : Shape → Value → List ℕ

@@ -1,7 +1,6 @@
 pub mod Leaves
 pub mod Runs
-pub mod Splits
 pub mod Trees
-pub mod Laws
-pub mod ValidLaws
-pub mod Examples
+pub mod inner
+pub mod laws
+pub mod worked

@@ -10,7 +10,8 @@ use Rattle.base_kinds.specs.Paths.{elem_cmp}
 abbrev pub with_front : (Row → Row → Bool) → Row → List (List Row) → List (List Row)
 with_front same row [] = (row ∷ []) ∷ []
 with_front same row ([] ∷ others) = (row ∷ []) ∷ others
-with_front same row ((next ∷ run) ∷ others) = if same row next then (row ∷ next ∷ run) ∷ others else (row ∷ []) ∷ (next ∷ run) ∷ others
+with_front same row ((next ∷ run) ∷ others) =
+    if same row next then (row ∷ next ∷ run) ∷ others else (row ∷ []) ∷ (next ∷ run) ∷ others
 
 -- the rows cut between each two neighbours that differ
 abbrev pub runs : (Row → Row → Bool) → List Row → List (List Row)

@@ -9,6 +9,7 @@ use Rattle.base_kinds.specs.declared.operation.Row.{Row}
 use Rattle.base_kinds.specs.declared.schema.Shape.{Shape}
 use Rattle.base_kinds.specs.declared.schema.Sort.{Sort}
 use Rattle.base_kinds.specs.declared.schema.Sort.TheVariants as sorts
+use Rattle.base_kinds.specs.Limits.{most_elements}
 use Rattle.base_kinds.specs.Schema.{SchemaNode, names_of, node_of, node_at}
 use Rattle.base_kinds.specs.Ancestors.{own_name}
 use Rattle.json_text.specs.Leaves.{leaf_data}
@@ -26,7 +27,8 @@ is_module (Some above) module_name = bytes_eq above module_name
 -- A member has its node's name, with the module where that isn't the module above. Above the first level of a value
 -- there is none (RFC 7951 4).
 abbrev pub member_name : Option (List ℕ) → SchemaNode → List ℕ
-member_name above node = if is_module above node.module_name then own_name node.names else full_name node
+member_name above node =
+    if is_module above node.module_name then own_name node.names else full_name node
 
 -- the value of the first row, which is all that stands at a leaf or a leaf-list
 abbrev pub value_data : Option Shape → List Row → Data
@@ -35,7 +37,8 @@ value_data _ _ = null
 
 -- the entries of a list: an array of objects in the order of the rows (RFC 7951 5.4)
 abbrev pub entries_data : (List Row → Members) → ℕ → List Row → Data
-entries_data inside depth rows = array (items_of (map (λ entry. object (inside entry)) (runs (share_entry depth) rows)))
+entries_data inside depth rows =
+    array (items_of (map (λ entry. object (inside entry)) (runs (share_entry depth) rows)))
 
 -- the value of a node whose element is at this depth, given the members of an object at it
 abbrev pub node_data : (List Row → Members) → Sort → Option Shape → ℕ → List Row → Data
@@ -46,30 +49,28 @@ node_data inside sorts.LeafList shape depth rows = value_data shape rows
 
 -- the node right below these names that the first row stands at or below
 abbrev pub child_of_rows : List SchemaNode → List (List ℕ) → ℕ → List Row → Option SchemaNode
-child_of_rows schema names depth rows = option_and_then (λ elem. node_of schema (names ++ elem.name ∷ [])) (first_elem depth rows)
+child_of_rows schema names depth rows =
+    option_and_then (λ elem. node_of schema (names ++ elem.name ∷ [])) (first_elem depth rows)
 
 -- with the member of rows that share their name at this depth; rows that stand at no node have none
-abbrev pub with_member : (SchemaNode → List Row → Members) → Option (List ℕ) → ℕ → List Row → Option SchemaNode → Members → Members
+abbrev pub with_member :
+    (SchemaNode → List Row → Members) → Option (List ℕ) → ℕ → List Row → Option SchemaNode → Members
+    → Members
 with_member inside above depth rows None members = members
-with_member inside above depth rows (Some node) members = put (member_name above node) (node_data (inside node) node.sort node.shape depth rows) members
+with_member inside above depth rows (Some node) members =
+    put (member_name above node) (node_data (inside node) node.sort node.shape depth rows) members
 
 -- The members of an object: one for each name that the rows have at this depth, in the order of the written names'
 -- octets. The object is that of the node with these names, whose module is the one above, unless the object is a whole
--- value; so many levels are written.
-unfoldable pub members_data : ℕ → List SchemaNode → Option (List ℕ) → List (List ℕ) → ℕ → List Row → Members
+-- value. So many levels are written: with those of the longest path nothing is left out.
+unfoldable pub members_data :
+    ℕ → List SchemaNode → Option (List ℕ) → List (List ℕ) → ℕ → List Row → Members
 members_data zero schema above names depth rows = no_members
 members_data (suc levels) schema above names depth rows =
-    fold (λ members run. with_member (λ node. members_data levels schema (Some node.module_name) node.names (suc depth)) above depth run (child_of_rows schema names depth run) members)
+    fold (λ members run.
+    with_member (λ node. members_data levels schema (Some node.module_name) node.names (suc depth))
+    above depth run (child_of_rows schema names depth run) members)
     no_members (runs (share_name depth) rows)
-
--- with the member of one run more
-abbrev pub member_step : ℕ → List SchemaNode → Option (List ℕ) → List (List ℕ) → ℕ → Members → List Row → Members
-member_step levels schema above names depth members run =
-    with_member (λ node. members_data levels schema (Some node.module_name) node.names (suc depth)) above depth run (child_of_rows schema names depth run) members
-
--- no path has more elements
-abbrev pub most_levels : ℕ
-most_levels = 32
 
 -- the last element has no keys, so that it names no single entry of a list
 abbrev pub ends_plain : List Elem → Bool
@@ -80,14 +81,18 @@ ends_plain (elem ∷ other ∷ others) = ends_plain (other ∷ others)
 -- the value at the path of this node
 abbrev pub value_at_node : (List Row → Members) → Option SchemaNode → List Elem → List Row → Data
 value_at_node inside None path rows = null
-value_at_node inside (Some node) path rows = if ends_plain path then node_data inside node.sort node.shape (length path - 1) rows else object (inside rows)
+value_at_node inside (Some node) path rows =
+    if ends_plain path then node_data inside node.sort node.shape (length path - 1) rows
+    else object (inside rows)
 
 -- The value of the rows at a path: an object at the root, at a container and at an entry of a list, the array of all
 -- entries at a list without its keys, and the value itself at a leaf or a leaf-list. Where no node is there is `null`.
 abbrev pub json_data : List SchemaNode → List Elem → List Row → Data
-json_data schema [] rows = object (members_data most_levels schema None [] 0 rows)
+json_data schema [] rows = object (members_data most_elements schema None [] 0 rows)
 json_data schema (elem ∷ elems) rows =
-    value_at_node (members_data most_levels schema None (names_of (elem ∷ elems)) (length (elem ∷ elems))) (node_at schema (elem ∷ elems)) (elem ∷ elems) rows
+    value_at_node
+    (members_data most_elements schema None (names_of (elem ∷ elems)) (length (elem ∷ elems)))
+    (node_at schema (elem ∷ elems)) (elem ∷ elems) rows
 
 -- its text, with no white space
 abbrev pub json_text_of : List SchemaNode → List Elem → List Row → List ℕ

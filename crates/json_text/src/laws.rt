@@ -1,5 +1,5 @@
 // What is written is read as itself.
-ghost use Rattle.json_text.specs.Laws.{LeavesReadBack, LeafListsReadBack, TreesReadBack, ContainersReadBack, EntriesReadBack, NoEntriesReadBack, ScalarsReadBack};
+ghost use Rattle.json_text.specs.laws.ReadBack.{LeavesReadBack, LeafListsReadBack, TreesReadBack, ContainersReadBack, EntriesReadBack, NoEntriesReadBack, ScalarsReadBack};
 
 /// The JSON of a leaf means the leaf's value.
 pub fn leaves_read_back()

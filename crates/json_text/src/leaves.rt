@@ -1,9 +1,10 @@
 // A leaf or a leaf-list as JSON (RFC 7951 5.1, 5.3 and 6).
-ghost use Rattle.std.specs.Prelude.{◌≡◌, ◌++◌, false, map, string_bytes, IfOk, IsUtf8, OnOk, OnErr};
+ghost use Rattle.std.specs.Prelude.{◌≡◌, ◌++◌, false, map, Some, string_bytes, IfOk, IsUtf8, OnOk, OnErr};
 ghost use Rattle.serde_json.specs.Data.{string};
 ghost use Rattle.serde_json.specs.View.{view, items_of, items_view};
 ghost use Rattle.base_kinds.specs.Keys.{key_text as key_text_of};
 ghost use Rattle.base_kinds.specs.Values.{is_list};
+ghost use Rattle.json_rows.specs.Rows.{data_of};
 ghost use Rattle.json_text.specs.Leaves.{is_wide, scalar_data, leaf_data, leaf_text};
 
 use base_kinds::{Bytes, NoMemory, Shape, Text, Value};
@@ -12,7 +13,9 @@ use std::alloc::Global;
 use value_core::key_text;
 
 /// Adds the JSON text of a leaf or a leaf-list with values of the shape. After want of memory nothing is added.
-#[tactic(auto, using(crate::proofs::Plain::leaf_has_no_float))]
+///
+/// The text is UTF-8, and serde_json reads it as the value.
+#[tactic(auto, using(crate::proofs::Plain::leaf_has_no_float, crate::proofs::Depths::leaf_within, crate::proofs::Depths::data_read))]
 pub fn leaf_json(
     alloc: Global,
     shape: &Shape,
@@ -20,6 +23,8 @@ pub fn leaf_json(
     out: &mut Bytes,
 ) -> Result<(), NoMemory>
     ensures ok { OnOk result (out.new ≡ out.old ++ leaf_text shape.now value.now) }
+    ensures reads { OnOk result (data_of (leaf_text shape.now value.now)
+        ≡ Some (leaf_data shape.now value.now)) }
     ensures err { OnErr result (out.new ≡ out.old) }
 {
     let json = value_json(alloc, shape, value)?;
@@ -37,7 +42,8 @@ pub(crate) fn value_json(alloc: Global, shape: &Shape, value: &Value) -> Result<
 }
 
 fn scalars_json(alloc: Global, shape: &Shape, values: &[Value]) -> Result<Vec<Json>, NoMemory>
-    ensures { IfOk result (λ items. items_view items.items ≡ items_of (map (scalar_data shape.now) values.now)) }
+    ensures { IfOk result (λ items. items_view items.items ≡ items_of
+        (map (scalar_data shape.now) values.now)) }
 {
     let mut items = Vec::with_capacity(alloc, values.len())?;
     for value in values {

@@ -1,7 +1,7 @@
 // Rows that stand side by side and share a part of their paths.
 ghost use Rattle.std.specs.Prelude.{◌≡◌, ◌≤◌, ◌<◌, ◌∷◌, length};
 ghost use Rattle.json_text.specs.Runs.{runs, share_name, share_entry};
-ghost use Rattle.json_text.specs.Splits.{shares, run_length};
+ghost use Rattle.json_text.specs.inner.Splits.{shares, run_length};
 
 use base_kinds::Row;
 use std::cmp::Ordering;
@@ -44,7 +44,8 @@ fn run_length(shared: Shared, depth: usize, first: &Row, rows: &[Row]) -> usize
 #[tactic(auto, using(crate::proofs::Cuts::run_length_le))]
 pub(crate) fn split_run(shared: Shared, depth: usize, rows: &[Row]) -> (&[Row], &[Row])
     requires { 0 < length rows.now }
-    ensures cut { runs (shares shared depth) rows.now ≡ result.0.now ∷ runs (shares shared depth) result.1.now }
+    ensures cut { runs (shares shared depth) rows.now ≡ result.0.now ∷ runs (shares shared depth)
+        result.1.now }
     ensures fewer { length result.1.now < length rows.now }
 {
     let count = run_length(shared, depth, &rows[0], &rows[1..]);

@@ -1,35 +1,49 @@
 // The JSON of the rows at and below a path.
-ghost use Rattle.std.specs.Prelude.{◌≡◌, ◌≤◌, ◌<◌, ◌+◌, ◌^◌, ◌∷◌, suc, Some, length, map, slice_get, string_bytes, IfOk, IsUtf8, OnOk};
+ghost use Rattle.std.specs.Prelude.{◌≡◌, ◌≤◌, ◌<◌, ◌+◌, ◌^◌, ◌∷◌, suc, Some, Ok, length, map, slice_get, string_bytes, IfOk, IsUtf8, OnOk};
 ghost use Rattle.std.specs.Option.{option_copied, option_and_then, option_map, ForSome};
 ghost use Rattle.serde_json.specs.Data.{object};
 ghost use Rattle.serde_json.specs.View.{view, items_view, members_view};
 ghost use Rattle.base_kinds.specs.Schema.{SchemaNode};
 ghost use Rattle.base_kinds.specs.Ancestors.{own_name};
 ghost use Rattle.schema_core.specs.Nodes.{names_above, names_at};
-ghost use Rattle.json_rows.specs.Reading.{data_of};
+ghost use Rattle.json_rows.specs.Rows.{data_of, rows_of};
+ghost use Rattle.json_text.specs.laws.ReadBack.{ReadsBack};
 ghost use Rattle.json_text.specs.Runs.{runs, share_name, share_entry, first_elem};
-ghost use Rattle.json_text.specs.Trees.{ends_plain, member_name, is_module, value_data, node_data, child_of_rows, member_step, members_data, json_data, json_text_of};
+ghost use Rattle.json_text.specs.Trees.{ends_plain, member_name, is_module, value_data, node_data, child_of_rows, members_data, json_data, json_text_of};
+ghost use Rattle.json_text.specs.inner.Steps.{member_step};
 
 use crate::leaves::value_json;
 use crate::runs::{Shared, split_run};
-use base_kinds::{Bytes, Elem, NoMemory, Path, Row, Rows, Seq, Shape, Sort, Text};
+use base_kinds::{Bytes, Elem, MOST_ELEMENTS, NoMemory, Path, Row, Rows, Seq, Shape, Sort, Text};
 use schema_core::{Node, NodeId, Schema};
 use serde_json::{Map, Value as Json, put};
 use std::alloc::Global;
-
-const MOST_LEVELS: usize = 32;
 
 /// The JSON text of the rows at and below the path, in the order that they stand in. So it is the whole value at the path
 /// where the rows are all that a valid tree has there, rising by path. Of a list's entries and of a leaf-list's values
 /// the order is kept.
 ///
-/// The text is UTF-8, and serde_json reads it as the value.
-#[tactic(auto, using(crate::proofs::Plain::tree_has_no_float, crate::proofs::Depths::json_deep, crate::proofs::Depths::data_read))]
+/// The text is UTF-8, and serde_json reads it as the value. Where what is written means its rows, which the laws
+/// `trees_read_back` and `valid_trees_read_back` say of valid trees, the text means them.
+#[tactic(auto, using(crate::proofs::Depths::text_back))]
 pub fn json_of(alloc: Global, schema: &Schema, path: &Path, rows: &Rows) -> Result<Bytes, NoMemory>
     ensures text { IfOk result (λ json. json ≡ json_text_of schema.now path.now rows.now) }
-    ensures reads { IfOk result (λ json. data_of json ≡ Some (json_data schema.now path.now rows.now)) }
+    ensures reads { IfOk result (λ json. data_of json
+        ≡ Some (json_data schema.now path.now rows.now)) }
+    ensures back { IfOk result (λ json. ReadsBack schema.now path.now rows.now
+        → rows_of schema.now path.now json ≡ Ok rows.now) }
 {
-    let json = data_json(alloc, schema, path, rows.items())?;
+    let json = tree_text(alloc, schema, path, rows.items())?;
+    Ok(json)
+}
+
+#[tactic(auto, using(crate::proofs::Plain::tree_has_no_float, crate::proofs::Depths::json_deep, crate::proofs::Depths::data_read))]
+fn tree_text(alloc: Global, schema: &Schema, path: &Path, rows: &[Row]) -> Result<Bytes, NoMemory>
+    ensures text { IfOk result (λ json. json ≡ json_text_of schema.now path.now rows.now) }
+    ensures reads { IfOk result (λ json. data_of json
+        ≡ Some (json_data schema.now path.now rows.now)) }
+{
+    let json = data_json(alloc, schema, path, rows)?;
     Ok(Seq::from_vec(json.to_vec(alloc)?))
 }
 
@@ -38,16 +52,24 @@ fn data_json(alloc: Global, schema: &Schema, path: &Path, rows: &[Row]) -> Resul
     ensures { IfOk result (λ json. view json ≡ json_data schema.now path.now rows.now) }
 {
     if path.is_empty() {
-        let members = members_json(alloc, schema, None, None, MOST_LEVELS, 0, rows)?;
+        let members = members_json(alloc, schema, None, None, MOST_ELEMENTS, 0, rows)?;
         return Ok(Json::Object(members));
     }
     let Some(id) = schema.find(path) else {
         return Ok(Json::Null);
     };
     if ends_plain(path.items()) {
-        return node_json(alloc, schema, None, id, MOST_LEVELS, path.len() - 1, rows);
+        return node_json(alloc, schema, None, id, MOST_ELEMENTS, path.len() - 1, rows);
     }
-    let members = members_json(alloc, schema, None, Some(id), MOST_LEVELS, path.len(), rows)?;
+    let members = members_json(
+        alloc,
+        schema,
+        None,
+        Some(id),
+        MOST_ELEMENTS,
+        path.len(),
+        rows,
+    )?;
     Ok(Json::Object(members))
 }
 
@@ -75,7 +97,8 @@ fn members_json(
 ) -> Result<Map<String, Json>, NoMemory>
     requires within { ForSome parent (λ id. id.0 < length schema.now) }
     requires deep { depth + levels < 2 ^ 64 }
-    ensures { IfOk result (λ members. members_view members.entries ≡ members_data levels schema.now (option_copied above.entry) (names_above schema.now parent) depth rows.now) }
+    ensures { IfOk result (λ members. members_view members.entries ≡ members_data levels schema.now
+        (option_copied above.entry) (names_above schema.now parent) depth rows.now) }
 {
     let mut members = Map::new(alloc);
     if levels == 0 {
@@ -113,7 +136,9 @@ fn add_member(
 ) -> Result<(), NoMemory>
     requires within { ForSome parent (λ id. id.0 < length schema.now) }
     requires deep { depth + levels + 1 < 2 ^ 64 }
-    ensures { OnOk result (members_view members.new.entries ≡ member_step levels schema.now (option_copied above.entry) (names_above schema.now parent) depth (members_view members.old.entries) rows.now) }
+    ensures { OnOk result (members_view members.new.entries ≡ member_step levels schema.now
+        (option_copied above.entry) (names_above schema.now parent) depth
+        (members_view members.old.entries) rows.now) }
 {
     let Some(id) = child_of_rows(schema, parent, depth, rows) else {
         return Ok(());
@@ -146,7 +171,9 @@ fn node_json(
 ) -> Result<Json, NoMemory>
     requires within { id.0 < length schema.now }
     requires deep { depth + levels + 1 < 2 ^ 64 }
-    ensures { IfOk result (λ json. (node : SchemaNode) → slice_get schema.now id.0 ≡ Some node → view json ≡ node_data (members_data levels schema.now (option_copied above.entry) node.names (suc depth)) node.sort node.shape depth rows.now) }
+    ensures { IfOk result (λ json. (node : SchemaNode) → slice_get schema.now id.0 ≡ Some node
+        → view json ≡ node_data (members_data levels schema.now (option_copied above.entry)
+        node.names (suc depth)) node.sort node.shape depth rows.now) }
 {
     let node = schema.node(id);
     match node.sort() {
@@ -174,7 +201,9 @@ fn entries_json(
 ) -> Result<Vec<Json>, NoMemory>
     requires within { id.0 < length schema.now }
     requires deep { depth + levels + 1 < 2 ^ 64 }
-    ensures { IfOk result (λ items. map view items.items ≡ map (λ entry. object (members_data levels schema.now (option_copied above.entry) (names_at schema.now id.0) (suc depth) entry)) (runs (share_entry depth) rows.now)) }
+    ensures { IfOk result (λ items. map view items.items
+        ≡ map (λ entry. object (members_data levels schema.now (option_copied above.entry)
+        (names_at schema.now id.0) (suc depth) entry)) (runs (share_entry depth) rows.now)) }
 {
     let mut items = Vec::new(alloc);
     let mut rest = rows;
@@ -205,7 +234,8 @@ fn child_of_rows(
     rows: &[Row],
 ) -> Option<NodeId>
     requires { ForSome parent (λ id. id.0 < length schema.now) }
-    ensures node { child_of_rows schema.now (names_above schema.now parent) depth rows.now ≡ option_and_then (λ id. slice_get schema.now id.0) result }
+    ensures node { child_of_rows schema.now (names_above schema.now parent) depth rows.now
+        ≡ option_and_then (λ id. slice_get schema.now id.0) result }
     ensures within { ForSome result (λ id. id.0 < length schema.now) }
 {
     let elem = rows.first()?.path.get(depth)?;
@@ -225,7 +255,8 @@ fn own_name(names: &[Text]) -> &[u8]
 
 /// The name of the node's member where this module is above.
 fn member_name(alloc: Global, above: Option<&Text>, node: &Node) -> Result<String, NoMemory>
-    ensures { IfOk result (λ name. string_bytes name ≡ member_name (option_copied above.entry) node.now) }
+    ensures { IfOk result (λ name. string_bytes name ≡ member_name (option_copied above.entry)
+        node.now) }
 {
     let mut name = String::new(alloc);
     if !is_module(above, node.module_name()) {

@@ -71,7 +71,7 @@ fn is_written(rt: &impl Abort, alloc: Global, line: &str, rows: &Rows, json: &st
         == json.as_bytes()
 }
 
-fn lab_rows(rt: &impl Abort, alloc: Global) -> Rows {
+fn lab_rows(rt: &impl Abort, alloc: Global, tags: &str) -> Rows {
     let mut rows = Rows::empty(alloc);
     add(
         rt,
@@ -88,7 +88,7 @@ fn lab_rows(rt: &impl Abort, alloc: Global) -> Rows {
         Value::Bin(octets_of(rt, alloc, &[1, 2])),
     );
     add(rt, alloc, &mut rows, "/lab/rate", Value::Dec(150, 2));
-    add(rt, alloc, &mut rows, "/lab/tags", words(rt, alloc, "y x"));
+    add(rt, alloc, &mut rows, "/lab/tags", words(rt, alloc, tags));
     rows
 }
 
@@ -124,7 +124,11 @@ const FIRST: &str =
 #[test]
 fn values_of_a_container_are_written_by_their_shapes(rt: HostRuntime) {
     let alloc = rt.alloc();
-    let rows = lab_rows(&rt, alloc);
+    let row = lab_rows(&rt, alloc, "x y");
+    let whole =
+        "{\"lab:lab\":{\"big\":\"18446744073709551615\",\"blob\":\"AQI=\",\"rate\":\"1.5\",\"tags\":[\"x\",\"y\"]}}";
+    assert!(rt; is_written(&rt, alloc, "/", &row, whole));
+    let rows = lab_rows(&rt, alloc, "y x");
     let inner =
         "\"big\":\"18446744073709551615\",\"blob\":\"AQI=\",\"rate\":\"1.5\",\"tags\":[\"y\",\"x\"]";
     let root = format!(in alloc; "{{\"lab:lab\":{{{inner}}}}}").expect(&rt, "memory");
@@ -197,7 +201,7 @@ fn members_of_another_module_have_its_name(rt: HostRuntime) {
 #[test]
 fn a_leaf_by_itself_is_its_value(rt: HostRuntime) {
     let alloc = rt.alloc();
-    let rows = lab_rows(&rt, alloc);
+    let rows = lab_rows(&rt, alloc, "y x");
     for (at, line, json) in [
         (0usize, "/lab/big", "\"18446744073709551615\""),
         (1, "/lab/blob", "\"AQI=\""),

@@ -1,4 +1,5 @@
--- The values that scalars stand for.
+-- The values that scalars stand for, and how many are few.
+use Rattle.std.specs.Prelude.{ℕ}
 use Rattle.base_kinds.specs.declared.value.Value.{Value}
 use Rattle.base_kinds.specs.declared.value.Value as v
 use Rattle.scalar_order.specs.declared.scalar.Scalar.{Scalar}
@@ -12,3 +13,7 @@ value_of (scalars.Dec digits places) = v.Dec digits places
 value_of (scalars.Text octets) = v.Text octets.now
 value_of (scalars.Bin octets) = v.Bin octets.now
 value_of (scalars.Enum octets) = v.Enum octets.now
+
+-- so many values are compared each with each, without memory
+abbrev pub few_values : ℕ
+few_values = 16

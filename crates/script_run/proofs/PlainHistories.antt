@@ -13,9 +13,9 @@ use Rattle.base_kinds.specs.Step.{step, judge, Rules, after_expiry, first_refusa
 use Rattle.base_kinds.specs.declared.path.Elem.{Elem}
 use Rattle.base_kinds.specs.Schema.{SchemaNode}
 use Rattle.commit_core.specs.CoreView.{OpensNoTrial}
-use Rattle.set_txn.specs.Operations.{ops_told}
-use Rattle.set_txn.specs.Resolving.{resolved}
-use Rattle.set_txn.specs.Results.{then_ok}
+use Rattle.set_txn.specs.Operations.{ops_of_request}
+use Rattle.set_txn.specs.Resolution.{resolved}
+use Rattle.base_lists.specs.Results.{and_then}
 use Rattle.script_run.specs.declared.pending.Pending.{Pending}
 use Rattle.script_run.specs.PlainSets.{IsApply, IsPlain, AreApplies}
 use Rattle.script_run.specs.Requests.{set_ask}
@@ -104,12 +104,12 @@ refused_history rules entries now author ask refusal applies is =
 
 -- ---- the pending request as a plain Set
 
-plain_told : (told : Result (List Op) Refusal) (ask : Ask) → then_ok told (λ ops. Ok (asks.Apply ops)) ≡ Ok ask → IsPlain ask
-plain_told (Ok ops) ask is = let same : asks.Apply ops ≡ ask = cc is in subst IsPlain same tt
-plain_told (Err refusal) ask is = cc is
+plain_answer : (told : Result (List Op) Refusal) (ask : Ask) → and_then told (λ ops. Ok (asks.Apply ops)) ≡ Ok ask → IsPlain ask
+plain_answer (Ok ops) ask is = let same : asks.Apply ops ≡ ask = cc is in subst IsPlain same tt
+plain_answer (Err refusal) ask is = cc is
 
 pub asks_plainly : (schema : List SchemaNode) (pending : Pending) (ask : Ask) → resolved schema (set_ask pending) ≡ Ok ask → IsPlain ask
-asks_plainly schema pending ask is = plain_told (ops_told schema (set_ask pending)) ask is
+asks_plainly schema pending ask is = plain_answer (ops_of_request schema (set_ask pending)) ask is
 
 pub opens_none : (ask : Ask) → IsPlain ask → OpensNoTrial ask
 opens_none (asks.Apply ops) plain = tt

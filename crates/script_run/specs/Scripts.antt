@@ -17,7 +17,7 @@ use Rattle.base_kinds.specs.History.{world_of, stamp_of}
 use Rattle.base_kinds.specs.Parts.{part}
 use Rattle.base_kinds.specs.Rules.{rules_of}
 use Rattle.base_kinds.specs.Step.{Rules, step, after_expiry, with_answer}
-use Rattle.set_txn.specs.Resolving.{resolved}
+use Rattle.set_txn.specs.Resolution.{resolved}
 use Rattle.script_text.specs.declared.line.Line.{Line}
 use Rattle.script_text.specs.declared.line.Line.TheVariants as lines
 use Rattle.script_text.specs.Lines.{lines_of}

@@ -1,7 +1,7 @@
 ghost use Rattle.std.specs.Prelude.{◌≡◌, ◌≢◌, ◌<◌, ◌++◌, IfOk, OnOk, Err, if◌then◌else◌};
 ghost use Rattle.base_kinds.specs.Rules.{rules_of};
 ghost use Rattle.base_kinds.specs.Step.{step, after_expiry, with_answer};
-ghost use Rattle.set_txn.specs.Resolving.{resolved};
+ghost use Rattle.set_txn.specs.Resolution.{resolved};
 ghost use Rattle.commit_report.specs.Logs.{log_text};
 ghost use Rattle.script_run.specs.PlainSets.{AreApplies, IsPlain};
 ghost use Rattle.script_run.specs.Requests.{set_ask};

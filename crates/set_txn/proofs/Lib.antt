@@ -1,6 +1,6 @@
 pub mod Lists
-pub mod Rises
 pub mod Powers
-pub mod KeyReading
 pub mod Placing
 pub mod FitAsks
+pub mod Traversals
+pub mod Refusing

@@ -7,11 +7,11 @@ use Rattle.base_kinds.specs.declared.schema.Shape.{Shape}
 use Rattle.base_kinds.specs.declared.value.Value.{Value}
 use Rattle.base_kinds.specs.declared.value.Value.TheVariants as values
 use Rattle.base_kinds.specs.Legal.{is_fit_scalar, is_fit_value}
-use Rattle.base_kinds.specs.Values.{values_in, all_differ}
+use Rattle.base_kinds.specs.Values.{values_in}
 use Rattle.base_kinds.proofs.Lists.{values_in-List}
-use Rattle.set_txn.specs.Results.{then_some, when}
-use Rattle.set_txn.specs.Scalars.{in_shapes}
-use Rattle.set_txn.specs.Values.{list_row, list_told}
+use Rattle.std.specs.Option.{option_and_then}
+use Rattle.set_txn.specs.Scalars.{values_in_shape}
+use Rattle.set_txn.specs.ValueRows.{row_of_distinct, rows_of_leaf_list}
 
 fit_in : (vs : List Value) → is_fit_value (values.List vs) ≡ list_all is_fit_scalar (values_in (values.List vs))
 unfolding Rattle.base_kinds.specs.declared.value.Value.TheBlock.hidden-the_row-Value-0 denote.Hole.Carrier.hidden
@@ -21,12 +21,12 @@ pub fit_list : (vs : List Value) → is_fit_value (values.List vs) ≡ list_all 
 fit_list vs = fit_in vs ∙ ap (list_all is_fit_scalar) (values_in-List vs)
 
 -- what the values of a leaf-list give
-abbrev pub distinct_told : Shape → List Elem → List Value → Option (List Row)
-distinct_told shape path vs = then_some (in_shapes shape [] vs) (λ kept. when (all_differ kept) (list_row path kept))
+abbrev pub rows_of_distinct : Shape → List Elem → List Value → Option (List Row)
+rows_of_distinct shape path vs = option_and_then (row_of_distinct path) (values_in_shape shape [] vs)
 
-told_in : (shape : Shape) (path : List Elem) (vs : List Value) → list_told shape path (values.List vs) ≡ distinct_told shape path (values_in (values.List vs))
+list_given_in : (shape : Shape) (path : List Elem) (vs : List Value) → rows_of_leaf_list shape path (values.List vs) ≡ rows_of_distinct shape path (values_in (values.List vs))
 unfolding Rattle.base_kinds.specs.declared.value.Value.TheBlock.hidden-the_row-Value-0 denote.Hole.Carrier.hidden
-told_in shape path vs = refl
+list_given_in shape path vs = refl
 
-pub told_list : (shape : Shape) (path : List Elem) (vs : List Value) → list_told shape path (values.List vs) ≡ distinct_told shape path vs
-told_list shape path vs = told_in shape path vs ∙ ap (distinct_told shape path) (values_in-List vs)
+pub list_given : (shape : Shape) (path : List Elem) (vs : List Value) → rows_of_leaf_list shape path (values.List vs) ≡ rows_of_distinct shape path vs
+list_given shape path vs = list_given_in shape path vs ∙ ap (rows_of_distinct shape path) (values_in-List vs)

@@ -1,12 +1,10 @@
 -- Zeros behind a number.
-use Rattle.std.proofs.Common.{◌≡◌, ℕ, ◌-◌, ◌*◌, ◌^◌, ◌<◌, ◌≤◌, zero, suc, Bool, true, false, ℤ, Option, None, refl, sym, ap, ◌∙◌, arith, IfNone}
+use Rattle.std.proofs.Common.{◌≡◌, ℕ, ◌-◌, ◌*◌, ◌^◌, ◌<◌, ◌≤◌, zero, suc, Bool, true, false, cond, ℤ, Option, Some, None, refl, sym, ap, ◌∙◌, arith, IfNone}
 use Rattle.std.proofs.Math.Nat.{mul_assoc, pow-succ', le-mul_of_pos_right}
 use Rattle.base_kinds.specs.Values.{fits_signed}
-use Rattle.value_core.specs.Decimals.{signed}
+use Rattle.value_core.specs.Decimals.{signed, with_sign}
 use Rattle.value_core.proofs.Outcomes.{none_from}
 use Rattle.value_core.proofs.Ranges.{held_small}
-use Rattle.set_txn.specs.Numbers.{held}
-use Rattle.set_txn.specs.Results.{when}
 
 pub zeros_more : (number longer zeros : ℕ) → 0 < zeros → longer ≡ number * 10 → longer * 10 ^ (zeros - 1) ≡ number * 10 ^ zeros
 zeros_more number longer zero some is = absurd (omega arith)
@@ -34,10 +32,10 @@ too_large o number zeros some large =
 crossed : (n : ℕ) → 2 ^ 64 ≤ n → n < 2 ^ 64 → ⊥
 crossed n h k = omega arith
 
-unless_held : (test : Bool) (z : ℤ) → (test ≡ true → ⊥) → when test z ≡ None
+unless_held : (test : Bool) (z : ℤ) → (test ≡ true → ⊥) → cond test (Some z) None ≡ None
 unless_held true z h = absurd (h refl)
 unless_held false z h = refl
 
 -- 64 bits don't hold it, with either sign
-pub not_held : (negative : Bool) (number : ℕ) → 2 ^ 64 ≤ number → held negative number ≡ None
+pub not_held : (negative : Bool) (number : ℕ) → 2 ^ 64 ≤ number → with_sign negative number ≡ None
 not_held negative number large = unless_held (fits_signed 64 (signed negative number)) (signed negative number) (λ fits. crossed number large (held_small negative number fits))

@@ -1,10 +1,9 @@
 pub mod Actions
-pub mod Examples
-pub mod KeyValues
+pub mod KeyLeaves
 pub mod Numbers
 pub mod Operations
-pub mod Resolving
-pub mod Results
+pub mod Resolution
 pub mod Scalars
-pub mod Values
-pub mod Walking
+pub mod ValueRows
+pub mod laws
+pub mod worked

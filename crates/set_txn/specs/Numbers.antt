@@ -1,8 +1,5 @@
 -- Numbers with and without a sign, and the digits of equal decimals (RFC 7950 9.3).
 use Rattle.std.specs.Prelude.{ℕ, zero, suc, ◌-◌, ◌*◌, ◌/◌, ◌%◌, ◌^◌, ℤ, pos, negsuc, Bool, true, false, ◌==◌, nat_le, Option, Some, None, if◌then◌else◌}
-use Rattle.base_kinds.specs.Values.{fits_signed}
-use Rattle.value_core.specs.Decimals.{signed}
-use Rattle.set_txn.specs.Results.{when}
 
 abbrev pub is_negative : ℤ → Bool
 is_negative (pos number) = false
@@ -20,12 +17,10 @@ natural (negsuc number) = None
 -- the number without so many zeros at its end, where it has them
 abbrev pub without_zeros : ℕ → ℕ → Option ℕ
 without_zeros zero number = Some number
-without_zeros (suc zeros) number = if number % 10 == 0 then without_zeros zeros (number / 10) else None
+without_zeros (suc zeros) number =
+    if number % 10 == 0 then without_zeros zeros (number / 10) else None
 
 -- the digits of the same decimal with so many places behind the point as it is to have
-abbrev pub moved : ℕ → ℕ → ℕ → Option ℕ
-moved number from to = if nat_le from to then Some (number * 10 ^ (to - from)) else without_zeros (from - to) number
-
--- a number of 64 bits with this sign
-abbrev pub held : Bool → ℕ → Option ℤ
-held negative number = when (fits_signed 64 (signed negative number)) (signed negative number)
+abbrev pub rescaled_digits : ℕ → ℕ → ℕ → Option ℕ
+rescaled_digits number from to =
+    if nat_le from to then Some (number * 10 ^ (to - from)) else without_zeros (from - to) number

@@ -1,24 +1,19 @@
 // What a request asks for beside its operations.
 ghost use Rattle.std.specs.Prelude.{◌≡◌, IfOk};
-ghost use Rattle.set_txn.specs.Actions.{has_operations, is_mixed, is_id, has_good_id, nanoseconds, duration, action_duration, ask_of};
-ghost use Rattle.set_txn.specs.Resolving.{action_told};
+ghost use Rattle.base_kinds.specs.Legal.{is_fit_id};
+ghost use Rattle.set_txn.specs.Actions.{has_operations, is_mixed, has_fit_id, nanoseconds, duration, action_duration, ask_of};
+ghost use Rattle.set_txn.specs.Resolution.{checked_duration};
 
 use crate::numbers::natural;
-use base_kinds::{Action, Ask, Copied, NoMemory, Ops, Refusal, SetAsk, Span, Text};
+use base_kinds::{
+    Action, Ask, Copied, DEFAULT_DURATION, LONGEST_DURATION, MOST_ID_OCTETS, NoMemory, Ops,
+    Refusal, SECOND, SHORTEST_DURATION, SetAsk, Span, Text,
+};
 use std::alloc::Global;
 
-/// How long a trial lasts where the request doesn't say, in nanoseconds.
-const ABSENT_DURATION: u64 = 600_000_000_000;
-
-const LEAST_DURATION: u64 = 1_000_000_000;
-
-const MOST_DURATION: u64 = 86_400_000_000_000;
-
-const SECOND: u64 = 1_000_000_000;
-
 /// The duration of the request's action in nanoseconds, once the action is one that may be asked; 0 where it has none.
-pub(crate) fn action_of(ask: &SetAsk) -> Result<u64, Refusal>
-    ensures { result ≡ action_told ask.now }
+pub(crate) fn checked_duration(ask: &SetAsk) -> Result<u64, Refusal>
+    ensures { result ≡ checked_duration ask.now }
 {
     if ask.unsupported {
         return Err(Refusal::Unsupported);
@@ -26,7 +21,7 @@ pub(crate) fn action_of(ask: &SetAsk) -> Result<u64, Refusal>
     if is_mixed(&ask.action, has_operations(ask)) {
         return Err(Refusal::MixedAction);
     }
-    if !has_good_id(&ask.action) {
+    if !has_fit_id(&ask.action) {
         return Err(Refusal::BadId);
     }
     match action_duration(&ask.action) {
@@ -65,24 +60,24 @@ fn is_mixed(action: &Action, operations: bool) -> bool
     }
 }
 
-fn has_good_id(action: &Action) -> bool
-    ensures { result ≡ has_good_id action.now }
+fn has_fit_id(action: &Action) -> bool
+    ensures { result ≡ has_fit_id action.now }
 {
     match action {
-        Action::Trial(id, _) => is_id(id),
-        Action::Confirm(id) => is_id(id),
-        Action::Cancel(id) => is_id(id),
-        Action::Extend(id, _) => is_id(id),
+        Action::Trial(id, _) => is_fit_id(id),
+        Action::Confirm(id) => is_fit_id(id),
+        Action::Cancel(id) => is_fit_id(id),
+        Action::Extend(id, _) => is_fit_id(id),
         Action::Plain | Action::Mixed => true,
     }
 }
 
 /// Whether it has 1 to 64 octets.
-fn is_id(id: &Text) -> bool
-    ensures { result ≡ is_id id.now }
+fn is_fit_id(id: &Text) -> bool
+    ensures { result ≡ is_fit_id id.now }
 {
     let length = id.octets().len();
-    1 <= length && length <= 64
+    1 <= length && length <= MOST_ID_OCTETS
 }
 
 /// The duration of the action in nanoseconds; 0 where it has none.
@@ -100,7 +95,7 @@ fn duration(span: &Span) -> Option<u64>
     ensures { result ≡ duration span.now }
 {
     match span {
-        Span::Absent => Some(ABSENT_DURATION),
+        Span::Absent => Some(DEFAULT_DURATION),
         Span::Of(seconds, nanos) => nanoseconds(*seconds, *nanos),
     }
 }
@@ -115,7 +110,7 @@ fn nanoseconds(seconds: i64, nanos: i64) -> Option<u64>
         return None;
     }
     let all = seconds.checked_mul(SECOND)?.checked_add(nanos)?;
-    if all < LEAST_DURATION || all > MOST_DURATION {
+    if all < SHORTEST_DURATION || all > LONGEST_DURATION {
         return None;
     }
     Some(all)

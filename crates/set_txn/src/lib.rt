@@ -1,15 +1,22 @@
-//! A Set request, resolved by a schema to what it asks of the target.
+//! A Set request, resolved by a schema to what it asks of the target (gNMI 3.4).
+//!
+//! Start at `resolve` (src/resolution.rt) and its definition `resolved` (specs/Resolution.antt): the order of the refusals
+//! is the order of its conditions. Operations are in specs/Operations.antt, the values of replaces and updates in
+//! specs/ValueRows.antt, the key leaves that paths name in specs/KeyLeaves.antt. The law `refusals_of_requests` lists the
+//! refusals that come. JSON values are those of json_rows.
 #![tactic(auto)]
 
 mod actions;
-mod fitting;
+mod fitness;
+mod key_leaves;
+mod key_merge;
 mod key_values;
-mod merging;
+mod laws;
 mod numbers;
 mod operations;
-mod resolving;
+mod resolution;
 mod scalars;
-mod values;
-mod walking;
+mod value_rows;
 
-pub use resolving::resolve;
+pub use laws::{asks_of_requests, refusals_of_requests};
+pub use resolution::resolve;

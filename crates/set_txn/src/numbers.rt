@@ -1,9 +1,10 @@
 // Numbers with and without a sign, and the digits of equal decimals.
 ghost use Rattle.std.specs.Prelude.{◌≡◌, ◌*◌, ◌^◌, ◌≤◌, IfSome, IfNone, IsTrue};
-ghost use Rattle.base_kinds.specs.Values.{fits_signed};
-ghost use Rattle.value_core.specs.Decimals.{signed};
-ghost use Rattle.set_txn.specs.Numbers.{natural, is_negative, magnitude, without_zeros, moved, held};
-ghost use Rattle.set_txn.specs.Results.{then_some};
+ghost use Rattle.std.specs.Option.{option_and_then};
+ghost use Rattle.value_core.specs.Decimals.{with_sign};
+ghost use Rattle.set_txn.specs.Numbers.{natural, is_negative, magnitude, without_zeros, rescaled_digits};
+
+use value_core::with_sign;
 
 /// The number, where it is not negative.
 pub(crate) fn natural(number: i64) -> Option<u64>
@@ -59,44 +60,24 @@ fn without_zeros(zeros: u8, number: u64) -> Option<u64>
     without_zeros(zeros - 1, number / 10)
 }
 
-/// The number, or its negative, where 64 bits hold it.
-pub(crate) fn held(negative: bool, number: u64) -> Option<i64>
-    ensures { result ≡ held negative number }
-{
-    if !negative {
-        return if number < 1 << 63 {
-            Some(number as i64)
-        } else {
-            None
-        };
-    }
-    if number == 0 {
-        return Some(0);
-    }
-    if number <= 1 << 63 {
-        Some(-((number - 1) as i64) - 1)
-    } else {
-        None
-    }
-}
-
 /// The number with `to` places behind the point where it had `from`, if 64 bits hold it with its sign.
 #[tactic(auto, using(crate::proofs::Powers::not_held))]
-fn moved(negative: bool, number: u64, from: u8, to: u8) -> Option<i64>
-    ensures { result ≡ then_some (moved number from to) (held negative) }
+fn rescaled(negative: bool, number: u64, from: u8, to: u8) -> Option<i64>
+    ensures { result ≡ option_and_then (with_sign negative) (rescaled_digits number from to) }
 {
     if from <= to {
         let longer = with_zeros(to - from, number)?;
-        held(negative, longer)
+        with_sign(negative, longer)
     } else {
         let shorter = without_zeros(from - to, number)?;
-        held(negative, shorter)
+        with_sign(negative, shorter)
     }
 }
 
 /// The digits of the same decimal with `to` places behind the point where it had `from`, without rounding.
 pub(crate) fn digits_with(digits: i64, from: u8, to: u8) -> Option<i64>
-    ensures { result ≡ then_some (moved (magnitude digits) from to) (held (is_negative digits)) }
+    ensures { result ≡ option_and_then (with_sign (is_negative digits))
+        (rescaled_digits (magnitude digits) from to) }
 {
-    moved(is_negative(digits), magnitude(digits), from, to)
+    rescaled(is_negative(digits), magnitude(digits), from, to)
 }

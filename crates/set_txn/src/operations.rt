@@ -1,21 +1,21 @@
 // The operations of a request, resolved by a schema.
 ghost use Rattle.std.specs.Prelude.{◌≡◌, ◌≢◌, ◌++◌, [], Ok, Err, true, false, IfOk, IfErr, OnOk};
-ghost use Rattle.set_txn.specs.Operations.{is_whole_path, delete_told, op_with, change_told, ops_told};
-ghost use Rattle.set_txn.specs.Results.{each_told};
+ghost use Rattle.set_txn.specs.Operations.{is_whole_path, op_of_delete, op_with, op_of_change, ops_of_request};
+ghost use Rattle.base_lists.specs.Results.{IsUnlessMemory, and_then, traverse};
 
-use crate::fitting::{are_fit_rows, has_wildcard, is_whole_path};
-use crate::merging::{keys_agree, with_keys};
-use crate::values::value_told;
-use crate::walking::walk;
+use crate::fitness::{are_fit_rows, has_wildcard, is_whole_path};
+use crate::key_leaves::key_leaves_of;
+use crate::key_merge::{key_leaves_agree, with_keys};
+use crate::value_rows::rows_of_value;
 use base_kinds::{Act, Change, Op, Ops, Path, Refusal, Rows, Seq, SetAsk};
 use path_core::{PathFault, join_prefix};
 use schema_core::Schema;
 use std::alloc::Global;
 
 /// The deletes, then the replaces, then the updates, each in list order.
-pub(crate) fn ops_told(alloc: Global, schema: &Schema, ask: &SetAsk) -> Result<Ops, Refusal>
-    ensures ok { IfOk result (λ ops. ops_told schema.now ask.now ≡ Ok ops) }
-    ensures refused { IfErr result (λ refusal. refusal ≢ Refusal.NoMemory → ops_told schema.now ask.now ≡ Err refusal) }
+#[tactic(auto, using(crate::proofs::Traversals::in_three))]
+pub(crate) fn ops_of_request(alloc: Global, schema: &Schema, ask: &SetAsk) -> Result<Ops, Refusal>
+    ensures answer { IsUnlessMemory Refusal.NoMemory result (ops_of_request schema.now ask.now) }
 {
     let mut ops = Seq::empty(alloc);
     push_deletes(alloc, &ask.prefix, ask.deletes.items(), &mut ops)?;
@@ -38,17 +38,21 @@ pub(crate) fn ops_told(alloc: Global, schema: &Schema, ask: &SetAsk) -> Result<O
     Ok(ops)
 }
 
+#[tactic(auto, using(crate::proofs::Traversals::none_behind, crate::proofs::Traversals::one_more, crate::proofs::Traversals::one_refused, crate::proofs::Traversals::refused_so))]
 fn push_deletes(alloc: Global, prefix: &Path, paths: &[Path], ops: &mut Ops) -> Result<(), Refusal>
-    ensures ok { OnOk result (each_told (delete_told prefix.now) ops.old paths.now ≡ Ok ops.new) }
-    ensures refused { IfErr result (λ refusal. refusal ≢ Refusal.NoMemory → each_told (delete_told prefix.now) ops.old paths.now ≡ Err refusal) }
+    ensures ok { OnOk result (and_then (traverse (op_of_delete prefix.now) paths.now)
+        (λ more. Ok (ops.old ++ more)) ≡ Ok ops.new) }
+    ensures refused { IfErr result (λ refusal. refusal ≢ Refusal.NoMemory
+        → traverse (op_of_delete prefix.now) paths.now ≡ Err refusal) }
 {
     for path in paths {
-        let op = delete_told(alloc, prefix, path)?;
+        let op = op_of_delete(alloc, prefix, path)?;
         ops.push(op)?;
     }
     Ok(())
 }
 
+#[tactic(auto, using(crate::proofs::Traversals::none_behind, crate::proofs::Traversals::one_more, crate::proofs::Traversals::one_refused, crate::proofs::Traversals::refused_so))]
 fn push_changes(
     alloc: Global,
     schema: &Schema,
@@ -57,20 +61,21 @@ fn push_changes(
     changes: &[Change],
     ops: &mut Ops,
 ) -> Result<(), Refusal>
-    ensures ok { OnOk result (each_told (change_told schema.now prefix.now act) ops.old changes.now ≡ Ok ops.new) }
-    ensures refused { IfErr result (λ refusal. refusal ≢ Refusal.NoMemory → each_told (change_told schema.now prefix.now act) ops.old changes.now ≡ Err refusal) }
+    ensures ok { OnOk result (and_then (traverse (op_of_change schema.now prefix.now act) changes.now)
+        (λ more. Ok (ops.old ++ more)) ≡ Ok ops.new) }
+    ensures refused { IfErr result (λ refusal. refusal ≢ Refusal.NoMemory
+        → traverse (op_of_change schema.now prefix.now act) changes.now ≡ Err refusal) }
 {
     for change in changes {
-        let op = change_told(alloc, schema, prefix, act, change)?;
+        let op = op_of_change(alloc, schema, prefix, act, change)?;
         ops.push(op)?;
     }
     Ok(())
 }
 
 /// A delete names what it names, also by patterns and where nothing is.
-fn delete_told(alloc: Global, prefix: &Path, path: &Path) -> Result<Op, Refusal>
-    ensures ok { IfOk result (λ op. delete_told prefix.now path.now ≡ Ok op) }
-    ensures refused { IfErr result (λ refusal. refusal ≢ Refusal.NoMemory → delete_told prefix.now path.now ≡ Err refusal) }
+fn op_of_delete(alloc: Global, prefix: &Path, path: &Path) -> Result<Op, Refusal>
+    ensures answer { IsUnlessMemory Refusal.NoMemory result (op_of_delete prefix.now path.now) }
 {
     let path = whole_path(alloc, prefix, path)?;
     Ok(Op {
@@ -85,11 +90,11 @@ fn whole_path(alloc: Global, prefix: &Path, path: &Path) -> Result<Path, Refusal
     ensures ok { IfOk result (λ joined. joined ≡ prefix.now ++ path.now) }
     ensures whole { OnOk result (is_whole_path (prefix.now ++ path.now) ≡ true) }
     ensures refused { IfErr result (λ refusal. refusal ≢ Refusal.NoMemory → refusal ≡ Refusal.BadPath) }
-    ensures not_whole { IfErr result (λ refusal. refusal ≢ Refusal.NoMemory → is_whole_path (prefix.now ++ path.now) ≡ false) }
+    ensures not_whole { IfErr result (λ refusal. refusal ≢ Refusal.NoMemory → is_whole_path (prefix.now ++ path.now)
+        ≡ false) }
 {
     match join_prefix(alloc, prefix, path) {
-        Err(PathFault::BadPath) => Err(Refusal::BadPath),
-        Err(PathFault::NoMemory) => Err(Refusal::NoMemory),
+        Err(fault) => Err(refusal_of(fault)),
         Ok(joined) => {
             if is_whole_path(joined.items()) {
                 Ok(joined)
@@ -100,31 +105,40 @@ fn whole_path(alloc: Global, prefix: &Path, path: &Path) -> Result<Path, Refusal
     }
 }
 
-fn change_told(
+fn refusal_of(fault: PathFault) -> Refusal
+    ensures bad { fault ≡ PathFault.BadPath → result ≡ Refusal.BadPath }
+    ensures memory { fault ≡ PathFault.NoMemory → result ≡ Refusal.NoMemory }
+{
+    match fault {
+        PathFault::BadPath => Refusal::BadPath,
+        PathFault::NoMemory => Refusal::NoMemory,
+    }
+}
+
+fn op_of_change(
     alloc: Global,
     schema: &Schema,
     prefix: &Path,
     act: Act,
     change: &Change,
 ) -> Result<Op, Refusal>
-    ensures ok { IfOk result (λ op. change_told schema.now prefix.now act change.now ≡ Ok op) }
-    ensures refused { IfErr result (λ refusal. refusal ≢ Refusal.NoMemory → change_told schema.now prefix.now act change.now ≡ Err refusal) }
+    ensures answer { IsUnlessMemory Refusal.NoMemory result
+        (op_of_change schema.now prefix.now act change.now) }
 {
     let path = whole_path(alloc, prefix, &change.path)?;
     if has_wildcard(path.items()) {
         return Err(Refusal::BadPath);
     }
-    let keys = walk(alloc, schema, &path)?;
-    let rows = value_told(alloc, schema, &path, &change.given)?;
+    let keys = key_leaves_of(alloc, schema, &path)?;
+    let rows = rows_of_value(alloc, schema, &path, &change.given)?;
     op_with(alloc, act, path, keys, rows)
 }
 
 /// The operation with the rows of its value and the key leaves that its path names.
 fn op_with(alloc: Global, act: Act, path: Path, keys: Rows, rows: Rows) -> Result<Op, Refusal>
-    ensures ok { IfOk result (λ op. op_with act path keys rows ≡ Ok op) }
-    ensures refused { IfErr result (λ refusal. refusal ≢ Refusal.NoMemory → op_with act path keys rows ≡ Err refusal) }
+    ensures answer { IsUnlessMemory Refusal.NoMemory result (op_with act path keys rows) }
 {
-    if !keys_agree(keys.items(), rows.items()) {
+    if !key_leaves_agree(keys.items(), rows.items()) {
         return Err(Refusal::BadValue);
     }
     let rows = with_keys(alloc, rows, keys.items())?;

@@ -3,7 +3,8 @@ use Rattle.std.proofs.Common.{◌≡◌, ℕ, suc, ◌+◌, List, [], ◌∷◌,
 use Rattle.std.specs.List.{prefix_len}
 use Rattle.std.specs.Fmt.{sign_text}
 use Rattle.std.proofs.lemmas.Bool.{and_parts, and_from, not-true, not_from_false, eqb-true, eqb-false}
-use Rattle.value_core.specs.Decimals.{lacks_point, IsAtPoint, IsCutAtPoint, IsCut, point_text}
+use Rattle.value_core.specs.Decimals.{point_text}
+use Rattle.value_core.specs.inner.Cuts.{lacks_point, IsAtPoint, IsCutAtPoint, IsCut}
 
 no_point : (octet : ℕ) (others : Bool) → (not (eqb octet 46) && others) ≡ true → octet ≡ 46 → ⊥
 no_point octet others h e = eqb-false octet 46 (not-true (eqb octet 46) (and_parts (not (eqb octet 46)) others h).0) e

@@ -8,7 +8,7 @@ use Rattle.std.proofs.lemmas.Str.Parse.{IsNumeralModel, numerals_by_value, tells
 use Rattle.std.proofs.lemmas.Bool.{and_parts, and_from, or_cases, or_left, or_right, not-true, not_from_false, eqb-true, eqb-false, ne_eqb, eq-eqb, ltb-true, cases_order, both_ways}
 use Rattle.base_kinds.specs.Values.{fits_signed}
 use Rattle.value_core.specs.Decimals.{signed}
-use Rattle.value_core.specs.Plain.{is_plain}
+use Rattle.value_core.specs.inner.Plain.{is_plain}
 use Rattle.value_core.proofs.Ranges.{magnitude}
 
 own : IsNumeralModel (AllDigits 10) (digits_value 10)

@@ -1,9 +1,9 @@
 -- Which value of a shape a key text is.
-use Rattle.std.proofs.Common.{◌≡◌, ℕ, ◌^◌, ◌<◌, List, [], ◌∷◌, Bool, true, false, nat_lt, ℤ, IsTrue, refl, sym, ap, subst, ◌∙◌, Ok}
+use Rattle.std.proofs.Common.{◌≡◌, ℕ, zero, suc, ◌^◌, ◌<◌, List, [], ◌∷◌, arith, Bool, true, false, nat_lt, ℤ, IsTrue, refl, sym, ap, subst, ◌∙◌, Ok}
 use Rattle.std.specs.Fmt.{decimal, signed_decimal}
-use Rattle.std.specs.List.{list_any}
+use Rattle.std.specs.List.{list_all, list_any}
 use Rattle.std.specs.Str.{bytes_eq}
-use Rattle.std.proofs.lemmas.Bool.{false≢true, eqb-true}
+use Rattle.std.proofs.lemmas.Bool.{false≢true, eqb-true, ltb-true, lt-ltb, and_parts, and_from}
 use Rattle.std.proofs.lemmas.Fmt.{decimal_injective, signed_decimal_injective}
 use Rattle.base64.specs.GeneralPurpose.{IsBytes, decode_of}
 use Rattle.base64.specs.Engines.{standard}
@@ -15,9 +15,20 @@ use Rattle.base_kinds.specs.declared.schema.Shape.TheVariants as shapes
 use Rattle.base_kinds.specs.Texts.{bool_text, dec_text, base64_text}
 use Rattle.base_kinds.specs.Keys.{key_text}
 use Rattle.base_kinds.specs.Values.{fits_signed, has_shape}
-use Rattle.value_core.specs.KeyTexts.{IsStored, IsKeyOf}
+use Rattle.value_core.specs.KeyTexts.{IsKeyOf}
 use Rattle.value_core.proofs.DecimalTexts.{dec_injective}
 use Rattle.value_core.proofs.Ranges.{magnitude}
+
+-- octets below 256, by the test and as base64 says it
+
+pub bytes_from : (octets : List ℕ) → IsTrue (list_all (λ octet. nat_lt octet 256) octets) → IsBytes octets
+bytes_from [] all i = omega arith
+bytes_from (octet ∷ octets) all zero = ltb-true octet 256 (and_parts (nat_lt octet 256) (list_all (λ o. nat_lt o 256) octets) all).0
+bytes_from (octet ∷ octets) all (suc i) = bytes_from octets (and_parts (nat_lt octet 256) (list_all (λ o. nat_lt o 256) octets) all).1 i
+
+pub bytes_test : (octets : List ℕ) → IsBytes octets → IsTrue (list_all (λ octet. nat_lt octet 256) octets)
+bytes_test [] bytes = refl
+bytes_test (octet ∷ octets) bytes = and_from (nat_lt octet 256) (list_all (λ o. nat_lt o 256) octets) (lt-ltb octet 256 (bytes 0)) (bytes_test octets (λ i. bytes (suc i)))
 
 other_kind : {P : Type 0} → IsTrue false → P
 other_kind h = absurd (false≢true h)
@@ -50,7 +61,7 @@ pub record IsUintKey (width : ℕ) (text : List ℕ) (value : Value) : Type 0 wh
   pub spelled : text ≡ decimal number
 
 pub uint_key : (width : ℕ) (text : List ℕ) (value : Value) → IsKeyOf (shapes.Uint width) text value → IsUintKey width text value
-uint_key width text (v.Uint number) k = record { number = number; value_is = refl; held = k.stored; fits = k.shaped; spelled = k.spelled }
+uint_key width text (v.Uint number) k = record { number = number; value_is = refl; held = ltb-true number (2 ^ 64) k.stored; fits = k.shaped; spelled = k.spelled }
 uint_key width text _ k = other_kind k.shaped
 
 pub record IsDecKey (places : ℕ) (text : List ℕ) (value : Value) : Type 0 where
@@ -76,8 +87,11 @@ pub record IsBinKey (text : List ℕ) (value : Value) : Type 0 where
   pub spelled : text ≡ base64_text octets
 
 pub bin_key : (text : List ℕ) (value : Value) → IsKeyOf shapes.Bin text value → IsBinKey text value
-bin_key text (v.Bin octets) k = record { octets = octets; value_is = refl; bytes = k.stored; spelled = k.spelled }
+bin_key text (v.Bin octets) k = record { octets = octets; value_is = refl; bytes = bytes_from octets k.stored; spelled = k.spelled }
 bin_key text _ k = other_kind k.shaped
+
+pub bin_from : (shape : Shape) (text octets : List ℕ) → shape ≡ shapes.Bin → IsBytes octets → text ≡ base64_text octets → IsKeyOf shape text (v.Bin octets)
+bin_from shape text octets is bytes spelled = record { stored = bytes_test octets bytes; shaped = ap (λ s. has_shape s (v.Bin octets)) is; spelled = spelled }
 
 pub record IsEnumKey (texts : List (List ℕ)) (text : List ℕ) (value : Value) : Type 0 where
   pub value_is : value ≡ v.Enum text

@@ -1,10 +1,13 @@
 pub mod Ascii
 pub mod Cuts
 pub mod DecimalTexts
+pub mod DecimalsRead
 pub mod Digits
 pub mod Glyphs
 pub mod Integers
+pub mod IntegersRead
 pub mod Keys
+pub mod KeysRead
 pub mod Lists
 pub mod Outcomes
 pub mod Parts

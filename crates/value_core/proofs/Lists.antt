@@ -5,7 +5,7 @@ use Rattle.base_kinds.specs.declared.value.Value.{Value}
 use Rattle.base_kinds.specs.declared.value.Value as v
 use Rattle.base_kinds.specs.declared.value.Value.TheVariants as values
 use Rattle.base_kinds.specs.Texts.{value_text, value_texts, comma_separated}
-use Rattle.value_core.specs.ValueTexts.{separator}
+use Rattle.value_core.specs.inner.ValueTexts.{separator}
 
 abbrev texts_in : Value → List (List ℕ)
 texts_in (v.List' n rows) = value_texts rows

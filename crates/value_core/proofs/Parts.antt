@@ -5,7 +5,8 @@ use Rattle.std.specs.Fmt.{sign_text}
 use Rattle.std.specs.Str.Parse.{AllDigits, digits_value, digits_value_after}
 use Rattle.std.proofs.lemmas.Bool.{and_from, not_from_false, ne_eqb}
 use Rattle.base_kinds.specs.Values.{fits_signed}
-use Rattle.value_core.specs.Decimals.{signed, filled, point_text, lacks_point, IsDecimal, IsCut}
+use Rattle.value_core.specs.Decimals.{signed, filled, point_text, IsDecimal}
+use Rattle.value_core.specs.inner.Cuts.{lacks_point, IsCut}
 use Rattle.value_core.proofs.Cuts.{one_cut}
 use Rattle.value_core.proofs.Digits.{value_append, value_ge}
 use Rattle.value_core.proofs.Ranges.{held_small}

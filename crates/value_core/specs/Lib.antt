@@ -1,5 +1,8 @@
+pub mod Base64
 pub mod Decimals
-pub mod Examples
+pub mod Integers
 pub mod KeyTexts
-pub mod Plain
-pub mod ValueTexts
+pub mod KeyValues
+pub mod inner
+pub mod laws
+pub mod worked

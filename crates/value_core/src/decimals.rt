@@ -5,7 +5,8 @@ ghost use Rattle.base_kinds.specs.Values.{fits_signed};
 ghost use Rattle.std.specs.List.{prefix_len};
 ghost use Rattle.std.specs.Fmt.{sign_text};
 ghost use Rattle.std.specs.Str.Parse.{digits_value_after};
-ghost use Rattle.value_core.specs.Decimals.{IsDecimal, IsCut, IsCutAtPoint, IsAtPoint, point_text};
+ghost use Rattle.value_core.specs.Decimals.{IsDecimal, decimal_of, point_text};
+ghost use Rattle.value_core.specs.inner.Cuts.{IsCut, IsCutAtPoint, IsAtPoint};
 
 use crate::fault::ValueFault;
 use crate::numbers::{after_minus, read_integer, with_digit, with_digits, with_sign};
@@ -24,7 +25,8 @@ struct Parts<'a> {
 /// Cuts the octets at a `-` at their front and at their first point. Behind a point something has to stand.
 fn parts_of(octets: &[u8]) -> Option<Parts<'_>>
     ensures some { IfSome result (λ parts. IsCut octets.now parts.negative parts.whole.now parts.behind.now) }
-    ensures none { IfNone result ((negative : Bool) (whole behind : List ℕ) → IsCut octets.now negative whole behind → ⊥) }
+    ensures none { IfNone result ((negative : Bool) (whole behind : List ℕ) → IsCut octets.now negative whole
+        behind → ⊥) }
 {
     match after_minus(octets) {
         None => unsigned_parts(false, octets),
@@ -34,8 +36,10 @@ fn parts_of(octets: &[u8]) -> Option<Parts<'_>>
 
 fn unsigned_parts(negative: bool, octets: &[u8]) -> Option<Parts<'_>>
     requires { negative ≡ false → (rest : List ℕ) → octets.now ≡ 45 ∷ rest → ⊥ }
-    ensures some { IfSome result (λ parts. IsCut (sign_text negative ++ octets.now) parts.negative parts.whole.now parts.behind.now) }
-    ensures none { IfNone result ((other : Bool) (whole behind : List ℕ) → IsCut (sign_text negative ++ octets.now) other whole behind → ⊥) }
+    ensures some { IfSome result (λ parts. IsCut (sign_text negative ++ octets.now) parts.negative
+        parts.whole.now parts.behind.now) }
+    ensures none { IfNone result ((other : Bool) (whole behind : List ℕ)
+        → IsCut (sign_text negative ++ octets.now) other whole behind → ⊥) }
 {
     let (whole, rest) = cut_at_point(octets);
     let behind = behind_point(rest)?;
@@ -89,7 +93,7 @@ fn with_zeros(number: u64, zeros: usize) -> Option<u64>
 
 /// The digits of the decimal that the octets spell: an optional `-`, digits, and optionally a point with one to so many
 /// digits behind it. Zeros fill the places that it leaves out.
-pub fn read_decimal(places: u8, octets: &[u8]) -> Option<i64>
+fn decimal_in(places: u8, octets: &[u8]) -> Option<i64>
     ensures some { IfSome result (λ digits. IsDecimal places octets.now digits) }
     ensures none { IfNone result ((digits : ℤ) → IsDecimal places octets.now digits → ⊥) }
 {
@@ -104,17 +108,31 @@ pub fn read_decimal(places: u8, octets: &[u8]) -> Option<i64>
     Some(digits)
 }
 
+/// The digits of the decimal that the octets spell: an optional `-`, digits, and optionally a point with one to so many
+/// digits behind it (RFC 7950 9.3.1). Zeros fill the places that it leaves out.
+#[tactic(auto, using(crate::proofs::DecimalsRead::decimal_is))]
+pub fn read_decimal(places: u8, octets: &[u8]) -> Option<i64>
+    ensures value { result ≡ decimal_of places octets.now }
+    ensures some { IfSome result (λ digits. IsDecimal places octets.now digits) }
+    ensures none { IfNone result ((digits : ℤ) → IsDecimal places octets.now digits → ⊥) }
+{
+    decimal_in(places, octets)
+}
+
 /// What stands before `.0` at the end.
 fn before_zero(octets: &[u8]) -> Option<&[u8]>
-    ensures { MatchOption result ((front : List ℕ) → octets.now ≡ front ++ codes ".0" → ⊥) (λ front. octets.now ≡ front.now ++ codes ".0") }
+    ensures { MatchOption result ((front : List ℕ) → octets.now ≡ front ++ codes ".0" → ⊥)
+        (λ front. octets.now ≡ front.now ++ codes ".0") }
 {
     octets.strip_suffix(b".0")
 }
 
 /// The only digits whose text with no places the octets may be.
 fn read_whole(octets: &[u8]) -> Option<i64>
-    ensures some { IfSome result (λ read. (digits : ℤ) → IsTrue (fits_signed 64 digits) → octets.now ≡ dec_text digits 0 → digits ≡ read) }
-    ensures none { IfNone result ((digits : ℤ) → IsTrue (fits_signed 64 digits) → octets.now ≡ dec_text digits 0 → ⊥) }
+    ensures some { IfSome result (λ read. (digits : ℤ) → IsTrue (fits_signed 64 digits) → octets.now
+        ≡ dec_text digits 0 → digits ≡ read) }
+    ensures none { IfNone result ((digits : ℤ) → IsTrue (fits_signed 64 digits) → octets.now
+        ≡ dec_text digits 0 → ⊥) }
 {
     let front = before_zero(octets)?;
     let digits = read_integer(front)?;
@@ -123,20 +141,23 @@ fn read_whole(octets: &[u8]) -> Option<i64>
 
 /// The only digits whose text with so many places the octets may be.
 fn read_written(places: u8, octets: &[u8]) -> Option<i64>
-    ensures some { IfSome result (λ read. (digits : ℤ) → IsTrue (fits_signed 64 digits) → octets.now ≡ dec_text digits places → digits ≡ read) }
-    ensures none { IfNone result ((digits : ℤ) → IsTrue (fits_signed 64 digits) → octets.now ≡ dec_text digits places → ⊥) }
+    ensures some { IfSome result (λ read. (digits : ℤ) → IsTrue (fits_signed 64 digits) → octets.now
+        ≡ dec_text digits places → digits ≡ read) }
+    ensures none { IfNone result ((digits : ℤ) → IsTrue (fits_signed 64 digits) → octets.now
+        ≡ dec_text digits places → ⊥) }
 {
     if places == 0 {
         return read_whole(octets);
     }
-    let digits = read_decimal(places, octets)?;
+    let digits = decimal_in(places, octets)?;
     Some(digits)
 }
 
 /// The digits of the decimal that is written so.
 pub(crate) fn read_decimal_key(alloc: Global, places: u8, octets: &[u8]) -> Result<i64, ValueFault>
     ensures ok { IfOk result (λ digits. octets.now ≡ dec_text digits places) }
-    ensures bad_value { IsErrOf result ValueFault.BadValue → (digits : ℤ) → IsTrue (fits_signed 64 digits) → octets.now ≡ dec_text digits places → ⊥ }
+    ensures bad_value { IsErrOf result ValueFault.BadValue → (digits : ℤ) → IsTrue (fits_signed 64 digits)
+        → octets.now ≡ dec_text digits places → ⊥ }
 {
     let Some(digits) = read_written(places, octets) else {
         return Err(ValueFault::BadValue);

@@ -19,7 +19,8 @@ use std::alloc::Global;
 /// The value of this shape whose key text this is. There is one at most.
 pub fn read_key(alloc: Global, shape: &Shape, text: &Text) -> Result<Value, ValueFault>
     ensures ok { IfOk result (λ value. IsKeyOf shape.now text.now value) }
-    ensures bad_value { IsErrOf result ValueFault.BadValue → (value : AnyValue) → IsKeyOf shape.now text.now value → ⊥ }
+    ensures bad_value { IsErrOf result ValueFault.BadValue → (value : AnyValue) → IsKeyOf shape.now text.now value
+        → ⊥ }
 {
     let octets = text.octets();
     match shape {
@@ -51,7 +52,8 @@ fn read_int(width: u8, octets: &[u8]) -> Result<i64, ValueFault>
     ensures ok { IfOk result (λ number. octets.now ≡ signed_decimal number) }
     ensures held { IfOk result (λ number. IsTrue (fits 64 number)) }
     ensures fits { IfOk result (λ number. IsTrue (fits width number)) }
-    ensures err { OnErr result ((number : ℤ) → IsTrue (fits 64 number) → IsTrue (fits width number) → octets.now ≡ signed_decimal number → ⊥) }
+    ensures err { OnErr result ((number : ℤ) → IsTrue (fits 64 number) → IsTrue (fits width number)
+        → octets.now ≡ signed_decimal number → ⊥) }
 {
     let Some(number) = read_integer(octets) else {
         return Err(ValueFault::BadValue);
@@ -66,7 +68,8 @@ fn read_int(width: u8, octets: &[u8]) -> Result<i64, ValueFault>
 fn read_uint(width: u8, octets: &[u8]) -> Result<u64, ValueFault>
     ensures ok { IfOk result (λ number. octets.now ≡ decimal number) }
     ensures fits { IfOk result (λ number. IsTrue (nat_lt number (2 ^ width))) }
-    ensures err { OnErr result ((number : ℕ) → number < 2 ^ 64 → IsTrue (nat_lt number (2 ^ width)) → octets.now ≡ decimal number → ⊥) }
+    ensures err { OnErr result ((number : ℕ) → number < 2 ^ 64 → IsTrue (nat_lt number (2 ^ width))
+        → octets.now ≡ decimal number → ⊥) }
 {
     let Some(number) = read_natural(octets) else {
         return Err(ValueFault::BadValue);

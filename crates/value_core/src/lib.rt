@@ -1,4 +1,8 @@
-//! Values: whether they have a shape, their texts as keys and in logs, and the reading of key texts.
+//! Values: whether they have a shape, their texts as keys and in logs, and the reading of key texts and numbers.
+//!
+//! Start at `check_value` (src/shapes.rt), `key_text`, `read_key` and `value_text`. Which text is the key of which value is
+//! specs/KeyTexts.antt, the same as a function specs/KeyValues.antt; decimals are specs/Decimals.antt, integers
+//! specs/Integers.antt. That the functions and the facts say the same are the laws of specs/laws/Texts.antt.
 #![tactic(auto)]
 
 mod base64_texts;
@@ -20,7 +24,7 @@ pub use decimals::read_decimal;
 pub use fault::ValueFault;
 pub use key_reading::read_key;
 pub use key_texts::key_text;
-pub use laws::{decimals_read_back, one_decimal, one_value_a_key};
-pub use numbers::{read_integer, read_natural};
+pub use laws::{decimals_read_back, functions_give_what_is_spelled, one_decimal, one_value_a_key};
+pub use numbers::{read_integer, read_natural, with_sign};
 pub use shapes::check_value;
 pub use value_texts::value_text;

@@ -4,8 +4,9 @@ ghost use Rattle.std.specs.Char.{digit_value};
 ghost use Rattle.std.specs.Fmt.{decimal, signed_decimal, sign_text};
 ghost use Rattle.std.specs.Str.Parse.{AllDigits, digits_value_after};
 ghost use Rattle.base_kinds.specs.Values.{fits_signed};
-ghost use Rattle.value_core.specs.Decimals.{signed};
-ghost use Rattle.value_core.specs.Plain.{is_plain};
+ghost use Rattle.value_core.specs.Decimals.{signed, with_sign};
+ghost use Rattle.value_core.specs.Integers.{natural_of, integer_of};
+ghost use Rattle.value_core.specs.inner.Plain.{is_plain};
 
 /// The number that an octet makes as the last digit behind those of a number.
 pub(crate) fn with_digit(number: u64, octet: u8) -> Option<u64>
@@ -35,7 +36,8 @@ pub(crate) fn with_digits(number: u64, octets: &[u8]) -> Option<u64>
 }
 
 /// The number, or its negative, where 64 bits hold it.
-pub(crate) fn with_sign(negative: bool, number: u64) -> Option<i64>
+pub fn with_sign(negative: bool, number: u64) -> Option<i64>
+    ensures value { result ≡ with_sign negative number }
     ensures some { IfSome result (λ value. value ≡ signed negative number) }
     ensures held { IfSome result (λ value. IsTrue (fits_signed 64 value)) }
     ensures none { IfNone result (IsTrue (fits_signed 64 (signed negative number)) → ⊥) }
@@ -59,13 +61,14 @@ pub(crate) fn with_sign(negative: bool, number: u64) -> Option<i64>
 
 /// What follows a `-`, where the octets begin with it.
 pub(crate) fn after_minus(octets: &[u8]) -> Option<&[u8]>
-    ensures { MatchOption result ((rest : List ℕ) → octets.now ≡ sign_text true ++ rest → ⊥) (λ rest. octets.now ≡ sign_text true ++ rest.now) }
+    ensures { MatchOption result ((rest : List ℕ) → octets.now ≡ sign_text true ++ rest → ⊥)
+        (λ rest. octets.now ≡ sign_text true ++ rest.now) }
 {
     octets.strip_prefix(b"-")
 }
 
 /// The number that the octets spell in decimal, without leading zeros.
-pub fn read_natural(octets: &[u8]) -> Option<u64>
+fn natural_in(octets: &[u8]) -> Option<u64>
     ensures some { IfSome result (λ number. octets.now ≡ decimal number) }
     ensures small { IfSome result (λ number. number < 2 ^ 64) }
     ensures none { IfNone result ((number : ℕ) → number < 2 ^ 64 → octets.now ≡ decimal number → ⊥) }
@@ -85,19 +88,20 @@ fn begins_plainly(octets: &[u8]) -> bool
 }
 
 /// The number that the octets spell in decimal, with a `-` where it is negative and without leading zeros.
-pub fn read_integer(octets: &[u8]) -> Option<i64>
+fn integer_in(octets: &[u8]) -> Option<i64>
     ensures some { IfSome result (λ number. octets.now ≡ signed_decimal number) }
     ensures held { IfSome result (λ number. IsTrue (fits_signed 64 number)) }
-    ensures none { IfNone result ((number : ℤ) → IsTrue (fits_signed 64 number) → octets.now ≡ signed_decimal number → ⊥) }
+    ensures none { IfNone result ((number : ℤ) → IsTrue (fits_signed 64 number) → octets.now
+        ≡ signed_decimal number → ⊥) }
 {
     match after_minus(octets) {
         None => {
-            let number = read_natural(octets)?;
+            let number = natural_in(octets)?;
             let value = with_sign(false, number)?;
             Some(value)
         }
         Some(digits) => {
-            let magnitude = read_natural(digits)?;
+            let magnitude = natural_in(digits)?;
             if magnitude == 0 {
                 return None;
             }
@@ -105,4 +109,25 @@ pub fn read_integer(octets: &[u8]) -> Option<i64>
             Some(negative)
         }
     }
+}
+
+/// The number of 64 bits that the octets spell in decimal, without leading zeros.
+pub fn read_natural(octets: &[u8]) -> Option<u64>
+    ensures value { result ≡ natural_of octets.now }
+    ensures some { IfSome result (λ number. octets.now ≡ decimal number) }
+    ensures small { IfSome result (λ number. number < 2 ^ 64) }
+    ensures none { IfNone result ((number : ℕ) → number < 2 ^ 64 → octets.now ≡ decimal number → ⊥) }
+{
+    natural_in(octets)
+}
+
+/// The number of 64 bits that the octets spell in decimal, with a `-` where it is negative and without leading zeros.
+pub fn read_integer(octets: &[u8]) -> Option<i64>
+    ensures value { result ≡ integer_of octets.now }
+    ensures some { IfSome result (λ number. octets.now ≡ signed_decimal number) }
+    ensures held { IfSome result (λ number. IsTrue (fits_signed 64 number)) }
+    ensures none { IfNone result ((number : ℤ) → IsTrue (fits_signed 64 number)
+        → octets.now ≡ signed_decimal number → ⊥) }
+{
+    integer_in(octets)
 }

@@ -1,7 +1,7 @@
 // The text of a value in scripts and logs.
 ghost use Rattle.std.specs.Prelude.{◌≡◌, [], ◌∷◌, ◌++◌, map, OnErr, OnOk};
 ghost use Rattle.base_kinds.specs.Texts.{value_text, comma_separated};
-ghost use Rattle.value_core.specs.ValueTexts.{separator};
+ghost use Rattle.value_core.specs.inner.ValueTexts.{separator};
 
 use crate::base64_texts::put_base64;
 use crate::quotes::put_quoted;
@@ -42,7 +42,8 @@ fn put_value(alloc: Global, value: &Value, out: &mut Bytes) -> Result<(), NoMemo
 /// Adds the texts of the values between brackets.
 #[cycle(values)]
 fn put_list(alloc: Global, values: &[Value], out: &mut Bytes) -> Result<(), NoMemory>
-    ensures { OnOk result (out.new ≡ out.old ++ (91 ∷ (comma_separated (map value_text values.now) ++ 93 ∷ []))) }
+    ensures { OnOk result (out.new ≡ out.old ++ (91 ∷ (comma_separated (map value_text values.now) ++ 93
+        ∷ []))) }
 {
     out.extend_from_slice(b"[")?;
     put_values(alloc, values, out)?;

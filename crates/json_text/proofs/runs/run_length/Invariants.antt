@@ -1,5 +1,5 @@
 use Rattle.std.proofs.Common.{◌≡◌, ◌+◌, drop}
-use Rattle.json_text.specs.Splits.{run_length, shares}
+use Rattle.json_text.specs.inner.Splits.{run_length, shares}
 use Rattle.json_text.proofs.runs.run_length.Given as goal
 
 -- the rows so far, and those of the rest that go on their run

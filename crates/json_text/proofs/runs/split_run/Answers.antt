@@ -1,6 +1,6 @@
 use Rattle.std.proofs.Common.{◌≡◌, drop, get_or, ap, ◌∙◌}
 use Rattle.std.proofs.lemmas.List.{take_rest}
-use Rattle.json_text.specs.Splits.{run_length, shares}
+use Rattle.json_text.specs.inner.Splits.{run_length, shares}
 use Rattle.json_text.proofs.Cuts.{first_run}
 use Rattle.json_text.proofs.runs.split_run.Goals as goal
 

@@ -6,7 +6,8 @@ use Rattle.serde_json.specs.View.{view, members_view}
 use Rattle.base_kinds.specs.declared.operation.Row.{Row}
 use Rattle.schema_core.specs.Nodes.{names_above, names_at}
 use Rattle.json_text.specs.Runs.{runs, share_name, share_entry}
-use Rattle.json_text.specs.Trees.{member_step, members_data}
+use Rattle.json_text.specs.Trees.{members_data}
+use Rattle.json_text.specs.inner.Steps.{member_step}
 use Rattle.json_text.proofs.trees.+object.Given as goal
 
 abbrev pub decreases-members_json : goal.decreases-members_json

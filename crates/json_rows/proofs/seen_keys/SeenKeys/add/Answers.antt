@@ -1,5 +1,5 @@
 use Rattle.std.proofs.Common.{sym, subst}
-use Rattle.json_rows.specs.Indexes.{IsIndexed}
+use Rattle.json_rows.specs.inner.Indexes.{IsIndexed}
 use Rattle.json_rows.proofs.KeySets.{said, indexed_more}
 use Rattle.json_rows.proofs.seen_keys.SeenKeys.add.Goals as goal
 

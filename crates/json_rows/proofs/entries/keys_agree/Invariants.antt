@@ -1,9 +1,0 @@
-use Rattle.std.proofs.Common.{◌≡◌, drop}
-use Rattle.serde_json.specs.View.{view}
-use Rattle.schema_core.specs.Nodes.{names_at}
-use Rattle.json_rows.specs.Entries.{keys_agree}
-use Rattle.json_rows.proofs.entries.keys_agree.Given as goal
-
--- the keys so far agree
-abbrev pub invariant-loop-name : goal.invariant-loop-name
-invariant-loop-name l = keys_agree l.schema (names_at l.schema l.list.0) l.keys (view l.entry) (drop l.name-index l.names) ≡ keys_agree l.schema (names_at l.schema l.list.0) l.keys (view l.entry) l.names

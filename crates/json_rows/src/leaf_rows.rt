@@ -1,0 +1,110 @@
+// Rows of leaves and leaf-lists, and the keys of entries that differ.
+ghost use Rattle.std.specs.Prelude.{◌≡◌, ◌≢◌, ◌++◌, ◌∷◌, [], Ok, Err, IfOk, IfErr, OnOk, false};
+ghost use Rattle.std.specs.Option.{option_copied};
+ghost use Rattle.serde_json.specs.View.{view, items_view};
+ghost use Rattle.json_rows.specs.Leaves.{leaf_at, values_from};
+ghost use Rattle.json_rows.specs.Entries.{keys_unless_seen};
+ghost use Rattle.json_rows.specs.Walk.{below, rows_with_leaf, rows_with_leaf_list};
+
+use crate::fault::RowsFault;
+use crate::leaves::leaf_at;
+use crate::seen_keys::SeenKeys;
+use crate::texts::text_of;
+use base_kinds::{Copied, Elem, Keys, NoMemory, Path, Row, Rows, Seq, Shape, Text, Value, Values};
+use scalar_order::all_differ;
+use serde_json::Value as Json;
+use std::alloc::Global;
+
+/// The path with one more element, in as much memory as it needs.
+pub(crate) fn below(alloc: Global, above: &Path, name: &str, keys: Keys) -> Result<Path, NoMemory>
+    ensures { IfOk result (λ path. path ≡ below above.now name.now keys) }
+{
+    let mut elems = Vec::with_capacity(alloc, above.len().saturating_add(1))?;
+    for elem in above.items() {
+        elems.push(elem.copy(alloc)?)?;
+    }
+    let name = text_of(alloc, name)?;
+    elems.push(Elem { name, keys })?;
+    Ok(Seq::from_vec(elems))
+}
+
+/// Adds the row of a leaf.
+pub(crate) fn add_leaf(
+    alloc: Global,
+    shape: Option<&Shape>,
+    path: Path,
+    json: &Json,
+    rows: &mut Rows,
+) -> Result<(), RowsFault>
+    ensures ok { OnOk result (rows_with_leaf path rows.old (leaf_at (option_copied shape.entry)
+        (view json.now)) ≡ Ok rows.new) }
+    ensures fault { IfErr result (λ fault. fault ≢ RowsFault.NoMemory → rows_with_leaf path rows.old
+        (leaf_at (option_copied shape.entry) (view json.now)) ≡ Err fault) }
+{
+    let Some(value) = leaf_at(alloc, shape, json)? else {
+        return Err(RowsFault::BadValue);
+    };
+    rows.push(Row { path, value })?;
+    Ok(())
+}
+
+/// The values of a leaf-list, where none is equal to another. They are compared once all are read.
+fn values_of(
+    alloc: Global,
+    shape: Option<&Shape>,
+    items: &Vec<Json>,
+) -> Result<Option<Values>, NoMemory>
+    ensures { IfOk result (λ values. values ≡ values_from (option_copied shape.entry) []
+        (items_view items.now.items)) }
+{
+    let mut done = Seq::empty(alloc);
+    for item in items {
+        let Some(value) = leaf_at(alloc, shape, item)? else {
+            return Ok(None);
+        };
+        done.push(value)?;
+    }
+    if all_differ(alloc, done.items())? {
+        Ok(Some(done))
+    } else {
+        Ok(None)
+    }
+}
+
+/// Adds the row of a leaf-list, where it has a value.
+pub(crate) fn add_list(
+    alloc: Global,
+    shape: Option<&Shape>,
+    path: Path,
+    items: &Vec<Json>,
+    rows: &mut Rows,
+) -> Result<(), RowsFault>
+    ensures ok { OnOk result (rows_with_leaf_list path rows.old (values_from (option_copied shape.entry) []
+        (items_view items.now.items)) ≡ Ok rows.new) }
+    ensures fault { IfErr result (λ fault. fault ≢ RowsFault.NoMemory → rows_with_leaf_list path rows.old
+        (values_from (option_copied shape.entry) [] (items_view items.now.items)) ≡ Err fault) }
+{
+    let Some(values) = values_of(alloc, shape, items)? else {
+        return Err(RowsFault::BadValue);
+    };
+    if values.is_empty() {
+        return Ok(());
+    }
+    let value = Value::List(values);
+    rows.push(Row { path, value })?;
+    Ok(())
+}
+
+/// Adds the keys to those of the entries before, where no entry had them.
+pub(crate) fn add_keys(alloc: Global, seen: &mut SeenKeys, keys: &Keys) -> Result<(), RowsFault>
+    ensures ok { OnOk result (keys_unless_seen seen.old keys.now ≡ Ok keys.now) }
+    ensures more { OnOk result (seen.new ≡ seen.old ++ keys.now ∷ []) }
+    ensures fault { IfErr result (λ fault. fault ≢ RowsFault.NoMemory → keys_unless_seen seen.old keys.now
+        ≡ Err fault) }
+{
+    if seen.add(alloc, keys)? {
+        Ok(())
+    } else {
+        Err(RowsFault::BadValue)
+    }
+}

@@ -1,0 +1,15 @@
+// Laws of requests.
+ghost use Rattle.set_txn.specs.laws.Asks.{ResolvedIsFit, PlainIsApply};
+ghost use Rattle.set_txn.specs.laws.Refusals.{RefusalsOfRequests};
+
+/// What a request asks may be judged, and without an action it is that its operations are applied.
+pub fn asks_of_requests()
+    ensures fit { ResolvedIsFit }
+    ensures plain { PlainIsApply }
+{}
+
+/// A request is refused by `BadPath`, `NotInSchema`, `BadValue`, `Unsupported`, `BadDuration`, `MixedAction` or `BadId`,
+/// and by no other, before it is judged.
+pub fn refusals_of_requests()
+    ensures { RefusalsOfRequests }
+{}
