@@ -192,7 +192,7 @@ impl<T: TreeLike + Drop> Core<T> {
         Ok(entry)
     }
 
-    /// Whether the entry, its record and the octet behind it are within the limits.
+    /// Whether the log with one more entry, its record and its gate, is within the limits.
     fn has_room(&self, entry: &Entry) -> bool
         ensures { let octets = record_octets entry.now + gate_octets in
             result ≡ limited self.now.limits self.now.entries 1 octets }

@@ -9,7 +9,7 @@ use std::marker::Model;
 /// A data node of a schema: the names from the root to it, its sort, the shape of a leaf or a leaf-list, the names of a
 /// list's keys, its module, whether a leaf is mandatory, the names of the leaf that it refers to, and how many entries
 /// or values it may have (RFC 7950 4.2.2, 7.6.5, 7.7.6, 7.8.2, 9.9).
-#[derive(Debug, Drop)]
+#[derive(Drop)]
 pub struct Node {
     pub names: Texts,
     pub sort: Sort,

@@ -8,7 +8,7 @@ use base_kinds::{Copied, Entry, Kind, NoMemory, Rows, Seq, Text};
 use std::alloc::Global;
 
 /// A trial that is neither confirmed nor undone.
-#[derive(Debug, PartialEq, Drop)]
+#[derive(Drop)]
 pub struct PlainTrial {
     pub id: Text,
     pub before: Rows,
@@ -16,7 +16,7 @@ pub struct PlainTrial {
 }
 
 /// The tree, and the open trial where there is one.
-#[derive(Debug, PartialEq, Drop)]
+#[derive(Drop)]
 pub struct PlainWorld {
     pub tree: Rows,
     pub trial: Option<PlainTrial>,
