@@ -86,13 +86,13 @@ fn count_of(alloc: Global, mut disk: FuseDisk) -> Option<(usize, usize)> {
 
 /// For a stop in the call of an append of this number, by fill: how many entries the journal then
 /// has, and how many stops came in its opening.
-const STOPPED_APPENDS: &[(u64, [(usize, usize); 5])] = &[
-    (0, [(0, 0), (0, 0), (0, 0), (0, 0), (0, 0)]),
-    (1, [(0, 0), (0, 0), (0, 0), (0, 0), (0, 0)]),
-    (2, [(0, 0), (1, 0), (0, 0), (0, 0), (1, 0)]),
-    (3, [(0, 0), (1, 0), (0, 0), (0, 0), (1, 0)]),
+const STOPPED_APPENDS: &[(u64, &[(usize, usize)])] = &[
+    (0, &[(0, 0), (0, 0), (0, 0), (0, 0), (0, 0)]),
+    (1, &[(0, 0), (0, 0), (0, 0), (0, 0), (0, 0)]),
+    (2, &[(0, 0), (1, 0), (0, 0), (0, 0), (1, 0)]),
+    (3, &[(0, 0), (1, 0), (0, 0), (0, 0), (1, 0)]),
     // The append has four calls, so this stop comes in the opening.
-    (4, [(1, 1), (1, 1), (1, 1), (1, 1), (1, 1)]),
+    (4, &[(1, 1), (1, 1), (1, 1), (1, 1), (1, 1)]),
 ];
 
 fn stopped_append(
@@ -114,9 +114,9 @@ fn stopped_append(
 #[test]
 fn a_stop_leaves_an_append_whole_or_absent(rt: HostRuntime) -> Result<(), CreateFault> {
     for (passes, found) in STOPPED_APPENDS.iter().copied() {
-        for (fill, count) in FILLS.iter().zip(found) {
+        for (fill, count) in FILLS.iter().zip(found.iter()) {
             let left = stopped_append(rt.alloc(), passes, *fill)?;
-            assert_eq!(rt; left, Some(count), "at {passes}, {fill:?}");
+            assert_eq!(rt; left, Some(*count), "at {passes}, {fill:?}");
         }
     }
     Ok(())

@@ -13,17 +13,17 @@ use Rattle.journal_record.specs.declared.fault.RecordFault.TheVariants as record
 use Rattle.journal_format.specs.declared.journal.JournalFault.{JournalFault}
 use Rattle.journal_format.specs.Answers.{IsCauseOf}
 use Rattle.journal_format.specs.inner.Read.{IsReadFrom, CauseAt}
-use Rattle.journal_format.specs.inner.Progress.{Stands, IsWithin, IsFollowed, IsFollowedByNone}
+use Rattle.journal_format.specs.inner.Progress.{Summarizes, IsWithinLimits, IsFollowed, IsFollowedByNone}
 use Rattle.journal_format.proofs.Histories.{front_more, front_length, turn_one_more}
 
 pub record SoFar (limits : Limits) (octets : List ℕ) (so_far : Progress) (entries : List Entry) (rest : List ℕ) : Type 0 where
   pub parts : header limits ++ octets ≡ journal_prefix limits entries ++ rest
   pub in_turn : FollowInTurn limits [] entries
   pub kept : AreRepresentable entries
-  pub stands : Stands so_far entries
-  pub within : IsWithin limits so_far
+  pub stands : Summarizes so_far entries
+  pub within : IsWithinLimits limits so_far
 
-pub starts : (limits : Limits) (octets : List ℕ) (so_far : Progress) (entries : List Entry) → entries ≡ [] → AreInRange limits → Stands so_far [] → SoFar limits octets so_far entries octets
+pub starts : (limits : Limits) (octets : List ℕ) (so_far : Progress) (entries : List Entry) → entries ≡ [] → AreInRange limits → Summarizes so_far [] → SoFar limits octets so_far entries octets
 starts limits octets so_far entries none range stands = subst (λ (es : List Entry). SoFar limits octets so_far es octets) (sym none) (record {
   parts = ap (λ (l : List ℕ). l ++ octets) (sym (append-nil (header limits)));
   in_turn = tt;
@@ -52,7 +52,7 @@ goes_on limits octets so_far entries gate behind rest entry next after entries' 
       within = f.is_within;
     })
 
-gate_place : (limits : Limits) (so_far : Progress) (entries : List Entry) (place : ℕ) → Stands so_far entries → place + 1 ≡ so_far.octets → place ≡ length (journal_prefix limits entries)
+gate_place : (limits : Limits) (so_far : Progress) (entries : List Entry) (place : ℕ) → Summarizes so_far entries → place + 1 ≡ so_far.octets → place ≡ length (journal_prefix limits entries)
 gate_place limits so_far entries place stands is = omega (arith, stands.octets_are, front_length limits entries)
 
 pub has_gate : (limits : Limits) (octets : List ℕ) (so_far : Progress) (entries : List Entry) (rest : List ℕ) → SoFar limits octets so_far entries rest → 1 ≤ so_far.octets

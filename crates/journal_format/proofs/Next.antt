@@ -17,7 +17,7 @@ use Rattle.journal_record.proofs.Lengths.{record_length}
 use Rattle.std.proofs.lemmas.List.{length-append}
 use Rattle.journal_format.specs.declared.progress.Progress.{Progress}
 use Rattle.journal_format.specs.Histories.{MayFollow, is_author_of, happens, is_fit_kind, is_fit_deadline, has_trial, has_room}
-use Rattle.journal_format.specs.inner.Progress.{Stands, IsWithin, is_fit_but_for_ops, is_later, may_happen, with_entry, leaves_room, follow, IsFollowed, IsFollowedByNone}
+use Rattle.journal_format.specs.inner.Progress.{Summarizes, IsWithinLimits, is_fit_but_for_ops, is_later, may_happen, with_entry, leaves_room, follow, IsFollowed, IsFollowedByNone}
 use Rattle.journal_format.proofs.Histories.{has_trial_more, stamp_more, size_more, length_more}
 
 -- ---- room
@@ -29,14 +29,14 @@ same_room : (limits : Limits) (count count' stamp stamp' : ℕ) (o o' : Bool) (o
     → leaves_room limits (record { count = count; stamp = stamp; is_open = o; octets = octets }) ≡ leaves_room limits (record { count = count'; stamp = stamp'; is_open = o'; octets = octets' })
 same_room limits count count' stamp stamp' o o' octets octets' ec es eo ez = cc
 
-pub room_is : (limits : Limits) (so_far : Progress) (h : List Entry) → Stands so_far h → leaves_room limits so_far ≡ has_room limits h
+pub room_is : (limits : Limits) (so_far : Progress) (h : List Entry) → Summarizes so_far h → leaves_room limits so_far ≡ has_room limits h
 room_is limits so_far h stands =
     same_room limits so_far.count (length h) so_far.stamp (stamp_of h) so_far.is_open (has_trial h) so_far.octets (size_of h) stands.count_is stands.stamp_is stands.open_is stands.octets_are
 
-within_of : (limits : Limits) (so_far : Progress) → leaves_room limits so_far ≡ true → IsWithin limits so_far
+within_of : (limits : Limits) (so_far : Progress) → leaves_room limits so_far ≡ true → IsWithinLimits limits so_far
 within_of limits so_far room = by_open so_far.is_open room
   where
-    by_open : (o : Bool) → cond o (leb (so_far.count + 1) limits.entries && leb (so_far.octets + 14) limits.octets) (leb (so_far.count + 0) limits.entries && leb (so_far.octets + 0) limits.octets) ≡ true → IsWithin limits so_far
+    by_open : (o : Bool) → cond o (leb (so_far.count + 1) limits.entries && leb (so_far.octets + 14) limits.octets) (leb (so_far.count + 0) limits.entries && leb (so_far.octets + 0) limits.octets) ≡ true → IsWithinLimits limits so_far
     by_open true e =
         let t = and_parts (leb (so_far.count + 1) limits.entries) (leb (so_far.octets + 14) limits.octets) e in
         record { entries_within = omega (arith, leb-true _ _ t.0); octets_within = omega (arith, leb-true _ _ t.1) }
@@ -89,7 +89,7 @@ next_has_record limits h entry range next kept =
 
 -- ---- the step
 
-pub stands_more : (so_far : Progress) (h : List Entry) (entry : Entry) (octets : ℕ) → Stands so_far h → happens entry.kind (has_trial h) ≡ true → octets ≡ record_octets entry → Stands (with_entry so_far entry octets) (h ++ entry ∷ [])
+pub stands_more : (so_far : Progress) (h : List Entry) (entry : Entry) (octets : ℕ) → Summarizes so_far h → happens entry.kind (has_trial h) ≡ true → octets ≡ record_octets entry → Summarizes (with_entry so_far entry octets) (h ++ entry ∷ [])
 stands_more so_far h entry octets stands happened is = record {
   count_is = omega (arith, stands.count_is, length_more h entry);
   stamp_is = sym (stamp_more 0 h entry);
@@ -102,8 +102,8 @@ split_test true b p q e = absurd cc
 split_test false true p q e = (refl, refl, cc)
 split_test false false p q e = absurd cc
 
-pub follows_is : (limits : Limits) (so_far : Progress) (entry : Entry) (octets : ℕ) (next : Progress) (h : List Entry) → Stands so_far h → entry.number ≡ so_far.count + 1 → octets ≡ record_octets entry → AreFitOps (ops_of entry.kind)
-    → follow limits so_far entry octets ≡ Some next → MayFollow limits h entry × Stands next (h ++ entry ∷ []) × IsWithin limits next
+pub follows_is : (limits : Limits) (so_far : Progress) (entry : Entry) (octets : ℕ) (next : Progress) (h : List Entry) → Summarizes so_far h → entry.number ≡ so_far.count + 1 → octets ≡ record_octets entry → AreFitOps (ops_of entry.kind)
+    → follow limits so_far entry octets ≡ Some next → MayFollow limits h entry × Summarizes next (h ++ entry ∷ []) × IsWithinLimits limits next
 follows_is limits so_far entry octets next h stands number is fit e =
     let made = with_entry so_far entry octets in
     let t = split_test (ltb limits.octets octets) (may_happen so_far entry && leaves_room limits made) made next e in
@@ -123,8 +123,8 @@ follows_is limits so_far entry octets next h stands number is fit e =
         kind_fits = kind_fits_from entry.stamp entry.kind fit c.1;
         room = sym (room_is limits made (h ++ entry ∷ []) stands') ∙ both.1;
       },
-      subst (λ (p : Progress). Stands p (h ++ entry ∷ [])) t.2 stands',
-      subst (λ (p : Progress). IsWithin limits p) t.2 (within_of limits made both.1),
+      subst (λ (p : Progress). Summarizes p (h ++ entry ∷ [])) t.2 stands',
+      subst (λ (p : Progress). IsWithinLimits limits p) t.2 (within_of limits made both.1),
     )
 
 not_none : (a b : Bool) (p : Progress) → a ≡ false → b ≡ true → ◌≡◌ {A = Option Progress} (cond a None (cond b (Some p) None)) None → ⊥
@@ -132,7 +132,7 @@ not_none true b p ea eb e = cc
 not_none false true p ea eb e = cc
 not_none false false p ea eb e = cc
 
-pub follows_not : (limits : Limits) (so_far : Progress) (entry : Entry) (octets : ℕ) (h : List Entry) → Stands so_far h → octets ≡ record_octets entry → follow limits so_far entry octets ≡ None → MayFollow limits h entry → ⊥
+pub follows_not : (limits : Limits) (so_far : Progress) (entry : Entry) (octets : ℕ) (h : List Entry) → Summarizes so_far h → octets ≡ record_octets entry → follow limits so_far entry octets ≡ None → MayFollow limits h entry → ⊥
 follows_not limits so_far entry octets h stands is e next =
     let made = with_entry so_far entry octets in
     let happened : happens entry.kind so_far.is_open ≡ true = ap (happens entry.kind) stands.open_is ∙ next.can_happen in

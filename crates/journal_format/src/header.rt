@@ -31,7 +31,7 @@ fn after<'a>(octets: &'a [u8], front: &[u8]) -> Option<&'a [u8]>
 
 /// The two limits behind the mark.
 #[tactic(auto, unfolding(crate::specs::inner::Progress::limits_at))]
-fn limits_in(octets: &[u8]) -> Option<(Limits, &[u8])>
+fn limits_at(octets: &[u8]) -> Option<(Limits, &[u8])>
     ensures { option_map (λ x. (x.0, x.1.now)) result ≡ limits_at octets.now }
 {
     let (entries, rest) = four_in(octets)?;
@@ -44,7 +44,7 @@ fn legal_limits_in(octets: &[u8]) -> Option<(Limits, &[u8])>
     ensures { MatchOption result (HasNoLimits octets.now)
         (λ x. AreInRange x.0 × (octets.now ≡ limits_octets x.0 ++ x.1.now)) }
 {
-    let (limits, rest) = limits_in(octets)?;
+    let (limits, rest) = limits_at(octets)?;
     if !limits.in_range() {
         return None;
     }

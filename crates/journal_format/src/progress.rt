@@ -3,7 +3,7 @@ ghost use Rattle.std.specs.Prelude.{◌≡◌, ◌+◌, ◌^◌, ◌<◌, ◌≤
 ghost use Rattle.base_kinds.specs.Legal.{is_fit_id};
 ghost use Rattle.base_kinds.specs.Limits.{AreInRange, closing_octets};
 ghost use Rattle.journal_format.specs.Histories.{is_author_of, happens, is_fit_deadline};
-ghost use Rattle.journal_format.specs.inner.Progress.{Stands, IsWithin, opens, is_fit_but_for_ops, is_later, may_happen, with_entry, has_so_much_room, leaves_room, follow};
+ghost use Rattle.journal_format.specs.inner.Progress.{Summarizes, IsWithinLimits, opens, is_fit_but_for_ops, is_later, may_happen, with_entry, has_so_much_room, leaves_room, follow};
 
 use base_kinds::{
     CLOSING_OCTETS, EMPTY_LOG_OCTETS, Entry, GATE_OCTETS, Kind, LATEST_READING, LONGEST_DURATION,
@@ -22,7 +22,7 @@ pub(crate) struct Progress {
 
 impl Progress {
     pub(crate) fn start() -> Progress
-        ensures { Stands result [] }
+        ensures { Summarizes result [] }
     {
         Progress {
             count: 0,
@@ -142,7 +142,7 @@ pub(crate) fn follow(
     octets: usize,
 ) -> Option<Progress>
     requires in_range { AreInRange limits.now }
-    requires within { IsWithin limits.now so_far.now }
+    requires within { IsWithinLimits limits.now so_far.now }
     requires number { entry.now.number ≡ so_far.now.count + 1 }
     ensures { result ≡ follow limits.now so_far.now entry.now octets }
 {

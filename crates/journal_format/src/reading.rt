@@ -6,7 +6,7 @@ ghost use Rattle.base_kinds.specs.declared.entry.Limits.{Limits as LogLimits};
 ghost use Rattle.journal_format.specs.Journal.{header, journal_prefix, IsJournal, IsDamaged};
 ghost use Rattle.journal_format.specs.Answers.{IsCauseOf, GivesJournal, GivesDamage};
 ghost use Rattle.journal_format.specs.inner.Read.{IsReadFrom, CauseAt};
-ghost use Rattle.journal_format.specs.inner.Progress.{IsWithin, IsFollowed, IsFollowedByNone};
+ghost use Rattle.journal_format.specs.inner.Progress.{IsWithinLimits, IsFollowed, IsFollowedByNone};
 
 use crate::gates::OPEN_GATE;
 use crate::header::header_in;
@@ -25,7 +25,7 @@ fn next_in<'a>(
     octets: &'a [u8],
 ) -> Result<(Entry, Progress, &'a [u8]), RecordFault>
     requires in_range { AreInRange limits.now }
-    requires within { IsWithin limits.now so_far.now }
+    requires within { IsWithinLimits limits.now so_far.now }
     ensures found { IfOk result (λ x.
         IsFollowed limits.now so_far.now octets.now x.0 x.1 x.2.now) }
     ensures none { IsErrOf result RecordFault.NoRecord

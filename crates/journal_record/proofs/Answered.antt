@@ -7,12 +7,12 @@ use Rattle.journal_record.specs.declared.fault.RecordFault.{RecordFault}
 use Rattle.journal_record.specs.declared.fault.RecordFault.TheVariants as faults
 use Rattle.journal_record.specs.Spelling.{record_of}
 use Rattle.journal_record.specs.Representable.{HasRecord, IsReadAs}
-use Rattle.journal_record.specs.inner.Reading.{Gives, entry_at}
+use Rattle.journal_record.specs.inner.Reading.{AnswersPart, entry_at}
 use Rattle.journal_record.proofs.Forms.{IsBytes}
 use Rattle.journal_record.proofs.Entries.{entry_took, one_entry, no_entry}
 
 abbrev Given : ℕ → List ℕ → Result (Entry × Bor (List ℕ)) RecordFault → Type 0
-Given number octets r = Gives (λ x. (x.0, x.1.now)) r (entry_at number octets)
+Given number octets r = AnswersPart (λ x. (x.0, x.1.now)) r (entry_at number octets)
 
 pub is_found : (number : ℕ) (octets : List ℕ) (r : Result (Entry × Bor (List ℕ)) RecordFault) → IsBytes octets → Given number octets r → IfOk r (λ x. IsReadAs number octets x.0 x.1.now)
 is_found number octets (Ok x) bytes given =

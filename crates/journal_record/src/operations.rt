@@ -1,12 +1,12 @@
 // Reading rows and operations.
 ghost use Rattle.std.specs.Prelude.{◌≡◌};
 ghost use Rattle.base_kinds.specs.Legal.{has_fit_rows, is_empty};
-ghost use Rattle.journal_record.specs.inner.Reading.{Gives, act_at, rows_at, op_parts_at, ops_at};
+ghost use Rattle.journal_record.specs.inner.Reading.{AnswersPart, act_at, rows_at, op_parts_at, ops_at};
 
 use crate::fault::RecordFault;
 use crate::part::{Part, four_in, many};
-use crate::paths::path_in;
-use crate::values::value_in;
+use crate::paths::path_at;
+use crate::values::value_at;
 use base_kinds::{Act, Op, Ops, Row, Rows, rises};
 use std::alloc::Global;
 
@@ -17,15 +17,15 @@ impl Part for Row {
 
     #[tactic(auto, unfolding(crate::specs::inner::Reading::row_at))]
     fn read(alloc: Global, octets: &[u8]) -> Result<(Row, &[u8]), RecordFault> {
-        let (path, rest) = path_in(alloc, octets)?;
-        let (value, rest) = value_in(alloc, rest)?;
+        let (path, rest) = path_at(alloc, octets)?;
+        let (value, rest) = value_at(alloc, rest)?;
         Ok((Row { path, value }, rest))
     }
 }
 
 #[tactic(auto, unfolding(crate::specs::inner::Reading::rows_at))]
-fn rows_in(alloc: Global, octets: &[u8]) -> Result<(Rows, &[u8]), RecordFault>
-    ensures { Gives (λ x. (x.0, x.1.now)) result (rows_at octets.now) }
+fn rows_at(alloc: Global, octets: &[u8]) -> Result<(Rows, &[u8]), RecordFault>
+    ensures { AnswersPart (λ x. (x.0, x.1.now)) result (rows_at octets.now) }
 {
     let (count, rest) = four_in(octets)?;
     let (rows, rest) = many(alloc, count as usize, rest)?;
@@ -35,8 +35,8 @@ fn rows_in(alloc: Global, octets: &[u8]) -> Result<(Rows, &[u8]), RecordFault>
     Ok((rows, rest))
 }
 
-fn act_in(octets: &[u8]) -> Result<(Act, &[u8]), RecordFault>
-    ensures { Gives (λ x. (x.0, x.1.now)) result (act_at octets.now) }
+fn act_at(octets: &[u8]) -> Result<(Act, &[u8]), RecordFault>
+    ensures { AnswersPart (λ x. (x.0, x.1.now)) result (act_at octets.now) }
 {
     match octets {
         [1, rest @ ..] => Ok((Act::Delete, rest)),
@@ -57,12 +57,12 @@ fn has_fit_rows(act: Act, rows: &[Row]) -> bool
 }
 
 #[tactic(auto, unfolding(crate::specs::inner::Reading::op_parts_at))]
-fn op_parts_in(alloc: Global, octets: &[u8]) -> Result<(Op, &[u8]), RecordFault>
-    ensures { Gives (λ x. (x.0, x.1.now)) result (op_parts_at octets.now) }
+fn op_parts_at(alloc: Global, octets: &[u8]) -> Result<(Op, &[u8]), RecordFault>
+    ensures { AnswersPart (λ x. (x.0, x.1.now)) result (op_parts_at octets.now) }
 {
-    let (act, rest) = act_in(octets)?;
-    let (path, rest) = path_in(alloc, rest)?;
-    let (rows, rest) = rows_in(alloc, rest)?;
+    let (act, rest) = act_at(octets)?;
+    let (path, rest) = path_at(alloc, rest)?;
+    let (rows, rest) = rows_at(alloc, rest)?;
     Ok((Op { act, path, rows }, rest))
 }
 
@@ -73,7 +73,7 @@ impl Part for Op {
 
     #[tactic(auto, unfolding(crate::specs::inner::Reading::op_at))]
     fn read(alloc: Global, octets: &[u8]) -> Result<(Op, &[u8]), RecordFault> {
-        let (op, rest) = op_parts_in(alloc, octets)?;
+        let (op, rest) = op_parts_at(alloc, octets)?;
         if !has_fit_rows(op.act, op.rows.items()) {
             return Err(RecordFault::NoRecord);
         }
@@ -82,8 +82,8 @@ impl Part for Op {
 }
 
 #[tactic(auto, unfolding(crate::specs::inner::Reading::ops_at))]
-pub(crate) fn ops_in(alloc: Global, octets: &[u8]) -> Result<(Ops, &[u8]), RecordFault>
-    ensures { Gives (λ x. (x.0, x.1.now)) result (ops_at octets.now) }
+pub(crate) fn ops_at(alloc: Global, octets: &[u8]) -> Result<(Ops, &[u8]), RecordFault>
+    ensures { AnswersPart (λ x. (x.0, x.1.now)) result (ops_at octets.now) }
 {
     let (count, rest) = four_in(octets)?;
     many(alloc, count as usize, rest)

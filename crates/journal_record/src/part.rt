@@ -2,7 +2,7 @@
 // after it.
 ghost use Rattle.std.specs.Prelude.{◌≡◌, ℕ, List, Option};
 ghost use Rattle.std.specs.Int.{w16, w32, w64};
-ghost use Rattle.journal_record.specs.inner.Reading.{Gives, number_at, many_at};
+ghost use Rattle.journal_record.specs.inner.Reading.{AnswersPart, number_at, many_at};
 
 use crate::fault::RecordFault;
 use base_lists::Seq;
@@ -13,7 +13,7 @@ pub(crate) trait Part: Drop {
     ghost at: { List ℕ → Option (Self × List ℕ) };
 
     fn read(alloc: Global, octets: &[u8]) -> Result<(Self, &[u8]), RecordFault>
-        ensures { Gives (λ x. (x.0, x.1.now)) result (at octets.now) };
+        ensures { AnswersPart (λ x. (x.0, x.1.now)) result (at octets.now) };
 }
 
 /// So many parts.
@@ -22,7 +22,7 @@ pub(crate) fn many<T: Part>(
     count: usize,
     octets: &[u8],
 ) -> Result<(Seq<T>, &[u8]), RecordFault>
-    ensures { Gives (λ x. (x.0, x.1.now)) result (many_at T.at count octets.now) }
+    ensures { AnswersPart (λ x. (x.0, x.1.now)) result (many_at T.at count octets.now) }
 {
     let mut parts = Seq::empty(alloc);
     let mut rest = octets;
@@ -35,7 +35,7 @@ pub(crate) fn many<T: Part>(
 }
 
 pub(crate) fn two_in(octets: &[u8]) -> Result<(u16, &[u8]), RecordFault>
-    ensures { Gives (λ x. (x.0, x.1.now)) result (number_at w16 octets.now) }
+    ensures { AnswersPart (λ x. (x.0, x.1.now)) result (number_at w16 octets.now) }
 {
     if octets.len() < 2 {
         return Err(RecordFault::NoRecord);
@@ -45,7 +45,7 @@ pub(crate) fn two_in(octets: &[u8]) -> Result<(u16, &[u8]), RecordFault>
 }
 
 pub(crate) fn four_in(octets: &[u8]) -> Result<(u32, &[u8]), RecordFault>
-    ensures { Gives (λ x. (x.0, x.1.now)) result (number_at w32 octets.now) }
+    ensures { AnswersPart (λ x. (x.0, x.1.now)) result (number_at w32 octets.now) }
 {
     if octets.len() < 4 {
         return Err(RecordFault::NoRecord);
@@ -56,7 +56,7 @@ pub(crate) fn four_in(octets: &[u8]) -> Result<(u32, &[u8]), RecordFault>
 }
 
 pub(crate) fn eight_in(octets: &[u8]) -> Result<(u64, &[u8]), RecordFault>
-    ensures { Gives (λ x. (x.0, x.1.now)) result (number_at w64 octets.now) }
+    ensures { AnswersPart (λ x. (x.0, x.1.now)) result (number_at w64 octets.now) }
 {
     if octets.len() < 8 {
         return Err(RecordFault::NoRecord);

@@ -1,7 +1,7 @@
 // Reading texts, and paths of elements with keys.
 ghost use Rattle.std.specs.Prelude.{◌≡◌, ◌↔◌, IsTrue, Some, None, if◌then◌else◌};
 ghost use Rattle.std.specs.Str.{is_utf8};
-ghost use Rattle.journal_record.specs.inner.Reading.{Gives, octets_at, text_at, key_at, keys_at, elem_at, path_at};
+ghost use Rattle.journal_record.specs.inner.Reading.{AnswersPart, octets_at, text_at, key_at, keys_at, elem_at, path_at};
 
 use crate::fault::RecordFault;
 use crate::part::{Part, four_in, many, two_in};
@@ -10,8 +10,8 @@ use std::alloc::Global;
 
 /// A length, and so many octets.
 #[tactic(auto, unfolding(crate::specs::inner::Reading::octets_at))]
-pub(crate) fn octets_in(octets: &[u8]) -> Result<(&[u8], &[u8]), RecordFault>
-    ensures { Gives (λ x. (x.0.now, x.1.now)) result (octets_at octets.now) }
+pub(crate) fn octets_at(octets: &[u8]) -> Result<(&[u8], &[u8]), RecordFault>
+    ensures { AnswersPart (λ x. (x.0.now, x.1.now)) result (octets_at octets.now) }
 {
     let (length, rest) = four_in(octets)?;
     let length = length as usize;
@@ -23,7 +23,7 @@ pub(crate) fn octets_in(octets: &[u8]) -> Result<(&[u8], &[u8]), RecordFault>
 
 #[tactic(auto, using(crate::proofs::Texts::utf8_tests))]
 fn text_of(alloc: Global, octets: &[u8]) -> Result<Text, RecordFault>
-    ensures { Gives (λ text. text) result (if is_utf8 octets.now then Some octets.now else None) }
+    ensures { AnswersPart (λ text. text) result (if is_utf8 octets.now then Some octets.now else None) }
 {
     match Text::of(alloc, octets) {
         Ok(text) => Ok(text),
@@ -33,10 +33,10 @@ fn text_of(alloc: Global, octets: &[u8]) -> Result<Text, RecordFault>
 }
 
 #[tactic(auto, unfolding(crate::specs::inner::Reading::text_at))]
-pub(crate) fn text_in(alloc: Global, octets: &[u8]) -> Result<(Text, &[u8]), RecordFault>
-    ensures { Gives (λ x. (x.0, x.1.now)) result (text_at octets.now) }
+pub(crate) fn text_at(alloc: Global, octets: &[u8]) -> Result<(Text, &[u8]), RecordFault>
+    ensures { AnswersPart (λ x. (x.0, x.1.now)) result (text_at octets.now) }
 {
-    let (text, rest) = octets_in(octets)?;
+    let (text, rest) = octets_at(octets)?;
     let text = text_of(alloc, text)?;
     Ok((text, rest))
 }
@@ -48,15 +48,15 @@ impl Part for (Text, Text) {
 
     #[tactic(auto, unfolding(crate::specs::inner::Reading::key_at))]
     fn read(alloc: Global, octets: &[u8]) -> Result<((Text, Text), &[u8]), RecordFault> {
-        let (name, rest) = text_in(alloc, octets)?;
-        let (value, rest) = text_in(alloc, rest)?;
+        let (name, rest) = text_at(alloc, octets)?;
+        let (value, rest) = text_at(alloc, rest)?;
         Ok(((name, value), rest))
     }
 }
 
 #[tactic(auto, unfolding(crate::specs::inner::Reading::keys_at))]
-fn keys_in(alloc: Global, octets: &[u8]) -> Result<(Keys, &[u8]), RecordFault>
-    ensures { Gives (λ x. (x.0, x.1.now)) result (keys_at octets.now) }
+fn keys_at(alloc: Global, octets: &[u8]) -> Result<(Keys, &[u8]), RecordFault>
+    ensures { AnswersPart (λ x. (x.0, x.1.now)) result (keys_at octets.now) }
 {
     let (count, rest) = two_in(octets)?;
     let (keys, rest) = many(alloc, count as usize, rest)?;
@@ -73,15 +73,15 @@ impl Part for Elem {
 
     #[tactic(auto, unfolding(crate::specs::inner::Reading::elem_at))]
     fn read(alloc: Global, octets: &[u8]) -> Result<(Elem, &[u8]), RecordFault> {
-        let (name, rest) = text_in(alloc, octets)?;
-        let (keys, rest) = keys_in(alloc, rest)?;
+        let (name, rest) = text_at(alloc, octets)?;
+        let (keys, rest) = keys_at(alloc, rest)?;
         Ok((Elem { name, keys }, rest))
     }
 }
 
 #[tactic(auto, unfolding(crate::specs::inner::Reading::path_at))]
-pub(crate) fn path_in(alloc: Global, octets: &[u8]) -> Result<(Path, &[u8]), RecordFault>
-    ensures { Gives (λ x. (x.0, x.1.now)) result (path_at octets.now) }
+pub(crate) fn path_at(alloc: Global, octets: &[u8]) -> Result<(Path, &[u8]), RecordFault>
+    ensures { AnswersPart (λ x. (x.0, x.1.now)) result (path_at octets.now) }
 {
     let (count, rest) = two_in(octets)?;
     if count as usize > MOST_ELEMENTS {

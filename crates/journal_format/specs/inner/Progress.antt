@@ -19,13 +19,13 @@ use Rattle.journal_format.specs.Histories.{is_author_of, happens, is_fit_deadlin
 use Rattle.journal_format.specs.Journal.{HasNoNext}
 
 -- the history that was read
-pub record Stands (so_far : Progress) (h : List Entry) : Type 0 where
+pub record Summarizes (so_far : Progress) (h : List Entry) : Type 0 where
   pub count_is : so_far.count ≡ length h
   pub stamp_is : so_far.stamp ≡ stamp_of h
   pub open_is : so_far.is_open ≡ has_trial h
   pub octets_are : so_far.octets ≡ size_of h
 
-pub record IsWithin (limits : Limits) (so_far : Progress) : Type 0 where
+pub record IsWithinLimits (limits : Limits) (so_far : Progress) : Type 0 where
   pub entries_within : so_far.count ≤ limits.entries
   pub octets_within : so_far.octets ≤ limits.octets
 
@@ -96,17 +96,17 @@ pub record Follows (limits : Limits) (so_far : Progress) (octets : List ℕ) (en
   pub parts : octets ≡ record_of entry ++ rest
   pub is_representable : IsRepresentable entry
   pub is_next : MayFollow limits h entry
-  pub stands : Stands next (h ++ entry ∷ [])
-  pub is_within : IsWithin limits next
+  pub stands : Summarizes next (h ++ entry ∷ [])
+  pub is_within : IsWithinLimits limits next
 
 -- whichever history was read
 abbrev pub IsFollowed : Limits → Progress → List ℕ → Entry → Progress → List ℕ → Type 0
 IsFollowed limits so_far octets entry next rest =
-    (h : List Entry) → Stands so_far h → Follows limits so_far octets entry next rest h
+    (h : List Entry) → Summarizes so_far h → Follows limits so_far octets entry next rest h
 
 abbrev pub IsFollowedByNone : Limits → Progress → List ℕ → Type 0
 IsFollowedByNone limits so_far octets =
-    (h : List Entry) → Stands so_far h → HasNoNext limits h octets
+    (h : List Entry) → Summarizes so_far h → HasNoNext limits h octets
 
 -- the two limits of a header, behind its mark
 abbrev pub limits_octets : Limits → List ℕ

@@ -28,9 +28,9 @@ Fails faults.NoRecord read = read ≡ None
 Fails faults.NoMemory read = Unit {0}
 
 -- what a function returned, seen by view, is what is read, unless memory ran out
-abbrev pub Gives : {X Y : Type 0} → (X → Y) → Result X RecordFault → Option Y → Type 0
-Gives view (Ok x) read = read ≡ Some (view x)
-Gives view (Err e) read = Fails e read
+abbrev pub AnswersPart : {X Y : Type 0} → (X → Y) → Result X RecordFault → Option Y → Type 0
+AnswersPart view (Ok x) read = read ≡ Some (view x)
+AnswersPart view (Err e) read = Fails e read
 
 abbrev pub number_at : Width → List ℕ → Option (ℕ × List ℕ)
 number_at w octets =
