@@ -7,10 +7,13 @@ use thiserror::Error;
 /// Why no journal was made.
 #[derive(Clone, Copy, Debug, PartialEq, Eq, Error)]
 pub enum CreateFault {
+    /// The disk has octets. Nothing was written.
     #[error("not empty")]
     NotEmpty,
+    /// A call of the disk failed. What it holds then may be torn.
     #[error("disk fault")]
     DiskFault,
+    /// Nothing was written.
     #[error("no memory")]
     NoMemory,
 }
@@ -38,8 +41,10 @@ impl From<NoMemory> for CreateFault {
 /// Why an entry isn't sure to stand in the journal.
 #[derive(Clone, Copy, Debug, PartialEq, Eq, Error)]
 pub enum LedgerFault {
+    /// A call of the disk failed. `Ledger::in_doubt` tells whether the entry may stand.
     #[error("disk fault")]
     DiskFault,
+    /// Nothing was written.
     #[error("no memory")]
     NoMemory,
 }

@@ -89,7 +89,8 @@ fn first_octets(alloc: Global, limits: &Limits) -> Result<Bytes, NoMemory>
 }
 
 impl<D: Disk> Ledger<D> {
-    /// Writes the journal without entries on a disk that is empty.
+    /// Writes the journal without entries on a disk that is empty: its header and a closed gate, by
+    /// one write and one sync.
     pub fn create(alloc: Global, disk: &mut D, limits: &Limits) -> Result<(), CreateFault>
         // needs
         requires { AreInRange limits.now }
@@ -128,6 +129,7 @@ impl<D: Disk> Ledger<D> {
         Ok(())
     }
 
+    /// The limits of its journal.
     pub fn limits(&self) -> Limits
         ensures { result ≡ self.now.limits }
     {
@@ -149,7 +151,8 @@ impl<D: Disk> Ledger<D> {
         Ok(())
     }
 
-    /// Makes the entry the last one of the history. After a fault of the disk it may be in doubt.
+    /// Makes the entry the last one of the history: writes its record behind the closed gate and
+    /// syncs, and then opens the gate and syncs. After a fault at the gate the entry is in doubt.
     pub fn append(&mut self, entry: &Entry) -> Result<(), LedgerFault>
         // needs
         requires settled { self.old.doubt ≡ None }

@@ -21,6 +21,7 @@ pub enum Opening<D: Disk> {
     Ready(Ledger<D>, Entries),
     /// The octets are no journal from this place on.
     Damaged(u64, D),
+    /// The sync, the length or a read failed.
     DiskFault(D),
     NoMemory(D),
 }
