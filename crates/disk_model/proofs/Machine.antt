@@ -8,9 +8,12 @@ pub unarmed_passes : (calls : ℕ) → outcome_of (arming_after_calls calls (arm
 unarmed_passes zero = refl
 unarmed_passes (suc calls) = unarmed_passes calls
 
-stopped_fails : (calls : ℕ) (arming : Arming) → arming.stopped ≡ true → outcome_of (arming_after_calls calls arming) ≡ Fails
+pub stopped_fails : (calls : ℕ) (arming : Arming) → arming.stopped ≡ true → outcome_of (arming_after_calls calls arming) ≡ Fails
 stopped_fails zero arming is = rw is refl
 stopped_fails (suc calls) arming is = let same : arming_after arming ≡ arming = rw is refl in ap (λ a. outcome_of (arming_after_calls calls a)) same ∙ stopped_fails calls arming is
+
+pub stopped_stays : (arming : Arming) → arming.stopped ≡ true → arming_after arming ≡ arming
+stopped_stays arming is = rw is refl
 
 pub fail_hits : (passes : ℕ) → outcome_of (arming_after_calls passes (armed_by [] ((passes, tt) ∷ []))) ≡ Fails
 fail_hits zero = refl

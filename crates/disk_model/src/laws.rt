@@ -1,8 +1,9 @@
 // What callers may conclude of images, of stretches of moments, and of armed calls.
-ghost use Rattle.std.specs.Prelude.{◌≡◌, ◌≢◌, ◌≤◌, ◌<◌, ◌↔◌, ◌+◌, ℕ, Bool, IsTrue, List, [], ◌∷◌, Option};
+ghost use Rattle.std.specs.Prelude.{◌≡◌, ◌≢◌, ◌≤◌, ◌<◌, ◌↔◌, ◌+◌, ℕ, Bool, true, IsTrue, List, [], ◌∷◌, Option};
 ghost use Rattle.std.specs.Prelude.{Some, None, length, slice_get, take};
 ghost use Rattle.base_kinds.specs.declared.fill.Fill.{Fill};
-ghost use Rattle.disk_model.specs.Arming.{outcome_of, arming_after_calls, armed_by, unarmed};
+ghost use Rattle.disk_model.specs.Arming.{Arming, outcome_of, arming_after, arming_after_calls};
+ghost use Rattle.disk_model.specs.Arming.{armed_by, unarmed};
 ghost use Rattle.disk_model.specs.Calls.{Fuse, CallsPassed, CallsFailed};
 ghost use Rattle.disk_model.specs.Content.{Content, Wrote};
 ghost use Rattle.disk_model.specs.Images.{IsImage, mask_after_sync, mask_after_write};
@@ -81,6 +82,13 @@ pub fn failure_hits_its_call()
     ensures others { (passes call : ℕ) → call ≢ passes
         → outcome_of (arming_after_calls call (armed_by [] ((passes, tt) ∷ [])))
         ≡ Outcome.Passes }
+{}
+
+/// After a stop each call fails, and nothing that waits counts on.
+pub fn each_call_fails_after_a_stop()
+    ensures fails { (calls : ℕ) (arming : Arming) → arming.stopped ≡ true
+        → outcome_of (arming_after_calls calls arming) ≡ Outcome.Fails }
+    ensures stays { (arming : Arming) → arming.stopped ≡ true → arming_after arming ≡ arming }
 {}
 
 /// A stop stops its own call. Each call before it passes, and each after it fails.

@@ -15,9 +15,9 @@ mod writing;
 pub use armed::Armed;
 pub use disk::Disk;
 pub use laws::{
-    calls_add_up, failure_hits_its_call, image_is_of_mask, image_of_touched, image_of_written,
-    no_call_changes_images, stop_hits_its_call, stretches_join, synced_image, unarmed_passes,
-    weaker_facts_hold,
+    calls_add_up, each_call_fails_after_a_stop, failure_hits_its_call, image_is_of_mask,
+    image_of_touched, image_of_written, no_call_changes_images, stop_hits_its_call, stretches_join,
+    synced_image, unarmed_passes, weaker_facts_hold,
 };
 pub use outcome::Outcome;
 pub use reading::{read_part, read_whole};

@@ -70,10 +70,12 @@ impl Model for FuseDisk {
 }
 
 impl FuseDisk {
-    /// A disk that passes this many calls and stops in the next. What the inner disk holds counts as synced for
-    /// what a stop fills in. Takes no memory.
+    /// A disk that passes this many calls and stops in the next; with 18446744073709551615 (`NO_STOP`) it is made
+    /// without a stop, so that the first `stop_after` counts from the next call. What the inner disk holds counts as
+    /// synced for what a stop fills in. Takes no memory.
     pub fn make(inner: MemDisk, passes: u64, fill: Fill) -> FuseDisk
-        ensures { result ≡ record (new_disk_of inner.content.seen inner.starved (first_arming passes fill))
+        ensures { result
+            ≡ record (new_disk_of inner.content.seen inner.starved (first_arming passes fill))
             { content = inner.content } }
     {
         let (alloc, octets, log, starved) = inner.into_parts();
@@ -107,7 +109,8 @@ impl FuseDisk {
 
     /// A new disk of that image, for which the stops and failures that still wait go on. Takes no memory.
     pub fn again(self) -> FuseDisk
-        ensures octets { result ≡ new_disk_of (image_left self) self.starved (restarted self.arming) }
+        ensures octets { result
+            ≡ new_disk_of (image_left self) self.starved (restarted self.arming) }
         ensures image { IsImage self.content.mask result.content.seen }
     {
         let FuseDisk {
@@ -142,7 +145,8 @@ impl Disk for FuseDisk {
     /// Fails exactly where it is armed.
     fn len(&mut self) -> Result<u64, Failed>
         ensures passes { IsOk result ↔ (outcome_of self.old.arming ≡ Outcome.Passes) }
-        ensures looked { self.new ≡ after_look (outcome_of self.old.arming) (with_call_counted self.old) }
+        ensures looked { self.new
+            ≡ after_look (outcome_of self.old.arming) (with_call_counted self.old) }
         ensures length { IfOk result (λ n. n ≡ length self.old.content.seen) }
         ensures keeps { Some self.new.content ≡ Some self.old.content }
         ensures image { IsImage self.old.content.mask self.old.content.seen }
@@ -156,7 +160,8 @@ impl Disk for FuseDisk {
     /// Fails exactly where it is armed, and else fills the buffer as far as there are octets.
     fn read(&mut self, place: u64, into: &mut [u8]) -> Result<usize, Failed>
         ensures passes { IsOk result ↔ (outcome_of self.old.arming ≡ Outcome.Passes) }
-        ensures looked { self.new ≡ after_look (outcome_of self.old.arming) (with_call_counted self.old) }
+        ensures looked { self.new
+            ≡ after_look (outcome_of self.old.arming) (with_call_counted self.old) }
         ensures bound { IfOk result (λ n. n ≤ length into.new) }
         ensures octets { IfOk result (λ n. ReadsAt self.old.content.seen place n into.new) }
         ensures fills { IfOk result
@@ -172,7 +177,8 @@ impl Disk for FuseDisk {
 
     /// Fails where it is armed, and else for want of memory alone.
     fn write_at(&mut self, place: u64, piece: &[u8]) -> Result<(), Failed>
-        ensures gives { WriteGives (outcome_of self.old.arming) place piece.now result (with_call_counted self.old) self.new }
+        ensures gives { WriteGives (outcome_of self.old.arming) place piece.now result
+            (with_call_counted self.old) self.new }
         ensures written { OnOk result
             (Wrote place piece.now self.old.content.seen self.new.content.seen) }
         ensures stays { OnErr result (self.new.content.seen ≡ self.old.content.seen) }
@@ -188,7 +194,8 @@ impl Disk for FuseDisk {
 
     /// Fails where it is armed, and else for want of memory alone.
     fn cut(&mut self, length: u64) -> Result<(), Failed>
-        ensures gives { CutGives (outcome_of self.old.arming) length result (with_call_counted self.old) self.new }
+        ensures gives { CutGives (outcome_of self.old.arming) length result
+            (with_call_counted self.old) self.new }
         ensures cut { OnOk result (self.new.content.seen ≡ take length self.old.content.seen) }
         ensures stays { OnErr result (self.new.content.seen ≡ self.old.content.seen) }
         ensures images { Changes (take length self.old.content.mask)
@@ -204,7 +211,8 @@ impl Disk for FuseDisk {
     /// Fails exactly where it is armed.
     fn sync(&mut self) -> Result<(), Failed>
         ensures passes { IsOk result ↔ (outcome_of self.old.arming ≡ Outcome.Passes) }
-        ensures synced { self.new ≡ after_sync (outcome_of self.old.arming) (with_call_counted self.old) }
+        ensures synced { self.new
+            ≡ after_sync (outcome_of self.old.arming) (with_call_counted self.old) }
         ensures seen { OnOk result (self.new.content.seen ≡ self.old.content.seen) }
         ensures images { OnOk result (Changes (mask_after_sync self.old.content.seen)
             self.old.content self.new.content) }
@@ -233,9 +241,11 @@ impl Armed for FuseDisk {
     }
 
     fn fail_after(&mut self, passes: u64) -> Result<(), NoMemory>
-        ensures armed { OnOk result (self.new ≡ record self.old { arming = with_failure passes self.old.arming }) }
+        ensures armed { OnOk result
+            (self.new ≡ record self.old { arming = with_failure passes self.old.arming }) }
         ensures not_armed { OnErr result (self.new ≡ after_want_of_memory self.old) }
-        ensures ok { OnOk result (fuse_of self.new ≡ armed_with (with_failure passes) (fuse_of self.old)) }
+        ensures ok { OnOk result
+            (fuse_of self.new ≡ armed_with (with_failure passes) (fuse_of self.old)) }
         ensures err { OnErr result (fuse_of self.new ≡ starved (fuse_of self.old)) }
         ensures told { Some self.new.content ≡ Some self.old.content }
         ensures faults { self.new.faults ≡ self.old.faults }
@@ -250,9 +260,11 @@ impl Armed for FuseDisk {
     }
 
     fn stop_after(&mut self, passes: u64, fill: Fill) -> Result<(), NoMemory>
-        ensures armed { OnOk result (self.new ≡ record self.old { arming = with_stop passes fill self.old.arming }) }
+        ensures armed { OnOk result
+            (self.new ≡ record self.old { arming = with_stop passes fill self.old.arming }) }
         ensures not_armed { OnErr result (self.new ≡ after_want_of_memory self.old) }
-        ensures ok { OnOk result (fuse_of self.new ≡ armed_with (with_stop passes fill) (fuse_of self.old)) }
+        ensures ok { OnOk result
+            (fuse_of self.new ≡ armed_with (with_stop passes fill) (fuse_of self.old)) }
         ensures err { OnErr result (fuse_of self.new ≡ starved (fuse_of self.old)) }
         ensures told { Some self.new.content ≡ Some self.old.content }
         ensures faults { self.new.faults ≡ self.old.faults }

@@ -1,5 +1,6 @@
 ghost use Rattle.std.specs.Prelude.{◌≡◌, [], OnOk, OnErr};
-ghost use Rattle.disk_model.specs.Arming.{armed_by, arming_after, outcome_of, restarted, with_failure, with_stop};
+ghost use Rattle.disk_model.specs.Arming.{arming_after, outcome_of, restarted};
+ghost use Rattle.disk_model.specs.Arming.{with_failure, with_stop};
 ghost use Rattle.memory_disks.specs.Fuses.{first_arming};
 
 use crate::queue::Queue;

@@ -1,4 +1,5 @@
-ghost use Rattle.std.specs.Prelude.{◌≡◌, ◌++◌, ◌-◌, ◌≤◌, ◌+◌, length, take, drop, replicate, min, OnOk, OnErr};
+ghost use Rattle.std.specs.Prelude.{◌≡◌, ◌++◌, ◌-◌, ◌≤◌, ◌+◌, length, take, drop, replicate, min};
+ghost use Rattle.std.specs.Prelude.{OnOk, OnErr};
 ghost use Rattle.disk_model.specs.Images.{with_range_filled};
 ghost use Rattle.memory_disks.specs.Octets.{octets_after_write, with_ranges_filled};
 
@@ -6,7 +7,8 @@ use std::alloc::AllocError;
 
 /// Writes a piece at its place, with zeros before it where it begins past the end.
 pub fn write_over(octets: &mut Vec<u8>, place: u64, piece: &[u8]) -> Result<(), AllocError>
-    ensures ok { OnOk result (octets.new.items ≡ octets_after_write place piece.now octets.old.items) }
+    ensures ok { OnOk result
+        (octets.new.items ≡ octets_after_write place piece.now octets.old.items) }
     ensures err { OnErr result (octets.new.items ≡ octets.old.items) }
 {
     if piece.is_empty() {
@@ -22,7 +24,8 @@ pub fn write_over(octets: &mut Vec<u8>, place: u64, piece: &[u8]) -> Result<(), 
 }
 
 fn grow(octets: &mut Vec<u8>, end: usize) -> Result<(), AllocError>
-    ensures ok { OnOk result (octets.new.items ≡ octets.old.items ++ replicate (end - length octets.old.items) 0) }
+    ensures ok { OnOk result (octets.new.items
+        ≡ octets.old.items ++ replicate (end - length octets.old.items) 0) }
     ensures err { OnErr result (octets.new.items ≡ octets.old.items) }
 {
     if octets.len() < end {
@@ -33,7 +36,8 @@ fn grow(octets: &mut Vec<u8>, end: usize) -> Result<(), AllocError>
 
 fn lay(octets: &mut Vec<u8>, place: usize, piece: &[u8])
     requires { place + length piece.now ≤ length octets.old.items }
-    ensures { octets.new.items ≡ take place octets.old.items ++ (piece.now ++ drop (place + length piece.now) octets.old.items) }
+    ensures { octets.new.items ≡ take place octets.old.items
+        ++ (piece.now ++ drop (place + length piece.now) octets.old.items) }
 {
     octets[place..place + piece.len()].copy_from_slice(piece);
 }
@@ -66,7 +70,8 @@ pub fn paint(octets: &mut Vec<u8>, place: u64, count: usize, octet: u8)
 
 fn fill(octets: &mut Vec<u8>, start: usize, count: usize, octet: u8)
     requires { start + count ≤ length octets.old.items }
-    ensures { octets.new.items ≡ take start octets.old.items ++ (replicate count octet ++ drop (start + count) octets.old.items) }
+    ensures { octets.new.items ≡ take start octets.old.items
+        ++ (replicate count octet ++ drop (start + count) octets.old.items) }
 {
     octets[start..start + count].fill(octet);
 }

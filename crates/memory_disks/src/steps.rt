@@ -96,7 +96,8 @@ impl FuseDisk {
     /// Passes, fails or stops, in a call that writes nothing.
     pub(crate) fn pass(&mut self) -> Result<(), Failed>
         ensures passes { IsOk result ↔ (outcome_of self.old.arming ≡ Outcome.Passes) }
-        ensures looked { self.new ≡ after_look (outcome_of self.old.arming) (with_call_counted self.old) }
+        ensures looked { self.new
+            ≡ after_look (outcome_of self.old.arming) (with_call_counted self.old) }
         ensures called { OnOk result (self.new ≡ with_call_counted self.old) }
         ensures ready { OnOk result (IsReady Outcome.Passes self.new) }
         ensures image { IsImage self.old.content.mask self.old.content.seen }
