@@ -1,4 +1,4 @@
-ghost use Rattle.std.specs.Prelude.{◌≡◌, true, false, IfOk, OnOk, IsErrOf, IsTrue};
+ghost use Rattle.std.specs.Prelude.{◌≡◌, true, false, IfOk, OnOk, IsErrOf};
 ghost use Rattle.base_kinds.specs.Valid.{valid, fits};
 ghost use Rattle.base_kinds.specs.Rising.{IsRising};
 
@@ -17,7 +17,8 @@ use tree_constraints::{keys_hold, leafrefs_resolve, mandatory_present};
 /// `TreeFull`.
 pub fn check(alloc: Global, schema: &Schema, rows: &Rows) -> Result<(), CheckFault>
     requires rising { IsRising rows.now }
-    ensures ok { OnOk result (IsTrue (valid schema.now rows.now) × IsTrue (fits rows.now)) }
+    ensures ok { OnOk result
+        ((valid schema.now rows.now ≡ true) × (fits rows.now ≡ true)) }
     ensures invalid { IsErrOf result CheckFault.TreeInvalid → valid schema.now rows.now ≡ false }
     ensures full { IsErrOf result CheckFault.TreeFull →
         (valid schema.now rows.now ≡ true) × (fits rows.now ≡ false) }

@@ -12,7 +12,7 @@ use std::process::Abort;
 const MINUTE: u64 = 60_000_000_000;
 
 /// The stamps of these tests are below 2^62.
-const LATEST_STAMP: u64 = 1 << 62;
+const LATEST_STAMP: u64 = 4_611_686_018_427_387_904;
 
 const LIMITS: Limits = Limits {
     entries: 65_536,
