@@ -10,3 +10,5 @@ mod frames;
 mod huffman;
 #[cfg(test)]
 mod lists;
+#[cfg(test)]
+mod messages;

@@ -10,7 +10,7 @@ use Rattle.pb_wire.specs.declared.field.Field.{Field}
 use Rattle.pb_wire.specs.Varint.{IsVarint}
 use Rattle.pb_wire.specs.Message.{wire_type, IsDelimited, IsBody, IsField}
 use Rattle.base_lists.specs.Options.{◌>>=◌}
-use Rattle.pb_wire.specs.Reading.{varint_at, number_at, delimited_at, body_at, field_at}
+use Rattle.pb_wire.specs.inner.Reading.{varint_at, number_at, delimited_at, body_at, field_at}
 use Rattle.pb_wire.proofs.SpellingLemmas.{Takes, bind_some, passed, failed_not, parts_from, varint_takes, varint_again}
 
 -- ---- a field is read

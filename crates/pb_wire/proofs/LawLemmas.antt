@@ -7,7 +7,7 @@ use Rattle.pb_wire.specs.declared.field.Body.TheVariants.{Varint, Eight, Octets,
 use Rattle.pb_wire.specs.declared.field.Field.{Field}
 use Rattle.pb_wire.specs.Varint.{IsVarint}
 use Rattle.pb_wire.specs.Message.{wire_type, IsBody, IsField, AreFields, IsMessage}
-use Rattle.pb_wire.specs.Reading.{varint_at}
+use Rattle.pb_wire.specs.inner.Reading.{varint_at}
 use Rattle.pb_wire.specs.Writing.{shifted_body, shifted}
 use Rattle.pb_wire.proofs.SpellingLemmas.{varint_again}
 use Rattle.pb_wire.proofs.MessageLemmas.{AreFields-first, AreFields-nil}

@@ -5,5 +5,7 @@ pub mod MessageLemmas
 pub mod WritingLemmas
 pub mod ValueLemmas
 pub mod LawLemmas
-pub mod Examples
 pub mod ValueLaws
+pub mod RunLemmas
+pub mod NextLemmas
+pub mod MapLemmas

@@ -6,7 +6,7 @@ use Rattle.pb_wire.specs.declared.field.Field.{Field}
 use Rattle.pb_wire.specs.declared.field.Body.{Body}
 use Rattle.pb_wire.specs.declared.field.Body.TheVariants.{Varint, Eight, Octets, Four}
 use Rattle.pb_wire.specs.Message.{IsBody, IsField, AreFields, IsMessage, IsWithin, AreWithin}
-use Rattle.pb_wire.specs.Reading.{varint_at, field_at}
+use Rattle.pb_wire.specs.inner.Reading.{varint_at, field_at}
 use Rattle.pb_wire.proofs.FieldLemmas.{field_again, field_takes}
 
 -- no field stands where no octets do
@@ -108,7 +108,7 @@ SoFar-bad octets fields rest so_far some none others is =
 
 -- ---- the places of octets are in the message
 
-IsField-within : (total place : ℕ) (front : List ℕ) (field : Field) → place + length front ≤ total → IsField place front field → IsWithin total field.body
+pub IsField-within : (total place : ℕ) (front : List ℕ) (field : Field) → place + length front ≤ total → IsField place front field → IsWithin total field.body
 IsField-within total place front field le is =
     let sum : length front ≡ length is.tag + length is.body = ap length is.parts ∙ length-append is.tag is.body in
     body_is field.body (place + length is.tag) is.body (omega (arith, le, sum)) is.is_body

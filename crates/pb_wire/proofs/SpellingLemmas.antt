@@ -7,7 +7,7 @@ use Rattle.std.specs.List.{position_or_len}
 use Rattle.base_lists.specs.SevenBits.{number_of_groups, IsMarked}
 use Rattle.pb_wire.specs.Varint.{IsVarint}
 use Rattle.base_lists.specs.Options.{◌>>=◌}
-use Rattle.pb_wire.specs.Reading.{last_place, value_in, spelling_at, varint_at}
+use Rattle.pb_wire.specs.inner.Reading.{last_place, value_in, spelling_at, varint_at}
 
 -- the value of a step that did not fail
 pub bind_some : {A B : Type 0} (r : Option A) (f : A → Option B) (y : B) → (r >>= f) ≡ Some y → (x : A) × (r ≡ Some x) × (f x ≡ Some y)

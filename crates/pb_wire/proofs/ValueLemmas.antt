@@ -7,7 +7,7 @@ use Rattle.std.proofs.lemmas.List.Elements.{filter_map-append}
 use Rattle.std.proofs.lemmas.List.Folds.{concat-append}
 use Rattle.pb_wire.specs.declared.field.Body.TheVariants.{Varint}
 use Rattle.pb_wire.specs.declared.field.Field.{Field}
-use Rattle.pb_wire.specs.Values.{varint_in, octets_in, varints, occurrences, last_scalar, joined_octets}
+use Rattle.pb_wire.specs.Values.{varint_in, octets_in, varints, occurrences, last_scalar, last_octets, joined_octets}
 use Rattle.base_lists.specs.Fronts.{AppendsFront}
 
 last_or-push : {X : Type 0} (o : Option X) (xs : List X) (x : X) → last_or o (xs ++ x ∷ []) ≡ Some x
@@ -30,6 +30,13 @@ last_scalar-none number fields i d lt e = ap (last_or None) (filter_map-none (va
 pub last_scalar-some : (number : ℕ) (fields : List Field) (i : ℕ) (d : Field) (value : ℕ) → i < length fields → varint_in number (get_or fields i d) ≡ Some value → last_scalar number (take (i + 1) fields) ≡ Some value
 last_scalar-some number fields i d value lt e =
     ap (last_or None) (filter_map-some (varint_in number) fields i d value lt e) ∙ last_or-push None (varints number (take i fields)) value
+
+pub last_octets-none : (message : List ℕ) (number : ℕ) (fields : List Field) (i : ℕ) (d : Field) → i < length fields → octets_in message number (get_or fields i d) ≡ None → last_octets message number (take (i + 1) fields) ≡ last_octets message number (take i fields)
+last_octets-none message number fields i d lt e = ap (last_or None) (filter_map-none (octets_in message number) fields i d lt e)
+
+pub last_octets-some : (message : List ℕ) (number : ℕ) (fields : List Field) (i : ℕ) (d : Field) (piece : List ℕ) → i < length fields → octets_in message number (get_or fields i d) ≡ Some piece → last_octets message number (take (i + 1) fields) ≡ Some piece
+last_octets-some message number fields i d piece lt e =
+    ap (last_or None) (filter_map-some (octets_in message number) fields i d piece lt e) ∙ last_or-push None (occurrences message number (take i fields)) piece
 
 -- ---- whether there are some
 

@@ -3,7 +3,7 @@ use Rattle.std.proofs.Common.{false, ltb, None, ◌≡◌, ℕ, zero, suc, ◌+�
 use Rattle.std.proofs.lemmas.Bool.{le-ltb}
 use Rattle.base_lists.specs.SevenBits.{number_of_groups}
 use Rattle.base_lists.proofs.SevenBits.{number_of_groups-drop, number_of_groups-drop-le}
-use Rattle.pb_wire.specs.Reading.{value_in}
+use Rattle.pb_wire.specs.inner.Reading.{value_in}
 
 -- where an end past the first octet spells 57 bits or more, the whole does not fit 64
 pub number_of_groups-large : (octets : List ℕ) (at : ℕ) → 0 < at → at ≤ length octets → 2 ^ 57 ≤ number_of_groups (drop at octets) → 2 ^ 64 ≤ number_of_groups octets

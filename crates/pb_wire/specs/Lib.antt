@@ -1,5 +1,6 @@
-pub mod Varint
 pub mod Message
-pub mod Reading
-pub mod Writing
 pub mod Values
+pub mod Varint
+pub mod Writing
+pub mod inner
+pub mod worked

@@ -1,5 +1,5 @@
 -- The fields of a message (protobuf.dev, "Encoding", "Message Structure").
-use Rattle.std.specs.Prelude.{All, ◌≡◌, ℕ, ◌+◌, ◌*◌, ◌^◌, ◌<◌, ◌≤◌, List, [], ◌∷◌, ◌++◌, length}
+use Rattle.std.specs.Prelude.{All, ◌≡◌, ℕ, ◌+◌, ◌*◌, ◌^◌, ◌<◌, ◌≤◌, List, [], ◌∷◌, ◌++◌, length, drop, slice_range}
 use Rattle.std.specs.Int.{w32, w64, from_le_bytes}
 use Rattle.pb_wire.specs.declared.field.Body.{Body}
 use Rattle.pb_wire.specs.declared.field.Body.TheVariants.{Varint, Eight, Octets, Four}
@@ -43,7 +43,9 @@ pub record IsField (place : ℕ) (octets : List ℕ) (field : Field) : Type 0 wh
 -- These octets, the first of which stands at this place of the message, are the fields one after another.
 abbrev pub AreFields : ℕ → List ℕ → List Field → Type 0
 AreFields place octets [] = octets ≡ []
-AreFields place octets (field ∷ fields) = (front : List ℕ) × (rest : List ℕ) × (octets ≡ front ++ rest) × IsField place front field × AreFields (place + length front) rest fields
+AreFields place octets (field ∷ fields) =
+    (front : List ℕ) × (rest : List ℕ) × (octets ≡ front ++ rest) × IsField place front field
+    × AreFields (place + length front) rest fields
 
 -- The message's octets are these fields. Places are counted from the message's first octet.
 pub record IsMessage (octets : List ℕ) (fields : List Field) : Type 0 where
@@ -58,3 +60,13 @@ IsWithin len (Four n) = Unit {0}
 
 abbrev pub AreWithin : List ℕ → List Field → Type 0
 AreWithin octets fields = All (λ field. IsWithin (length octets) field.body) fields
+
+-- The octets from a place of the message on are these fields.
+abbrev pub FieldsFrom : List ℕ → ℕ → List Field → Type 0
+FieldsFrom octets place fields = AreFields place (drop place octets) fields
+
+-- A field stands at a place of the message, and ends before the next one.
+pub record IsNextField (octets : List ℕ) (place : ℕ) (field : Field) (next : ℕ) : Type 0 where
+  pub later : place < next
+  pub within : next ≤ length octets
+  pub is_field : IsField place (slice_range octets place next) field

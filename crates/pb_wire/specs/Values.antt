@@ -49,19 +49,32 @@ joined_octets message number fields = concat (occurrences message number fields)
 -- the longest end of the list whose fields have one number
 abbrev pub last_run : List Field → List Field
 last_run [] = []
-last_run (field ∷ fields) = if list_all (λ (other : Field). other.number == field.number) fields then field ∷ fields else last_run fields
+last_run (field ∷ fields) =
+    if list_all (λ (other : Field). other.number == field.number) fields then field ∷ fields else last_run fields
 
 -- A oneof's members are given by their numbers and wire types. It holds the last one, with its occurrences directly
 -- before: a message is joined from these alone, and of a scalar the last counts.
+abbrev pub has_member : List (ℕ × ℕ) → ℕ → ℕ → Bool
+has_member members number kind =
+    list_any (λ (member : ℕ × ℕ). (member.0 == number) && (member.1 == kind)) members
+
 abbrev pub is_member : List (ℕ × ℕ) → Field → Bool
-is_member members field = list_any (λ (member : ℕ × ℕ). (member.0 == field.number) && (member.1 == wire_type field.body)) members
+is_member members field = has_member members field.number (wire_type field.body)
 
 abbrev pub one_of : List (ℕ × ℕ) → List Field → List Field
 one_of members fields = last_run (filter (is_member members) fields)
 
--- A map's entry is a message with a key under 1 and a value under 2, here texts. What is absent is empty.
+-- the field numbers of a map's entry
+abbrev pub map_key : ℕ
+map_key = 1
+
+abbrev pub map_value : ℕ
+map_value = 2
+
+-- A map's entry is a message with a key and a value, here texts. What is absent is empty.
 abbrev pub entry_of : List ℕ → List Field → List ℕ × List ℕ
-entry_of entry fields = (unwrap_or (last_octets entry 1 fields) [], unwrap_or (last_octets entry 2 fields) [])
+entry_of entry fields =
+    (unwrap_or (last_octets entry map_key fields) [], unwrap_or (last_octets entry map_value fields) [])
 
 abbrev pub has_key : {V : Type 0} → List ℕ → List ℕ × V → Bool
 has_key key entry = pointwise nat_eq key entry.0
@@ -69,7 +82,9 @@ has_key key entry = pointwise nat_eq key entry.0
 -- of each key the last entry
 abbrev pub last_entries : {V : Type 0} → List (List ℕ × V) → List (List ℕ × V)
 last_entries [] = []
-last_entries (entry ∷ entries) = if list_any (has_key entry.0) entries then last_entries entries else entry ∷ last_entries entries
+last_entries (entry ∷ entries) =
+    if list_any (has_key entry.0) entries then last_entries entries else entry ∷ last_entries entries
 
 abbrev pub value_of_key : {V : Type 0} → List ℕ → List (List ℕ × V) → Option V
-value_of_key {V} key entries = last_or None (map (λ (entry : List ℕ × V). entry.1) (filter (has_key key) entries))
+value_of_key {V} key entries =
+    last_or None (map (λ (entry : List ℕ × V). entry.1) (filter (has_key key) entries))

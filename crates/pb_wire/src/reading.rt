@@ -1,7 +1,7 @@
-ghost use Rattle.std.specs.Prelude.{◌≡◌, ◌<◌, ◌≤◌, List, length, option_map, IfSome, IfOk, IsErrOf};
+ghost use Rattle.std.specs.Prelude.{◌≡◌, ◌<◌, ◌≤◌, ℕ, List, None, length, option_map, IfSome, IfOk, IsErrOf};
 ghost use Rattle.std.specs.Int.{w32, w64};
-ghost use Rattle.pb_wire.specs.Message.{IsMessage, AreWithin};
-ghost use Rattle.pb_wire.specs.Reading.{value_in, last_place, spelling_at, varint_at, number_at, delimited_at, body_at, field_at};
+ghost use Rattle.pb_wire.specs.Message.{IsMessage, IsNextField, IsWithin, AreWithin};
+ghost use Rattle.pb_wire.specs.inner.Reading.{value_in, last_place, spelling_at, varint_at, number_at, delimited_at, body_at, field_at};
 ghost use Rattle.pb_wire.specs.declared.field.Field.{Field as FieldValue};
 
 use crate::field::{Body, Field, Fields, WireFault};
@@ -43,7 +43,7 @@ fn number_of(octets: &[u8]) -> Option<u64>
     Some(value)
 }
 
-#[tactic(auto, unfolding(crate::specs::Reading::varint_at))]
+#[tactic(auto, unfolding(crate::specs::inner::Reading::varint_at))]
 fn varint_in(octets: &[u8]) -> Option<(u64, &[u8])>
     ensures shorter { IfSome result (λ x. length x.1.now < length octets.now) }
     ensures value { option_map (λ x. (x.0, x.1.now)) result ≡ varint_at octets.now }
@@ -79,7 +79,7 @@ fn four_in(octets: &[u8]) -> Option<(u32, &[u8])>
     Some((number, rest))
 }
 
-#[tactic(auto, unfolding(crate::specs::Reading::delimited_at))]
+#[tactic(auto, unfolding(crate::specs::inner::Reading::delimited_at))]
 fn delimited_in(total: usize, octets: &[u8]) -> Option<(Body, &[u8])>
     requires { length octets.now ≤ total }
     ensures shorter { IfSome result (λ x. length x.1.now ≤ length octets.now) }
@@ -94,7 +94,7 @@ fn delimited_in(total: usize, octets: &[u8]) -> Option<(Body, &[u8])>
     Some((Body::Octets(from, from + len), &rest[len..]))
 }
 
-#[tactic(auto, unfolding(crate::specs::Reading::body_at))]
+#[tactic(auto, unfolding(crate::specs::inner::Reading::body_at))]
 fn body_in(total: usize, kind: u64, octets: &[u8]) -> Option<(Body, &[u8])>
     requires { length octets.now ≤ total }
     ensures shorter { IfSome result (λ x. length x.1.now ≤ length octets.now) }
@@ -119,7 +119,7 @@ fn body_in(total: usize, kind: u64, octets: &[u8]) -> Option<(Body, &[u8])>
 }
 
 /// The field at the front of the octets, which are the last of a message of `total` octets.
-#[tactic(auto, unfolding(crate::specs::Reading::field_at))]
+#[tactic(auto, unfolding(crate::specs::inner::Reading::field_at))]
 fn field_in(total: usize, octets: &[u8]) -> Option<(Field, &[u8])>
     requires { length octets.now ≤ total }
     ensures shorter { IfSome result (λ x. length x.1.now < length octets.now) }
@@ -134,15 +134,29 @@ fn field_in(total: usize, octets: &[u8]) -> Option<(Field, &[u8])>
     Some((Field { number, body }, rest))
 }
 
-/// The fields of a message.
+/// The field that begins at a place of the message, and the place after it: so a message is read without a list of its
+/// fields, from place 0 to its end. Takes no memory.
+pub fn next_field(octets: &[u8], place: usize) -> Option<(Field, usize)>
+    requires { place ≤ length octets.now }
+    ensures some { IfSome result (λ x. IsNextField octets.now place x.0 x.1) }
+    ensures none { result ≡ None
+        → (field : FieldValue) (next : ℕ) → IsNextField octets.now place field next → ⊥ }
+    ensures within { IfSome result (λ x. IsWithin (length octets.now) x.0.body) }
+{
+    let (field, rest) = field_in(octets.len(), &octets[place..])?;
+    Some((field, octets.len() - rest.len()))
+}
+
+/// The fields of a message, in their order, with their places in it.
 pub fn fields_of(alloc: Global, octets: &[u8]) -> Result<Fields, WireFault>
-    // These are the message's fields.
+    // These are the message's fields, and no others are.
     ensures found { IfOk result (λ fields. IsMessage octets.now fields) }
-    // No others are.
-    ensures only { IfOk result (λ fields. (others : List FieldValue) → IsMessage octets.now others → others ≡ fields) }
-    // A bad message has none.
-    ensures bad { IsErrOf result WireFault.BadMessage → (fields : List FieldValue) → IsMessage octets.now fields → ⊥ }
+    ensures only { IfOk result (λ fields.
+        (others : List FieldValue) → IsMessage octets.now others → others ≡ fields) }
     ensures within { IfOk result (λ fields. AreWithin octets.now fields) }
+    // A bad message has none.
+    ensures bad { IsErrOf result WireFault.BadMessage
+        → (fields : List FieldValue) → IsMessage octets.now fields → ⊥ }
 {
     let mut fields = Seq::empty(alloc);
     let mut rest = octets;

@@ -10,25 +10,25 @@ use Rattle.pb_wire.proofs.values.joined.Goals.{in-Some+in_ok-extend_from_slice, 
 pub returns-in_err-extend_from_slice-clause-err : goal.returns-in_err-extend_from_slice-clause-err
 returns-in_err-extend_from_slice-clause-err c =
     let out = c.extend_from_slice.new.self in
-    let front : AppendsFront c.args.out.now out (joined_octets c.args.octets.now c.args.number c.items-part-items.result.now) =
-    joined_octets-front c.args.out.now out c.args.octets.now c.args.number c.items-part-items.result.now c.loop-part.part-index (c.in_err-extend_from_slice.ensures.err ∙ c.loop-part.invariant.added) in
-    on_err_from c.from_residual.result (subst (λ (fields : List Field). AppendsFront c.args.out.now out (joined_octets c.args.octets.now c.args.number fields)) c.items-part-items.ensures front)
+    let front : AppendsFront c.args.out.now out (joined_octets c.args.octets.now c.args.number c.args.fields.now) =
+    joined_octets-front c.args.out.now out c.args.octets.now c.args.number c.args.fields.now c.loop-field.field-index (c.in_err-extend_from_slice.ensures.err ∙ c.loop-field.invariant.added) in
+    on_err_from c.from_residual.result front
 
-pub loop-part-preserved : goal.loop-part-preserved
-loop-part-preserved c =
-    let fields = c.items-part-items.result.now in
-    let i = c.loop-part.part-index in
+pub loop-field-preserved : goal.loop-field-preserved
+loop-field-preserved c =
+    let fields = c.args.fields.now in
+    let i = c.loop-field.field-index in
     let so_far = joined_octets c.args.octets.now c.args.number (take i fields) in
     elim c.match-octets_of.branch [
       | in-Some+in_ok-extend_from_slice w ↦ record {
-        added = w.out-is ∙ w.in_ok-extend_from_slice.ensures.ok ∙ ap (λ (s : List ℕ). s ++ w.in-Some.piece.now) c.loop-part.invariant.added ∙ append_assoc c.args.out.now so_far w.in-Some.piece.now
-            ∙ ap (λ (s : List ℕ). c.args.out.now ++ s) (sym (joined_octets-some c.args.octets.now c.args.number fields i no_field w.in-Some.piece.now c.loop-part-test.true (sym w.in-Some.ensures)));
-        stands = w.there-is ∙ sym (ap (λ (found : List (List ℕ)). is_some_of found) (occurrences-some c.args.octets.now c.args.number fields i no_field w.in-Some.piece.now c.loop-part-test.true (sym w.in-Some.ensures)) ∙ is_some_of-push (occurrences c.args.octets.now c.args.number (take i fields)) w.in-Some.piece.now);
+        added = w.out-is ∙ w.in_ok-extend_from_slice.ensures.ok ∙ ap (λ (s : List ℕ). s ++ w.in-Some.piece.now) c.loop-field.invariant.added ∙ append_assoc c.args.out.now so_far w.in-Some.piece.now
+            ∙ ap (λ (s : List ℕ). c.args.out.now ++ s) (sym (joined_octets-some c.args.octets.now c.args.number fields i no_field w.in-Some.piece.now c.loop-field-test.true (sym w.in-Some.ensures)));
+        stands = w.there-is ∙ sym (ap (λ (found : List (List ℕ)). is_some_of found) (occurrences-some c.args.octets.now c.args.number fields i no_field w.in-Some.piece.now c.loop-field-test.true (sym w.in-Some.ensures)) ∙ is_some_of-push (occurrences c.args.octets.now c.args.number (take i fields)) w.in-Some.piece.now);
       }
       | in_default w ↦
-          let same = occurrences-none c.args.octets.now c.args.number fields i no_field c.loop-part-test.true (sym w.in_default.ensures) in
+          let same = occurrences-none c.args.octets.now c.args.number fields i no_field c.loop-field-test.true (sym w.in_default.ensures) in
           record {
-            added = w.out-is ∙ c.loop-part.invariant.added ∙ ap (λ (found : List (List ℕ)). c.args.out.now ++ concat found) (sym same);
-            stands = w.there-is ∙ c.loop-part.invariant.stands ∙ ap (λ (found : List (List ℕ)). is_some_of found) (sym same);
+            added = w.out-is ∙ c.loop-field.invariant.added ∙ ap (λ (found : List (List ℕ)). c.args.out.now ++ concat found) (sym same);
+            stands = w.there-is ∙ c.loop-field.invariant.stands ∙ ap (λ (found : List (List ℕ)). is_some_of found) (sym same);
           }
     ]

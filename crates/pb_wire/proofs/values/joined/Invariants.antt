@@ -4,8 +4,8 @@ use Rattle.pb_wire.proofs.ValueLemmas.{is_some_of}
 use Rattle.pb_wire.proofs.values.joined.Given as goal
 
 -- the octets of the fields so far are added
-abbrev pub invariant-loop-part : goal.invariant-loop-part
-invariant-loop-part l = record {
-  added : l.out ≡ l.fn.out ++ joined_octets l.octets l.number (take l.part-index l.part-items);
-  stands : l.there ≡ is_some_of (occurrences l.octets l.number (take l.part-index l.part-items));
+abbrev pub invariant-loop-field : goal.invariant-loop-field
+invariant-loop-field l = record {
+  added : l.out ≡ l.fn.out ++ joined_octets l.octets l.number (take l.field-index l.fields);
+  stands : l.there ≡ is_some_of (occurrences l.octets l.number (take l.field-index l.fields));
 }

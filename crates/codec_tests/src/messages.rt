@@ -1,6 +1,14 @@
-use super::*;
+//! Messages of protocol buffers: what an independent library wrote or refuses, limits of varints and tags, values of
+//! repeated fields, oneofs and map entries, and what is written.
+ghost use Rattle.pb_wire.specs.Message.{AreWithin};
+
 use base_lists::{Bytes, Seq};
+use pb_wire::{
+    Body, Field, Fields, WireFault, entry_of, fields_of, joined, last_octets, last_varint,
+    next_field, one_of, put_octets, put_varint, varint_of,
+};
 use std::alloc::Global;
+use std::process::Abort;
 use std::test::*;
 
 /// Messages of an independent library's vectors, which it reads.
@@ -91,6 +99,12 @@ const REFUSED: [&[u8]; 19] = [
     b"\x12\x22\x12\x1e\x0a\x03\x6f\x6c\x64\x12\x03\x63\x6c\x69\x1a",
 ];
 
+fn read(rt: &impl Abort, alloc: Global, octets: &[u8]) -> Fields
+    ensures { AreWithin octets.now result }
+{
+    fields_of(alloc, octets).expect(rt, "a message")
+}
+
 fn is_bad(alloc: Global, octets: &[u8]) -> bool {
     matches!(fields_of(alloc, octets), Err(WireFault::BadMessage))
 }
@@ -145,7 +159,7 @@ fn tags_are_read_up_to_their_limits(rt: HostRuntime) {
     // 536,870,911 is the last field number; 0 and 536,870,912 are none
     let last = b"\xf8\xff\xff\xff\x0f\x05";
     match fields_of(rt.alloc(), last) {
-        Ok(fields) => assert_eq!(rt; last_varint(&fields, 536_870_911), Some(5)),
+        Ok(fields) => assert_eq!(rt; last_varint(fields.items(), 536_870_911), Some(5)),
         Err(_) => panic!(rt; "the last number is read"),
     }
     let refused: [&[u8]; 6] = [
@@ -201,8 +215,8 @@ fn the_last_scalar_wins_and_octets_are_joined(rt: HostRuntime) {
     match fields_of(rt.alloc(), twice) {
         Ok(fields) => {
             assert_eq!(rt; fields.len(), 2);
-            assert_eq!(rt; last_varint(&fields, 3), Some(1400));
-            assert_eq!(rt; last_varint(&fields, 4), None);
+            assert_eq!(rt; last_varint(fields.items(), 3), Some(1400));
+            assert_eq!(rt; last_varint(fields.items(), 4), None);
         }
         Err(_) => panic!(rt; "two varints are read"),
     }
@@ -210,8 +224,8 @@ fn the_last_scalar_wins_and_octets_are_joined(rt: HostRuntime) {
     let mut out: Bytes = Seq::empty(rt.alloc());
     match fields_of(rt.alloc(), parts) {
         Ok(fields) => {
-            assert!(rt; matches!(joined(parts, &fields, 1, &mut out), Ok(true)));
-            assert!(rt; matches!(joined(parts, &fields, 3, &mut out), Ok(false)));
+            assert!(rt; matches!(joined(parts, fields.items(), 1, &mut out), Ok(true)));
+            assert!(rt; matches!(joined(parts, fields.items(), 3, &mut out), Ok(false)));
             assert_eq!(rt; out.items(), b"abc".as_slice());
             for field in fields.items() {
                 assert_eq!(rt; varint_of(field, 1), None);
@@ -230,4 +244,62 @@ fn fields_are_written_as_others_write_them(rt: HostRuntime) {
     assert!(rt; put_octets(15, b"", &mut out).is_ok());
     let wanted = b"\x08\x96\x01\x12\x07testing\x10\xfb\xff\xff\xff\xff\xff\xff\xff\xff\x01\x7a\x00";
     assert_eq!(rt; out.items(), wanted.as_slice());
+}
+
+/// Three texts under 1, 2 and 1, and a varint under 1.
+const TEXTS: &[u8] = b"\x0a\x01a\x12\x01b\x0a\x01c\x08\x05";
+
+#[test]
+fn the_last_text_wins_and_a_varint_is_none(rt: HostRuntime) {
+    let fields = read(&rt, rt.alloc(), TEXTS);
+    assert_eq!(rt;
+        last_octets(TEXTS, fields.items(), 1),
+        Some(b"c".as_slice())
+    );
+    assert_eq!(rt;
+        last_octets(TEXTS, fields.items(), 2),
+        Some(b"b".as_slice())
+    );
+    assert_eq!(rt; last_octets(TEXTS, fields.items(), 3), None);
+}
+
+// protobuf.dev, "Encoding", "Oneofs": the last member that was written is what a oneof holds.
+#[test]
+fn a_oneof_holds_the_run_of_its_last_member(rt: HostRuntime) {
+    let fields = read(&rt, rt.alloc(), TEXTS);
+    let cases: [(&[(u32, u8)], usize); 4] = [
+        (&[(1, 2), (2, 2)], 2),
+        (&[(1, 2)], 4),
+        (&[(2, 2), (1, 0)], 1),
+        (&[(9, 2)], 4),
+    ];
+    for (members, count) in cases {
+        assert_eq!(rt; one_of(fields.items(), members).len(), count, "{members:?}");
+    }
+}
+
+#[test]
+fn an_entry_without_its_key_or_value_has_an_empty_one(rt: HostRuntime) {
+    let cases: [(&[u8], &[u8], &[u8]); 4] = [
+        (b"\x0a\x01k\x12\x01v", b"k", b"v"),
+        (b"\x12\x01v\x0a\x01k", b"k", b"v"),
+        (b"\x12\x01v", b"", b"v"),
+        (b"", b"", b""),
+    ];
+    for (entry, key, value) in cases {
+        let fields = read(&rt, rt.alloc(), entry);
+        assert_eq!(rt; entry_of(entry, fields.items()), (key, value));
+    }
+}
+
+#[test]
+fn fields_are_read_one_at_a_time(rt: HostRuntime) {
+    let places = [0, 3, 12, 18, 27];
+    assert_eq!(rt; MESSAGE.len(), 27);
+    for (at, place) in places.iter().enumerate() {
+        let next = next_field(MESSAGE, *place).map(|(_, next)| next);
+        assert_eq!(rt; next, places.get(at + 1).copied(), "{place}");
+    }
+    // 96 01 is 150, whose lowest three bits are no wire type
+    assert!(rt; next_field(MESSAGE, 1).is_none());
 }
