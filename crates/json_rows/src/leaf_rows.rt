@@ -79,10 +79,11 @@ pub(crate) fn add_list(
     items: &Vec<Json>,
     rows: &mut Rows,
 ) -> Result<(), RowsFault>
-    ensures ok { OnOk result (rows_with_leaf_list path rows.old (values_from (option_copied shape.entry) []
-        (items_view items.now.items)) ≡ Ok rows.new) }
-    ensures fault { IfErr result (λ fault. fault ≢ RowsFault.NoMemory → rows_with_leaf_list path rows.old
-        (values_from (option_copied shape.entry) [] (items_view items.now.items)) ≡ Err fault) }
+    ensures ok { OnOk result (rows_with_leaf_list path rows.old
+        (values_from (option_copied shape.entry) [] (items_view items.now.items)) ≡ Ok rows.new) }
+    ensures fault { IfErr result (λ fault. fault ≢ RowsFault.NoMemory
+        → rows_with_leaf_list path rows.old (values_from (option_copied shape.entry) []
+        (items_view items.now.items)) ≡ Err fault) }
 {
     let Some(values) = values_of(alloc, shape, items)? else {
         return Err(RowsFault::BadValue);
@@ -99,8 +100,8 @@ pub(crate) fn add_list(
 pub(crate) fn add_keys(alloc: Global, seen: &mut SeenKeys, keys: &Keys) -> Result<(), RowsFault>
     ensures ok { OnOk result (keys_unless_seen seen.old keys.now ≡ Ok keys.now) }
     ensures more { OnOk result (seen.new ≡ seen.old ++ keys.now ∷ []) }
-    ensures fault { IfErr result (λ fault. fault ≢ RowsFault.NoMemory → keys_unless_seen seen.old keys.now
-        ≡ Err fault) }
+    ensures fault { IfErr result (λ fault. fault ≢ RowsFault.NoMemory
+        → keys_unless_seen seen.old keys.now ≡ Err fault) }
 {
     if seen.add(alloc, keys)? {
         Ok(())

@@ -101,7 +101,8 @@ pub(crate) fn leaf_at(
     shape: Option<&Shape>,
     json: &Json,
 ) -> Result<Option<Value>, NoMemory>
-    ensures ok { IfOk result (λ value. value ≡ leaf_at (option_copied shape.entry) (view json.now)) }
+    ensures ok { IfOk result (λ value. value ≡ leaf_at (option_copied shape.entry)
+        (view json.now)) }
     ensures scalar { IfOk result (λ value. IfSome value (λ v. is_list v ≡ false)) }
 {
     match shape {

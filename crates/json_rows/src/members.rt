@@ -75,13 +75,14 @@ pub(crate) fn fresh_child(
     text: &str,
 ) -> Result<NodeId, RowsFault>
     requires { ForSome parent (λ id. id.0 < length schema.now) }
-    ensures ok { IfOk result (λ id. IfSome (slice_get schema.now id.0) (λ child. fresh_child schema.now
-        (names_above schema.now parent) seen.now text.now ≡ Ok child)) }
+    ensures ok { IfOk result (λ id. IfSome (slice_get schema.now id.0)
+        (λ child. fresh_child schema.now (names_above schema.now parent) seen.now text.now
+        ≡ Ok child)) }
     ensures within { IfOk result (λ id. id.0 < length schema.now) }
     ensures named { IfOk result (λ id. names_at schema.now id.0 ≡ names_above schema.now parent
         ++ name_in text.now ∷ []) }
-    ensures fault { IfErr result (λ fault. fresh_child schema.now (names_above schema.now parent) seen.now
-        text.now ≡ Err fault) }
+    ensures fault { IfErr result (λ fault. fresh_child schema.now (names_above schema.now parent)
+        seen.now text.now ≡ Err fault) }
 {
     let Some(id) = child_named(schema, parent, text) else {
         return Err(RowsFault::NotInSchema);

@@ -40,7 +40,8 @@ impl SeenKeys {
 
     /// Adds the keys, and says whether they are other ones than all before.
     pub(crate) fn add(&mut self, alloc: Global, keys: &Keys) -> Result<bool, NoMemory>
-        ensures added { IfOk result (λ added. added ≡ not (list_any (same_keys keys.now) self.old)) }
+        ensures added { IfOk result
+            (λ added. added ≡ not (list_any (same_keys keys.now) self.old)) }
         ensures more { IfOk result (λ added. IsTrue added → self.new ≡ self.old ++ keys.now ∷ []) }
     {
         let added = self.index.insert(keys.copy(alloc)?)?;

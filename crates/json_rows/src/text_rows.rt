@@ -62,8 +62,8 @@ fn rows_of_entry(
 ) -> Result<Rows, RowsFault>
     requires within { id.0 < length schema.now }
     requires named { names_at schema.now id.0 ≡ names_of path.now }
-    ensures answer { IfSome (slice_get schema.now id.0) (λ node. IsUnlessMemory RowsFault.NoMemory result
-        (rows_of_entry schema.now node path.now last.now.keys (view json.now))) }
+    ensures answer { IfSome (slice_get schema.now id.0) (λ node. IsUnlessMemory RowsFault.NoMemory
+        result (rows_of_entry schema.now node path.now last.now.keys (view json.now))) }
 {
     let names = schema.node(id).keys().items();
     entry_keys_agree(alloc, schema, id, names, &last.keys, json)?;
@@ -85,8 +85,8 @@ fn rows_at_last_elem(
     requires within { id.0 < length schema.now }
     requires named { names_at schema.now id.0 ≡ names_of path.now }
     requires last { slice_get path.now (length path.now - 1) ≡ Some last.now }
-    ensures answer { IfSome (slice_get schema.now id.0) (λ node. IsUnlessMemory RowsFault.NoMemory result
-        (rows_at_last_elem schema.now node path.now last.now (view json.now))) }
+    ensures answer { IfSome (slice_get schema.now id.0) (λ node. IsUnlessMemory RowsFault.NoMemory
+        result (rows_at_last_elem schema.now node path.now last.now (view json.now))) }
 {
     let node = schema.node(id);
     if is_entry(node.sort(), last) {

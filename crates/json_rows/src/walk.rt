@@ -32,10 +32,11 @@ pub(crate) fn add_node(
     requires node { slice_get schema.now id.0 ≡ Some node.now }
     requires within { id.0 < length schema.now }
     requires named { names_at schema.now id.0 ≡ names_of above.now ++ name.now ∷ [] }
-    ensures ok { OnOk result (rows_at_node node.now.sort schema.now node.now above.now name.now rows.old
-        (view json.now) ≡ Ok rows.new) }
-    ensures fault { IfErr result (λ fault. fault ≢ RowsFault.NoMemory → rows_at_node node.now.sort schema.now
-        node.now above.now name.now rows.old (view json.now) ≡ Err fault) }
+    ensures ok { OnOk result (rows_at_node node.now.sort schema.now node.now above.now name.now
+        rows.old (view json.now) ≡ Ok rows.new) }
+    ensures fault { IfErr result (λ fault. fault ≢ RowsFault.NoMemory
+        → rows_at_node node.now.sort schema.now node.now above.now name.now rows.old (view json.now)
+        ≡ Err fault) }
 {
     match (node.sort(), json) {
         (Sort::Container, Json::Object(members)) => {
@@ -71,8 +72,9 @@ fn add_members(
     requires named { names_above schema.now parent ≡ names_of here.now }
     ensures ok { OnOk result (rows_of_members schema.now here.now [] rows.old
         (members_view members.now.entries) ≡ Ok rows.new) }
-    ensures fault { IfErr result (λ fault. fault ≢ RowsFault.NoMemory → rows_of_members schema.now here.now []
-        rows.old (members_view members.now.entries) ≡ Err fault) }
+    ensures fault { IfErr result (λ fault. fault ≢ RowsFault.NoMemory
+        → rows_of_members schema.now here.now [] rows.old (members_view members.now.entries)
+        ≡ Err fault) }
 {
     let mut seen: Texts = Seq::empty(alloc);
     for (text, json) in members.iter() {
@@ -100,8 +102,9 @@ fn add_entries(
     requires named { names_at schema.now id.0 ≡ names_of above.now ++ name.now ∷ [] }
     ensures ok { OnOk result (rows_of_entries schema.now node.now above.now name.now [] rows.old
         (items_view items.now.items) ≡ Ok rows.new) }
-    ensures fault { IfErr result (λ fault. fault ≢ RowsFault.NoMemory → rows_of_entries schema.now node.now
-        above.now name.now [] rows.old (items_view items.now.items) ≡ Err fault) }
+    ensures fault { IfErr result (λ fault. fault ≢ RowsFault.NoMemory
+        → rows_of_entries schema.now node.now above.now name.now [] rows.old
+        (items_view items.now.items) ≡ Err fault) }
 {
     let mut seen = SeenKeys::empty(alloc);
     for item in items {
@@ -125,9 +128,10 @@ pub(crate) fn add_object(
 ) -> Result<(), RowsFault>
     requires within { ForSome parent (λ id. id.0 < length schema.now) }
     requires named { names_above schema.now parent ≡ names_of here.now }
-    ensures ok { OnOk result (rows_of_object schema.now here.now rows.old (view json.now) ≡ Ok rows.new) }
-    ensures fault { IfErr result (λ fault. fault ≢ RowsFault.NoMemory → rows_of_object schema.now here.now
-        rows.old (view json.now) ≡ Err fault) }
+    ensures ok { OnOk result (rows_of_object schema.now here.now rows.old (view json.now)
+        ≡ Ok rows.new) }
+    ensures fault { IfErr result (λ fault. fault ≢ RowsFault.NoMemory
+        → rows_of_object schema.now here.now rows.old (view json.now) ≡ Err fault) }
 {
     match json {
         Json::Object(members) => add_members(alloc, schema, parent, here, members, rows),

@@ -50,8 +50,10 @@ key_leaves_of_elem schema entry elem (Some node) =
 abbrev pub key_leaves_from : List SchemaNode → List Elem → List Elem → Result (List Row) Refusal
 key_leaves_from schema front [] = Ok []
 key_leaves_from schema front (elem ∷ elems) =
-    and_then (key_leaves_of_elem schema (front ++ elem ∷ []) elem (node_at schema (front ++ elem ∷ [])))
-    (λ leaves. and_then (key_leaves_from schema (front ++ elem ∷ []) elems) (λ others. Ok (leaves ++ others)))
+    and_then (key_leaves_of_elem schema (front ++ elem ∷ []) elem
+    (node_at schema (front ++ elem ∷ []))) (λ leaves.
+    and_then (key_leaves_from schema (front ++ elem ∷ []) elems) (λ others.
+    Ok (leaves ++ others)))
 
 -- the key leaves that a path names
 abbrev pub key_leaves_of : List SchemaNode → List Elem → Result (List Row) Refusal

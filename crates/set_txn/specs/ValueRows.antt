@@ -34,7 +34,8 @@ row_of_distinct path kept = if all_differ kept then Some (list_row path kept) el
 abbrev pub rows_of_leaf_list : Shape → List Elem → Value → Option (List Row)
 rows_of_leaf_list shape path value =
     if is_list value
-    then option_and_then (row_of_distinct path) (values_in_shape shape [] (values_in value)) else None
+    then option_and_then (row_of_distinct path) (values_in_shape shape [] (values_in value))
+    else None
 
 -- a scalar stands at a leaf or a leaf-list alone
 abbrev pub rows_at_sort : Sort → Shape → List Elem → Value → Option (List Row)
@@ -44,7 +45,8 @@ rows_at_sort _ shape path value = None
 
 abbrev pub rows_of_scalar : Option SchemaNode → List Elem → Value → Option (List Row)
 rows_of_scalar node path value =
-    option_and_then (λ n. option_and_then (λ shape. rows_at_sort n.sort shape path value) n.shape) node
+    option_and_then (λ n.
+    option_and_then (λ shape. rows_at_sort n.sort shape path value) n.shape) node
 
 abbrev pub refusal_of : RowsFault → Refusal
 refusal_of faults.NotInSchema = NotInSchema

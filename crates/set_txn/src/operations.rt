@@ -61,7 +61,8 @@ fn push_changes(
     changes: &[Change],
     ops: &mut Ops,
 ) -> Result<(), Refusal>
-    ensures ok { OnOk result (and_then (traverse (op_of_change schema.now prefix.now act) changes.now)
+    ensures ok { OnOk result
+        (and_then (traverse (op_of_change schema.now prefix.now act) changes.now)
         (λ more. Ok (ops.old ++ more)) ≡ Ok ops.new) }
     ensures refused { IfErr result (λ refusal. refusal ≢ Refusal.NoMemory
         → traverse (op_of_change schema.now prefix.now act) changes.now ≡ Err refusal) }
@@ -89,9 +90,10 @@ fn op_of_delete(alloc: Global, prefix: &Path, path: &Path) -> Result<Op, Refusal
 fn whole_path(alloc: Global, prefix: &Path, path: &Path) -> Result<Path, Refusal>
     ensures ok { IfOk result (λ joined. joined ≡ prefix.now ++ path.now) }
     ensures whole { OnOk result (is_whole_path (prefix.now ++ path.now) ≡ true) }
-    ensures refused { IfErr result (λ refusal. refusal ≢ Refusal.NoMemory → refusal ≡ Refusal.BadPath) }
-    ensures not_whole { IfErr result (λ refusal. refusal ≢ Refusal.NoMemory → is_whole_path (prefix.now ++ path.now)
-        ≡ false) }
+    ensures refused { IfErr result (λ refusal. refusal ≢ Refusal.NoMemory
+        → refusal ≡ Refusal.BadPath) }
+    ensures not_whole { IfErr result (λ refusal. refusal ≢ Refusal.NoMemory
+        → is_whole_path (prefix.now ++ path.now) ≡ false) }
 {
     match join_prefix(alloc, prefix, path) {
         Err(fault) => Err(refusal_of(fault)),

@@ -12,7 +12,7 @@ ghost use Rattle.set_txn.specs.Scalars.{decimal_with, value_in_shape, values_in_
 use crate::numbers::{digits_with, natural};
 use base_kinds::{Copied, NoMemory, Seq, Shape, Text, Value, Values};
 use std::alloc::Global;
-use value_core::{check_value, with_sign};
+use value_core::{check_value, is_listed, with_sign};
 
 /// The value of a leaf of this shape that the scalar stands for.
 pub(crate) fn value_in_shape(
@@ -97,12 +97,6 @@ fn listed_in(alloc: Global, texts: &[Text], text: &Text) -> Result<Option<Value>
     } else {
         Ok(None)
     }
-}
-
-fn is_listed(text: &Text, texts: &[Text]) -> bool
-    ensures { result ≡ list_any (bytes_eq text.now) texts.now }
-{
-    texts.iter().any(|other| text.octets() == other.octets())
 }
 
 /// The value as it is, where it has the shape.

@@ -28,7 +28,8 @@ value_read (shapes.Enum texts) text = Some (values.Enum text)
 -- the value is one of a leaf of this shape, and this is its key text
 abbrev pub is_key_of : Shape → List ℕ → Value → Bool
 is_key_of shape text value =
-    is_stored value && is_fit_scalar value && has_shape shape value && bytes_eq text (key_text value)
+    is_stored value && is_fit_scalar value && has_shape shape value
+    && bytes_eq text (key_text value)
 
 abbrev pub if_key_of : Shape → List ℕ → Value → Option Value
 if_key_of shape text value = if is_key_of shape text value then Some value else None

@@ -24,9 +24,10 @@ struct Parts<'a> {
 
 /// Cuts the octets at a `-` at their front and at their first point. Behind a point something has to stand.
 fn parts_of(octets: &[u8]) -> Option<Parts<'_>>
-    ensures some { IfSome result (λ parts. IsCut octets.now parts.negative parts.whole.now parts.behind.now) }
-    ensures none { IfNone result ((negative : Bool) (whole behind : List ℕ) → IsCut octets.now negative whole
-        behind → ⊥) }
+    ensures some { IfSome result (λ parts. IsCut octets.now parts.negative parts.whole.now
+        parts.behind.now) }
+    ensures none { IfNone result ((negative : Bool) (whole behind : List ℕ)
+        → IsCut octets.now negative whole behind → ⊥) }
 {
     match after_minus(octets) {
         None => unsigned_parts(false, octets),
@@ -81,7 +82,8 @@ fn behind_point(rest: &[u8]) -> Option<&[u8]>
 
 /// The number with so many zeros behind it.
 fn with_zeros(number: u64, zeros: usize) -> Option<u64>
-    ensures some { IfSome result (λ longer. longer ≡ digits_value_after 10 number (replicate zeros 48)) }
+    ensures some { IfSome result (λ longer. longer ≡ digits_value_after 10 number
+        (replicate zeros 48)) }
     ensures none { IfNone result (2 ^ 64 ≤ digits_value_after 10 number (replicate zeros 48)) }
 {
     let mut longer = number;
@@ -156,8 +158,8 @@ fn read_written(places: u8, octets: &[u8]) -> Option<i64>
 /// The digits of the decimal that is written so.
 pub(crate) fn read_decimal_key(alloc: Global, places: u8, octets: &[u8]) -> Result<i64, ValueFault>
     ensures ok { IfOk result (λ digits. octets.now ≡ dec_text digits places) }
-    ensures bad_value { IsErrOf result ValueFault.BadValue → (digits : ℤ) → IsTrue (fits_signed 64 digits)
-        → octets.now ≡ dec_text digits places → ⊥ }
+    ensures bad_value { IsErrOf result ValueFault.BadValue → (digits : ℤ)
+        → IsTrue (fits_signed 64 digits) → octets.now ≡ dec_text digits places → ⊥ }
 {
     let Some(digits) = read_written(places, octets) else {
         return Err(ValueFault::BadValue);

@@ -19,8 +19,8 @@ use std::alloc::Global;
 /// The value of this shape whose key text this is. There is one at most.
 pub fn read_key(alloc: Global, shape: &Shape, text: &Text) -> Result<Value, ValueFault>
     ensures ok { IfOk result (λ value. IsKeyOf shape.now text.now value) }
-    ensures bad_value { IsErrOf result ValueFault.BadValue → (value : AnyValue) → IsKeyOf shape.now text.now value
-        → ⊥ }
+    ensures bad_value { IsErrOf result ValueFault.BadValue → (value : AnyValue)
+        → IsKeyOf shape.now text.now value → ⊥ }
 {
     let octets = text.octets();
     match shape {
@@ -84,7 +84,8 @@ fn read_uint(width: u8, octets: &[u8]) -> Result<u64, ValueFault>
 fn read_enum(alloc: Global, texts: &[Text], text: &Text) -> Result<Text, ValueFault>
     ensures ok { IfOk result (λ copy. copy ≡ text.now) }
     ensures listed { OnOk result (IsTrue (list_any (bytes_eq text.now) texts.now)) }
-    ensures bad_value { IsErrOf result ValueFault.BadValue → IsTrue (list_any (bytes_eq text.now) texts.now) → ⊥ }
+    ensures bad_value { IsErrOf result ValueFault.BadValue
+        → IsTrue (list_any (bytes_eq text.now) texts.now) → ⊥ }
 {
     if !is_listed(text, texts) {
         return Err(ValueFault::BadValue);

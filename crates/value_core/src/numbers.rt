@@ -13,7 +13,8 @@ pub(crate) fn with_digit(number: u64, octet: u8) -> Option<u64>
     ensures some { IfSome result (λ longer. longer ≡ number * 10 + digit_value octet) }
     ensures small { IfSome result (λ longer. longer < 2 ^ 64) }
     ensures digit { OnSome result (digit_value octet < 10) }
-    ensures none { IfNone result (digit_value octet < 10 → 2 ^ 64 ≤ number * 10 + digit_value octet) }
+    ensures none { IfNone result (digit_value octet < 10 → 2 ^ 64 ≤ number * 10 + digit_value
+        octet) }
 {
     if octet < b'0' || octet > b'9' {
         return None;
@@ -26,7 +27,8 @@ pub(crate) fn with_digits(number: u64, octets: &[u8]) -> Option<u64>
     ensures some { IfSome result (λ longer. longer ≡ digits_value_after 10 number octets.now) }
     ensures small { IfSome result (λ longer. longer < 2 ^ 64) }
     ensures digits { OnSome result (AllDigits 10 octets.now) }
-    ensures none { IfNone result (AllDigits 10 octets.now → 2 ^ 64 ≤ digits_value_after 10 number octets.now) }
+    ensures none { IfNone result (AllDigits 10 octets.now → 2 ^ 64 ≤ digits_value_after 10 number
+        octets.now) }
 {
     let mut longer = number;
     for octet in octets {
@@ -71,7 +73,8 @@ pub(crate) fn after_minus(octets: &[u8]) -> Option<&[u8]>
 fn natural_in(octets: &[u8]) -> Option<u64>
     ensures some { IfSome result (λ number. octets.now ≡ decimal number) }
     ensures small { IfSome result (λ number. number < 2 ^ 64) }
-    ensures none { IfNone result ((number : ℕ) → number < 2 ^ 64 → octets.now ≡ decimal number → ⊥) }
+    ensures none { IfNone result ((number : ℕ) → number < 2 ^ 64 → octets.now ≡ decimal number
+        → ⊥) }
 {
     if !begins_plainly(octets) {
         return None;
@@ -116,7 +119,8 @@ pub fn read_natural(octets: &[u8]) -> Option<u64>
     ensures value { result ≡ natural_of octets.now }
     ensures some { IfSome result (λ number. octets.now ≡ decimal number) }
     ensures small { IfSome result (λ number. number < 2 ^ 64) }
-    ensures none { IfNone result ((number : ℕ) → number < 2 ^ 64 → octets.now ≡ decimal number → ⊥) }
+    ensures none { IfNone result ((number : ℕ) → number < 2 ^ 64 → octets.now ≡ decimal number
+        → ⊥) }
 {
     natural_in(octets)
 }

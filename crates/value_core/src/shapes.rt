@@ -42,8 +42,8 @@ pub(crate) fn is_below_power(number: u64, places: u8) -> bool
     places >= 64 || number < 1 << places
 }
 
-/// Whether the text is one of these.
-pub(crate) fn is_listed(text: &Text, texts: &[Text]) -> bool
+/// Whether the text is one of these. Takes no memory.
+pub fn is_listed(text: &Text, texts: &[Text]) -> bool
     ensures { result ≡ list_any (bytes_eq text.now) texts.now }
 {
     texts.iter().any(|other| text.octets() == other.octets())

@@ -42,8 +42,8 @@ fn put_value(alloc: Global, value: &Value, out: &mut Bytes) -> Result<(), NoMemo
 /// Adds the texts of the values between brackets.
 #[cycle(values)]
 fn put_list(alloc: Global, values: &[Value], out: &mut Bytes) -> Result<(), NoMemory>
-    ensures { OnOk result (out.new ≡ out.old ++ (91 ∷ (comma_separated (map value_text values.now) ++ 93
-        ∷ []))) }
+    ensures { OnOk result (out.new ≡ out.old
+        ++ (91 ∷ (comma_separated (map value_text values.now) ++ 93 ∷ []))) }
 {
     out.extend_from_slice(b"[")?;
     put_values(alloc, values, out)?;

@@ -31,7 +31,8 @@ TreesReadBack =
 -- the JSON at the path of a container means the rows below it
 abbrev pub ContainersReadBack : Type 0
 ContainersReadBack =
-    (schema : List SchemaNode) (elem : Elem) (elems : List Elem) (node : SchemaNode) (rows : List Row)
+    (schema : List SchemaNode) (elem : Elem) (elems : List Elem) (node : SchemaNode)
+    (rows : List Row)
     → IsWellFormed schema → node_at schema (elem ∷ elems) ≡ Some node
     → node.sort ≡ sorts.Container → ends_plain (elem ∷ elems) ≡ true
     → IsPart schema (elem ∷ elems) rows → ReadsBack schema (elem ∷ elems) rows
@@ -40,7 +41,8 @@ ContainersReadBack =
 -- key texts are its keys.
 abbrev pub EntriesReadBack : Type 0
 EntriesReadBack =
-    (schema : List SchemaNode) (above : List Elem) (entry : Elem) (node : SchemaNode) (rows : List Row)
+    (schema : List SchemaNode) (above : List Elem) (entry : Elem) (node : SchemaNode)
+    (rows : List Row)
     → IsWellFormed schema → node_at schema (above ++ entry ∷ []) ≡ Some node
     → node.sort ≡ sorts.List → ends_plain (above ++ entry ∷ []) ≡ false
     → IsPart schema (above ++ entry ∷ []) rows

@@ -14,7 +14,8 @@ use Rattle.value_core.specs.KeyValues.{key_value}
 -- a text is the key of one value of a shape at most
 abbrev pub OneValueAKey : Type 0
 OneValueAKey =
-    (shape : Shape) (text : List ℕ) (a b : Value) → IsKeyOf shape text a → IsKeyOf shape text b → a ≡ b
+    (shape : Shape) (text : List ℕ) (a b : Value)
+    → IsKeyOf shape text a → IsKeyOf shape text b → a ≡ b
 
 -- octets spell one decimal at most
 abbrev pub OneDecimal : Type 0
@@ -50,4 +51,5 @@ DecimalsByFunction =
 abbrev pub KeysByFunction : Type 0
 KeysByFunction =
     (shape : Shape) (text : List ℕ) (value : Value)
-    → (key_value shape text ≡ Some value) ↔ (IsKeyOf shape text value × (is_fit_scalar value ≡ true))
+    → (key_value shape text ≡ Some value)
+    ↔ (IsKeyOf shape text value × (is_fit_scalar value ≡ true))
