@@ -30,7 +30,8 @@ pub fn has_just_keys(elem: &Elem, keys: &[Text]) -> bool
 }
 
 fn has_each_key(elem: &Elem, keys: &[Text]) -> bool
-    ensures { result ≡ list_all (λ key. list_any (λ pair. bytes_eq key pair.0) elem.now.keys) keys.now }
+    ensures { result ≡ list_all (λ key. list_any
+        (λ pair. bytes_eq key pair.0) elem.now.keys) keys.now }
 {
     keys.iter().all(|key| has_key(elem.keys.items(), key))
 }

@@ -55,7 +55,8 @@ impl Schema {
 
     /// The node of the path. Its keys are not looked at. Takes no memory.
     pub fn find(&self, path: &Path) -> Option<NodeId>
-        ensures node { node_at self.now path.now ≡ option_and_then (λ id. slice_get self.now id.0) result }
+        ensures node { node_at self.now path.now ≡ option_and_then
+            (λ id. slice_get self.now id.0) result }
         ensures absent { IsNone result ↔ (node_at self.now path.now ≡ None) }
         ensures within { IfSome result (λ id. id.0 < length self.now) }
         ensures named { IfSome result (λ id. names_at self.now id.0 ≡ names_of path.now) }
@@ -65,7 +66,8 @@ impl Schema {
 
     /// The node with these names. Takes no memory.
     pub fn find_names(&self, names: &[Text]) -> Option<NodeId>
-        ensures node { node_of self.now names.now ≡ option_and_then (λ id. slice_get self.now id.0) result }
+        ensures node { node_of self.now names.now ≡ option_and_then
+            (λ id. slice_get self.now id.0) result }
         ensures absent { IsNone result ↔ (node_of self.now names.now ≡ None) }
         ensures within { IfSome result (λ id. id.0 < length self.now) }
         ensures named { IfSome result (λ id. names_at self.now id.0 ≡ names.now) }
@@ -132,8 +134,10 @@ impl Schema {
     /// None exactly at a container or a list.
     pub fn shape_of(&self, node: NodeId) -> Option<&Shape>
         requires { node.0 < length self.now }
-        ensures value { option_map (λ n. n.shape) (slice_get self.now node.0) ≡ Some (option_copied result) }
-        ensures inner { IfSome (slice_get self.now node.0) (λ n. IsNone result ↔ IsTrue (is_inner n.sort)) }
+        ensures value { option_map
+            (λ n. n.shape) (slice_get self.now node.0) ≡ Some (option_copied result) }
+        ensures inner { IfSome (slice_get self.now node.0)
+            (λ n. IsNone result ↔ IsTrue (is_inner n.sort)) }
     {
         self.node(node).shape()
     }
@@ -239,7 +243,8 @@ fn place_of(nodes: &[Node], order: &[u32], wanted: Wanted) -> Result<usize, usiz
     ensures there { IfOk result (λ place.
         names_cmp (wanted_names wanted.entry) (names_in nodes.now order.now place)
         ≡ Ordering.Equal) }
-    ensures gap { IfErr result (λ gap. IsBetween nodes.now order.now (wanted_names wanted.entry) gap gap) }
+    ensures gap { IfErr result
+        (λ gap. IsBetween nodes.now order.now (wanted_names wanted.entry) gap gap) }
 {
     let (mut low, mut high) = (0, order.len());
     while low < high {
