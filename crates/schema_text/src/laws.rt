@@ -11,7 +11,8 @@ pub fn empty_text_has_no_nodes()
 
 /// In a schema text that is one no names stand twice, and each node's parent stands before it.
 pub fn parents_stand_first()
-    ensures { (text : List ℕ) (nodes : List SchemaNode) → schema_of text ≡ Ok nodes → AllPlaced nodes }
+    ensures { (text : List ℕ) (nodes : List SchemaNode) → schema_of text ≡ Ok nodes →
+        AllPlaced nodes }
 {}
 
 /// A schema text that is one is a well-formed schema.

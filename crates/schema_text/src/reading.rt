@@ -83,7 +83,8 @@ impl Reading {
         names: Texts,
         node: Declared,
     ) -> Result<(), SchemaError>
-        ensures ok { OnOk result (at_line number (with_node number self.old names node) ≡ Ok self.new) }
+        ensures ok { OnOk result (at_line number (with_node number self.old names node)
+            ≡ Ok self.new) }
         ensures refused { IfErr result
             (λ error. IsFaultOf error (at_line number (with_node number self.old names node))) }
     {
@@ -133,7 +134,8 @@ impl Reading {
         line: &[u8],
     ) -> Result<(), SchemaError>
         requires { place ≤ LONGEST_TEXT }
-        ensures ok { OnOk result (at_line number (ended_line number place self.old line.now) ≡ Ok self.new) }
+        ensures ok { OnOk result (at_line number (ended_line number place self.old line.now)
+            ≡ Ok self.new) }
         ensures within { OnOk result (place + length line.now + 1 ≤ LONGEST_TEXT) }
         ensures refused { IfErr result
             (λ error. IsFaultOf error (at_line number (ended_line number place self.old line.now))) }
@@ -154,7 +156,8 @@ fn take_last(
 ) -> Result<Reading, SchemaError>
     requires { place ≤ LONGEST_TEXT }
     ensures ok { IfOk result (λ read. at_line number (last_part place reading part.now) ≡ Ok read) }
-    ensures refused { IfErr result (λ error. IsFaultOf error (at_line number (last_part place reading part.now))) }
+    ensures refused { IfErr result
+        (λ error. IsFaultOf error (at_line number (last_part place reading part.now))) }
 {
     if part.is_empty() {
         return Ok(reading);
@@ -167,8 +170,10 @@ fn take_last(
 
 /// Takes the lines of the text.
 pub(crate) fn read_lines(alloc: Global, text: &[u8]) -> Result<Reading, SchemaError>
-    ensures ok { IfOk result (λ reading. read_parts 1 0 nothing_read (parts_of 10 text.now) ≡ Ok reading) }
-    ensures refused { IfErr result (λ error. IsFaultOf error (read_parts 1 0 nothing_read (parts_of 10 text.now))) }
+    ensures ok { IfOk result
+        (λ reading. read_parts 1 0 nothing_read (parts_of 10 text.now) ≡ Ok reading) }
+    ensures refused { IfErr result
+        (λ error. IsFaultOf error (read_parts 1 0 nothing_read (parts_of 10 text.now))) }
 {
     let mut reading = Reading::empty(alloc);
     let mut parts = Parts::of(text, b'\n');
