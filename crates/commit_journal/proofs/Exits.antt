@@ -5,7 +5,7 @@ use Rattle.base_kinds.specs.declared.entry.Limits.{Limits}
 use Rattle.base_kinds.specs.Records.{record_octets}
 use Rattle.disk_model.specs.Content.{Content, WhereTold, Tells, Changes}
 use Rattle.disk_model.specs.Images.{mask_after_sync, mask_after_write}
-use Rattle.disk_model.specs.Moments.{PutSynced, Since, Leaves, LeavesNow, LeavesOnly}
+use Rattle.disk_model.specs.Moments.{PutSynced, Leaves, LeavesNow, LeavesOnly}
 use Rattle.disk_model.proofs.Moving.{moved_tells, moved_map, moved_on, changes_since, put_since, leaves_then, leaves_same}
 use Rattle.journal_record.specs.Spelling.{record_of}
 use Rattle.journal_record.proofs.Lengths.{record_length}

@@ -2,7 +2,7 @@
 use Rattle.std.proofs.Common.{ℕ, List, [], ◌∷◌, ◌++◌, length, Option, Some, None, refl, sym, ap, ◌∙◌, append_assoc}
 use Rattle.disk_model.specs.Content.{Content, WhereTold, Tells, Changes}
 use Rattle.disk_model.specs.Images.{mask_after_write, mask_after_sync}
-use Rattle.disk_model.specs.Moments.{Each, Since, PutSynced, Leaves, LeavesNow, LeavesOnly}
+use Rattle.disk_model.specs.Moments.{Each, HoldsThroughout, PutSynced, Leaves, LeavesNow, LeavesOnly}
 
 pub moved_tells : {A B : Content → Type 0} {S : Content → Content → Type 0} (old new : Option Content) → Tells old A → WhereTold old new S → ((o n : Content) → A o → S o n → B n) → Tells new B
 moved_tells None None fact moved step = tt
@@ -28,7 +28,7 @@ each_append : (P : List (Option ℕ) → Type 0) (xs ys : List (List (Option ℕ
 each_append P [] ys a b = b
 each_append P (x ∷ xs) ys a b = (a.0, each_append P xs ys a.1 b)
 
-pub since_on : (P : List (Option ℕ) → Type 0) (old mid new : Content) → Since P old mid → Since P mid new → Since P old new
+pub since_on : (P : List (Option ℕ) → Type 0) (old mid new : Content) → HoldsThroughout P old mid → HoldsThroughout P mid new → HoldsThroughout P old new
 since_on P old mid new first second = record {
   first = first.first;
   later = second.later ++ first.later;
@@ -36,10 +36,10 @@ since_on P old mid new first second = record {
   each = each_append P second.later first.later second.each first.each;
 }
 
-pub since_same : (P : List (Option ℕ) → Type 0) (old : Content) → P old.mask → Since P old old
+pub since_same : (P : List (Option ℕ) → Type 0) (old : Content) → P old.mask → HoldsThroughout P old old
 since_same P old has = record { first = has; later = []; past = refl; each = tt }
 
-pub changes_since : (P : List (Option ℕ) → Type 0) (mask : List (Option ℕ)) (old new : Content) → P old.mask → P mask → Changes mask old new → Since P old new
+pub changes_since : (P : List (Option ℕ) → Type 0) (mask : List (Option ℕ)) (old new : Content) → P old.mask → P mask → Changes mask old new → HoldsThroughout P old new
 changes_since P mask old new before after changes = record {
   first = before;
   later = mask ∷ [];
@@ -47,7 +47,7 @@ changes_since P mask old new before after changes = record {
   each = (after, tt);
 }
 
-pub put_since : (P : List (Option ℕ) → Type 0) (place : ℕ) (piece : List ℕ) (old new : Content) → P old.mask → P (mask_after_write place (length piece) old.mask) → P (mask_after_sync new.seen) → PutSynced place piece old new → Since P old new
+pub put_since : (P : List (Option ℕ) → Type 0) (place : ℕ) (piece : List ℕ) (old new : Content) → P old.mask → P (mask_after_write place (length piece) old.mask) → P (mask_after_sync new.seen) → PutSynced place piece old new → HoldsThroughout P old new
 put_since P place piece old new before during after put = record {
   first = before;
   later = mask_after_sync new.seen ∷ mask_after_write place (length piece) old.mask ∷ [];

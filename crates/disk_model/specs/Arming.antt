@@ -1,6 +1,7 @@
 -- When a disk is to fail and to stop: lines that wait for its calls, each with the number of calls that still pass
 -- before it hits. Each call of the disk steps them on.
-use Rattle.std.specs.Prelude.{◌≡◌, ℕ, zero, suc, Bool, true, false, if◌then◌else◌, List, [], ◌∷◌, ◌++◌, Option, Some, None, is_some}
+use Rattle.std.specs.Prelude.{◌≡◌, ℕ, zero, suc, Bool, false, if◌then◌else◌, List, [], ◌∷◌}
+use Rattle.std.specs.Prelude.{◌++◌, Option, Some, None, is_some}
 use Rattle.base_kinds.specs.declared.fill.Fill.{Fill}
 use Rattle.disk_model.specs.declared.outcome.Outcome.{Outcome}
 use Rattle.disk_model.specs.declared.outcome.Outcome.TheVariants.{Passes, Fails, Stops}
@@ -41,7 +42,8 @@ outcome_by None None = Passes
 -- what a call does: after a stop each fails
 abbrev pub outcome_of : Arming → Outcome
 outcome_of arming =
-    if arming.stopped then Fails else outcome_by (line_that_hits arming.stops) (line_that_hits arming.fails)
+    if arming.stopped then Fails
+    else outcome_by (line_that_hits arming.stops) (line_that_hits arming.fails)
 
 -- What waits after the call. Each call counts for both, whatever it does. After a stop nothing counts on.
 abbrev pub arming_after : Arming → Arming

@@ -1,5 +1,6 @@
 -- Which calls of a disk fail: those that its arming says, and else only for want of memory.
-use Rattle.std.specs.Prelude.{◌≡◌, ℕ, zero, suc, ◌+◌, ◌<◌, ◌≤◌, Bool, true, List, length, min, drop, Option, Result, MatchResult, option_map, IfSome}
+use Rattle.std.specs.Prelude.{◌≡◌, ℕ, ◌<◌, ◌≤◌, Bool, true, length, min, drop, Option}
+use Rattle.std.specs.Prelude.{Result, MatchResult, option_map, IfSome}
 use Rattle.disk_model.specs.Arming.{Arming, AllPass, outcome_of, arming_after, arming_after_calls}
 use Rattle.disk_model.specs.Content.{Content, Tells}
 use Rattle.disk_model.specs.declared.outcome.Outcome.TheVariants.{Passes}

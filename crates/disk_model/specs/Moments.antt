@@ -8,7 +8,7 @@ Each fact [] = Unit {0}
 Each fact (mask ∷ masks) = fact mask × Each fact masks
 
 -- at old, and at each moment after it up to new, the mask has the fact
-pub record Since (fact : List (Option ℕ) → Type 0) (old new : Content) : Type 0 where
+pub record HoldsThroughout (fact : List (Option ℕ) → Type 0) (old new : Content) : Type 0 where
   pub first : fact old.mask
   pub later : List (List (Option ℕ))
   pub past : new.mask ∷ new.past ≡ later ++ (old.mask ∷ old.past)
@@ -24,7 +24,7 @@ LeavesNow fact told = Tells told (λ content. Leaves fact content.mask)
 
 -- where the disk tells, what a stop leaves at any moment from old to new has the fact
 abbrev pub LeavesOnly : (List ℕ → Type 0) → Option Content → Option Content → Type 0
-LeavesOnly fact old new = WhereTold old new (Since (Leaves fact))
+LeavesOnly fact old new = WhereTold old new (HoldsThroughout (Leaves fact))
 
 -- A piece was written and synced. At the moment between, a stop leaves what one in the write may leave.
 pub record PutSynced (place : ℕ) (piece : List ℕ) (old new : Content) : Type 0 where

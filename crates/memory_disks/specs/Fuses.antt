@@ -101,7 +101,8 @@ StopsInWrite fill place piece old new = (new ≡ after_stop_in_write fill place 
     ⊎ (new ≡ after_want_of_memory (after_quiet_stop fill (after_failed_write place piece old)))
 
 -- A write. Where it passes it fails for want of memory alone.
-abbrev pub WriteGives : {E : Type 0} → Outcome → ℕ → List ℕ → Result Unit E → FuseView → FuseView → Type 0
+abbrev pub WriteGives : {E : Type 0} → Outcome → ℕ → List ℕ → Result Unit E
+    → FuseView → FuseView → Type 0
 WriteGives Passes place piece result old new = MatchResult result
     (λ _. new ≡ after_write place piece old)
     (λ _. new ≡ after_want_of_memory (after_failed_write place piece old))

@@ -8,7 +8,8 @@ use Rattle.base_kinds.specs.declared.fill.Fill.TheVariants.{Old, New, Octet}
 -- a piece at its place, and zeros before it where it begins past the end
 abbrev pub octets_after_write : ℕ → List ℕ → List ℕ → List ℕ
 octets_after_write place piece octets = take place octets
-    ++ (replicate (gap_length place piece octets) 0 ++ (piece ++ drop (place + length piece) octets))
+    ++ (replicate (gap_length place piece octets) 0
+    ++ (piece ++ drop (place + length piece) octets))
 
 -- one octet at all places of these ranges, each a place and a length
 abbrev pub with_ranges_filled : ℕ → List (ℕ × ℕ) → List ℕ → List ℕ

@@ -20,7 +20,8 @@ torn : IsImage (mask_after_write 1 2 (mask_after_sync (7 ∷ 8 ∷ 9 ∷ []))) (
 torn = (refl, tt)
 
 -- but it keeps each octet that it doesn't touch
-untouched_changed : IsImage (mask_after_write 1 2 (mask_after_sync (7 ∷ 8 ∷ 9 ∷ []))) (6 ∷ 20 ∷ 9 ∷ []) → ⊥
+untouched_changed :
+    IsImage (mask_after_write 1 2 (mask_after_sync (7 ∷ 8 ∷ 9 ∷ []))) (6 ∷ 20 ∷ 9 ∷ []) → ⊥
 untouched_changed image = let six : ℕ = 6 in let wrong : six ≡ 7 = image.0 in absurd (cc)
 
 -- and the length of the last sync
