@@ -71,7 +71,8 @@ fn read_hex(text: &[u8]) -> Option<(u8, &[u8])>
 
 /// The octet whose spelling stands at the front, and what follows that.
 pub(crate) fn read_octet(part: Part, text: &[u8]) -> Option<(u8, &[u8])>
-    ensures some { IfSome result (λ read. text.now ≡ octet_text (test_of part) read.0 ++ read.1.now) }
+    ensures some { IfSome result
+        (λ read. text.now ≡ octet_text (test_of part) read.0 ++ read.1.now) }
     ensures small { IfSome result (λ read. read.0 < 256) }
     ensures shorter { IfSome result (λ read. length read.1.now < length text.now) }
     ensures none { IfNone result (NoOctet part text.now) }

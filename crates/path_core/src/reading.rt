@@ -152,7 +152,8 @@ fn is_root(text: &[u8]) -> bool
 pub fn read_path_text(alloc: Global, text: &[u8]) -> Result<Path, PathFault>
     ensures ok { IfOk result (λ path. IsPathText text.now path) }
     // It is no other path's.
-    ensures only { IfOk result (λ path. (other : List PathElem) → IsPathText text.now other → other ≡ path) }
+    ensures only { IfOk result (λ path. (other : List PathElem) → IsPathText text.now other →
+        other ≡ path) }
     ensures bad { IsErrOf result PathFault.BadPath →
         (path : List PathElem) → IsPathText text.now path → ⊥ }
 {
