@@ -1,5 +1,5 @@
 -- A run in its stages.
-use Rattle.std.proofs.Common.{Bool, true, false, refl, ◌≡◌, ℕ, List, Result, Ok, Err, inl, inr, sym, subst}
+use Rattle.std.proofs.Common.{Bool, ◌≡◌, ℕ, List, Result, Ok, Err, inl, inr, sym, subst, true, false, refl}
 use Rattle.base_kinds.specs.Limits.{most_script_octets}
 use Rattle.base_kinds.specs.Schema.{SchemaNode}
 use Rattle.base_kinds.specs.declared.entry.Limits.{Limits}
@@ -9,9 +9,9 @@ use Rattle.edge_traits.specs.Input.{ReadsToLimit}
 use Rattle.script_run.specs.Scripts.{RunsScript, status_of}
 use Rattle.target_top.specs.declared.ending.Ending.{Ending}
 use Rattle.target_top.specs.declared.ending.Ending.TheVariants.{NoSchema}
-use Rattle.target_top.specs.Ending.{exit_status}
 use Rattle.target_top.specs.ScriptRun.{script_ending, RunsLines, ScriptRun}
 use Rattle.target_top.specs.Printing.{PrintsText, MakesText}
+use Rattle.target_top.specs.Ending.{exit_status}
 use Rattle.target_top.specs.Environment.{Environment, TextFiles, GaveText}
 use Rattle.target_top.specs.SchemaFile.{fault_line, UnderText, UnderSchema}
 use Rattle.target_top.specs.inner.OpenedSchema.{Opened}

@@ -13,9 +13,11 @@ abbrev pub count_line : List SchemaNode → List ℕ
 count_line schema = codes "schema ok " ++ (decimal (length schema) ++ 10 ∷ [])
 
 -- the line is printed, and the input is left alone
-pub record Counts (before after : Environment) (ending : Ending) (schema : List SchemaNode) : Type 0 where
+pub record Counts
+    (before after : Environment) (ending : Ending) (schema : List SchemaNode) : Type 0 where
   pub input : after.input ≡ before.input
   pub output : MakesText (count_line schema) Done before.output after.output ending
 
 abbrev pub CheckRun : List ℕ → Environment → Environment → Ending → Type 0
-CheckRun name before after ending = UnderSchema name before after ending (Counts before after ending)
+CheckRun name before after ending =
+    UnderSchema name before after ending (Counts before after ending)

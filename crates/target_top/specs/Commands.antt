@@ -27,7 +27,8 @@ pub record AreLimits (entries octets : List ℕ) (limits : Limits) : Type 0 wher
 abbrev pub IsScript : List (List ℕ) → List ℕ → Limits → Type 0
 IsScript words name limits =
     ((words ≡ codes "script" ∷ name ∷ []) × (limits ≡ default_limits))
-    ⊎ ((entries : List ℕ) × ((octets : List ℕ) × ((words ≡ codes "script" ∷ name ∷ entries ∷ octets ∷ []) × AreLimits entries octets limits)))
+    ⊎ ((entries : List ℕ) × ((octets : List ℕ) ×
+    ((words ≡ codes "script" ∷ name ∷ entries ∷ octets ∷ []) × AreLimits entries octets limits)))
 
 abbrev pub IsCheck : List (List ℕ) → List ℕ → Type 0
 IsCheck words name = words ≡ codes "check" ∷ name ∷ []

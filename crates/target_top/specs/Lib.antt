@@ -8,3 +8,4 @@ pub mod Run
 pub mod SchemaFile
 pub mod ScriptRun
 pub mod inner
+pub mod laws

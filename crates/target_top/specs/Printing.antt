@@ -14,7 +14,8 @@ pub record OutOfMemory (old new : Output) (ending : Ending) : Type 0 where
   pub line : SaysLast (codes "no memory\n") old new
 
 -- the text was written, all of it and nothing else, and the run ends so
-pub record PrintsWhole (text : List ℕ) (good : Ending) (old new : Output) (ending : Ending) : Type 0 where
+pub record PrintsWhole
+    (text : List ℕ) (good : Ending) (old new : Output) (ending : Ending) : Type 0 where
   pub ends : ending ≡ good
   pub whole : Wrote text old new
 
@@ -30,4 +31,5 @@ PrintsText text good old new ending =
 
 -- and unless memory is wanting for the text
 abbrev pub MakesText : List ℕ → Ending → Output → Output → Ending → Type 0
-MakesText text good old new ending = PrintsText text good old new ending ⊎ OutOfMemory old new ending
+MakesText text good old new ending =
+    PrintsText text good old new ending ⊎ OutOfMemory old new ending

@@ -13,7 +13,8 @@ use Rattle.target_top.specs.Printing.{SaysLast, OutOfMemory, MakesText}
 -- `schema line` with the line of the first fault of a text that is no schema, and its cause
 abbrev pub fault_line : SchemaFault → List ℕ
 fault_line fault =
-    codes "schema line " ++ (decimal fault.line ++ (codes ": " ++ (cause_text fault.cause ++ 10 ∷ [])))
+    codes "schema line "
+    ++ (decimal fault.line ++ (codes ": " ++ (cause_text fault.cause ++ 10 ∷ [])))
 
 -- the file of this name could not be read, and nothing else was read
 pub record FileFails (name : List ℕ) (before after : Environment) (ending : Ending) : Type 0 where
@@ -30,22 +31,28 @@ pub record NoRoom (name : List ℕ) (before after : Environment) (ending : Endin
   pub output : OutOfMemory before.output after.output ending
 
 -- a text that is no schema: its first fault is printed, and the input is left alone
-pub record BadText (fault : SchemaFault) (before after : Environment) (ending : Ending) : Type 0 where
+pub record BadText
+    (fault : SchemaFault) (before after : Environment) (ending : Ending) : Type 0 where
   pub input : after.input ≡ before.input
   pub output : MakesText (fault_line fault) NoSchema before.output after.output ending
 
 -- what is done by a text read as a schema
-abbrev pub UnderText : Result (List SchemaNode) SchemaFault → Environment → Environment → Ending → (List SchemaNode → Type 0) → Type 0
+abbrev pub UnderText : Result (List SchemaNode) SchemaFault → Environment → Environment → Ending →
+    (List SchemaNode → Type 0) → Type 0
 UnderText (Ok schema) before after ending Then = Then schema
 UnderText (Err fault) before after ending Then = BadText fault before after ending
 
 -- the file of this name gave a text, and it was done by that
-pub record FromText (name : List ℕ) (before after : Environment) (ending : Ending) (Then : List SchemaNode → Type 0) : Type 0 where
+pub record FromText
+    (name : List ℕ) (before after : Environment) (ending : Ending)
+    (Then : List SchemaNode → Type 0) : Type 0 where
   pub text : List ℕ
   pub gave : GaveText name text before.files after.files
   pub under : UnderText (schema_of text) before after ending Then
 
 -- a run under the schema whose text is in the file of this name: once that is read, it goes on so
-abbrev pub UnderSchema : List ℕ → Environment → Environment → Ending → (List SchemaNode → Type 0) → Type 0
+abbrev pub UnderSchema : List ℕ → Environment → Environment → Ending → (List SchemaNode → Type 0) →
+    Type 0
 UnderSchema name before after ending Then =
-    FromText name before after ending Then ⊎ FileFails name before after ending ⊎ NoRoom name before after ending
+    FromText name before after ending Then ⊎ FileFails name before after ending
+    ⊎ NoRoom name before after ending

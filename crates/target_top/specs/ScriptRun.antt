@@ -20,7 +20,9 @@ script_ending false = BadLine
 
 -- the input was read to its end, or one octet past the limit of a script, since what follows changes nothing; and what is
 -- printed are the answers to what was read
-pub record Answers (schema : List SchemaNode) (limits : Limits) (before after : Environment) (ending : Ending) : Type 0 where
+pub record Answers
+    (schema : List SchemaNode) (limits : Limits) (before after : Environment) (ending : Ending)
+    : Type 0 where
   pub script : List ℕ
   pub read : ReadsToLimit most_script_octets script before.input after.input
   pub text : List ℕ
@@ -41,7 +43,8 @@ pub record Unanswered (before after : Environment) (ending : Ending) : Type 0 wh
 
 abbrev pub RunsLines : Limits → Environment → Environment → Ending → List SchemaNode → Type 0
 RunsLines limits before after ending schema =
-    Answers schema limits before after ending ⊎ Unreadable before after ending ⊎ Unanswered before after ending
+    Answers schema limits before after ending ⊎ Unreadable before after ending
+    ⊎ Unanswered before after ending
 
 abbrev pub ScriptRun : List ℕ → Limits → Environment → Environment → Ending → Type 0
 ScriptRun name limits before after ending =

@@ -9,7 +9,8 @@ use plain_texts::natural_of;
 /// The name and the limits of a script, where the words are those of one.
 pub fn script_words(words: &[String]) -> Option<(&str, Limits)>
     ensures some { IfSome result (λ form. IsScript (octets_of_words words.now) form.0.now form.1) }
-    ensures none { IfNone result ((name : List ℕ) (limits : LogLimits) → IsScript (octets_of_words words.now) name limits → ⊥) }
+    ensures none { IfNone result ((name : List ℕ) (limits : LogLimits) →
+        IsScript (octets_of_words words.now) name limits → ⊥) }
 {
     match words {
         [word, name] => {
@@ -58,7 +59,8 @@ pub fn only_word(words: &[String], word: &str) -> bool
 /// The limits that the two words are.
 fn limits_of(entries: &str, octets: &str) -> Option<Limits>
     ensures some { IfSome result (AreLimits entries.now octets.now) }
-    ensures none { IfNone result ((limits : LogLimits) → AreLimits entries.now octets.now limits → ⊥) }
+    ensures none { IfNone result ((limits : LogLimits) →
+        AreLimits entries.now octets.now limits → ⊥) }
 {
     let entries = limit_of(entries)?;
     let octets = limit_of(octets)?;

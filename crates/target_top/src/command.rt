@@ -15,7 +15,8 @@ pub enum Command<'a> {
 
 /// The command that the words give.
 pub fn command_of(words: &[String]) -> Option<Command<'_>>
-    ensures some { IfSome result (λ command. Gives (octets_of_words words.now) (command_parsed command)) }
+    ensures some { IfSome result (λ command.
+        Gives (octets_of_words words.now) (command_parsed command)) }
     ensures none { IfNone result (GivesNone (octets_of_words words.now)) }
 {
     if let Some((schema, limits)) = script_words(words) {

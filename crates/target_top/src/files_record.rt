@@ -25,7 +25,12 @@ impl Model for FilesRecord {
 
     ghost Value = { TextFiles };
 
-    ghost view = { λ r. record { asked = r.asked; given = r.given; faults = r.faults; held = None } };
+    ghost view = { λ r. record {
+      asked = r.asked;
+      given = r.given;
+      faults = r.faults;
+      held = None;
+    } };
 }
 
 impl FilesRecord {
@@ -50,7 +55,8 @@ impl FilesRecord {
 
     /// The file with this name has given this text.
     pub fn gave(&mut self, name: &str, text: &[u8])
-        ensures { self.new ≡ files_with_text (record { name = name.now; text = text.now }) self.old }
+        ensures { self.new ≡
+            files_with_text (record { name = name.now; text = text.now }) self.old }
     {
         let mut named = NamedText {
             name: Remembered::nothing(),

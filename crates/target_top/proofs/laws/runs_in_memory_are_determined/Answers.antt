@@ -1,0 +1,8 @@
+use Rattle.target_top.proofs.RunLaws.{whole_answered, same_written}
+use Rattle.target_top.proofs.laws.runs_in_memory_are_determined.Goals as goal
+
+pub returns-clause-whole : goal.returns-clause-whole
+returns-clause-whole c = whole_answered
+
+pub returns-clause-same : goal.returns-clause-same
+returns-clause-same c = same_written

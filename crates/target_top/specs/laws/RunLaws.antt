@@ -1,0 +1,90 @@
+-- What follows of runs in which nothing fails: each ends as its command says, unless memory is wanting.
+use Rattle.std.specs.Prelude.{◌≡◌, ℕ, List, ◌⊎◌, Bool, Some, Result, Ok, Err}
+use Rattle.edge_traits.specs.Input.{ReadsToLimit}
+use Rattle.edge_traits.specs.Output.{Output, Wrote}
+use Rattle.base_kinds.specs.declared.entry.Limits.{Limits}
+use Rattle.base_kinds.specs.Limits.{most_script_octets}
+use Rattle.base_kinds.specs.Schema.{SchemaNode}
+use Rattle.schema_text.specs.declared.cause.SchemaFault.{SchemaFault}
+use Rattle.schema_text.specs.Schemas.{schema_of}
+use Rattle.script_run.specs.Scripts.{RunsScript}
+use Rattle.target_top.specs.declared.ending.Ending.TheVariants.{Done, NoMemory, NoSchema}
+use Rattle.target_top.specs.Ending.{exit_status}
+use Rattle.target_top.specs.Environment.{Environment, GaveText}
+use Rattle.target_top.specs.CheckRun.{count_line}
+use Rattle.target_top.specs.Commands.{IsCheck, IsScript}
+use Rattle.target_top.specs.Run.{Run}
+use Rattle.target_top.specs.SchemaFile.{fault_line}
+use Rattle.target_top.specs.ScriptRun.{script_ending}
+
+-- no object failed in the run
+pub record NothingFailed (before after : Environment) : Type 0 where
+  pub files : after.files.faults ≡ before.files.faults
+  pub input : after.input.faults ≡ before.input.faults
+  pub output : after.output.faults ≡ before.output.faults
+
+-- the text was written, all of it and nothing else, and this is the status
+abbrev pub WroteAndEnded : List ℕ → ℕ → Output → Output → ℕ → Type 0
+WroteAndEnded text good old new status = Wrote text old new × (status ≡ good)
+
+-- what a check writes by a text read as a schema
+abbrev pub CheckedAs : Result (List SchemaNode) SchemaFault → Output → Output → ℕ → Type 0
+CheckedAs (Ok schema) old new status =
+    WroteAndEnded (count_line schema) (exit_status Done) old new status
+CheckedAs (Err fault) old new status =
+    WroteAndEnded (fault_line fault) (exit_status NoSchema) old new status
+
+-- a check in which nothing fails writes the line of the file's text, unless memory is wanting
+abbrev pub CompletesChecks : Type 0
+CompletesChecks =
+    (words : List (List ℕ)) (name : List ℕ) (before after : Environment) (status : ℕ) →
+    IsCheck words name → Run words before after status → NothingFailed before after →
+    (status ≡ exit_status NoMemory)
+    ⊎ ((text : List ℕ) × GaveText name text before.files after.files
+    × CheckedAs (schema_of text) before.output after.output status)
+
+-- the answers to this script were written, all of them and nothing else, and the run ended so
+pub record WroteAnswers
+    (schema : List SchemaNode) (limits : Limits) (script : List ℕ) (old new : Output)
+    (status : ℕ) : Type 0 where
+  pub answers : List ℕ
+  pub is_whole : Bool
+  pub runs : RunsScript schema limits script answers (exit_status (script_ending is_whole))
+  pub written : WroteAndEnded answers (exit_status (script_ending is_whole)) old new status
+
+-- what a script's run does by a text read as a schema
+abbrev pub RanAs : Result (List SchemaNode) SchemaFault → Limits → Environment → Environment → ℕ →
+    Type 0
+RanAs (Ok schema) limits before after status =
+    (script : List ℕ) × ReadsToLimit most_script_octets script before.input after.input
+    × WroteAnswers schema limits script before.output after.output status
+RanAs (Err fault) limits before after status =
+    WroteAndEnded (fault_line fault) (exit_status NoSchema) before.output after.output status
+
+-- a script's run in which nothing fails reads the input and writes its answers, unless memory is wanting
+abbrev pub CompletesScripts : Type 0
+CompletesScripts =
+    (words : List (List ℕ)) (name : List ℕ) (limits : Limits) (before after : Environment)
+    (status : ℕ) →
+    IsScript words name limits → Run words before after status → NothingFailed before after →
+    (status ≡ exit_status NoMemory)
+    ⊎ ((text : List ℕ) × GaveText name text before.files after.files
+    × RanAs (schema_of text) limits before after status)
+
+-- of an input that tells what is left the whole is answered: what is not read changes nothing
+abbrev pub AnswersWhole : Type 0
+AnswersWhole =
+    (schema : List SchemaNode) (limits : Limits) (script all : List ℕ)
+    (before after : Environment) (status : ℕ) →
+    ReadsToLimit most_script_octets script before.input after.input → before.input.left ≡ Some all →
+    WroteAnswers schema limits script before.output after.output status →
+    WroteAnswers schema limits all before.output after.output status
+
+-- two runs under one schema and limits that answer one script write the same, and end with one status
+abbrev pub WritesTheSame : Type 0
+WritesTheSame =
+    (schema : List SchemaNode) (limits : Limits) (script : List ℕ) (a b c d : Output)
+    (status other : ℕ) →
+    (first : WroteAnswers schema limits script a b status) →
+    (second : WroteAnswers schema limits script c d other) →
+    (first.answers ≡ second.answers) × (status ≡ other)
