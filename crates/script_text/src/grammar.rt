@@ -29,7 +29,8 @@ fn read_delete(alloc: Global, octets: &[u8]) -> Result<Line, LineFault>
 /// `PATH VALUE`, what follows `replace` and `update`.
 fn read_change(alloc: Global, act: Act, octets: &[u8]) -> Result<Line, LineFault>
     ensures ok { IfOk result (λ line. IsChange act octets.now line) }
-    ensures no_line { IsErrOf result LineFault.NoLine → (line : ScriptLine) → IsChange act octets.now line → ⊥ }
+    ensures no_line { IsErrOf result LineFault.NoLine → (line : ScriptLine) →
+        IsChange act octets.now line → ⊥ }
 {
     let (path, rest) = first::<PathText>(alloc, octets)?;
     let mut value = Bytes::empty(alloc);
@@ -150,7 +151,8 @@ fn read_stop(alloc: Global, octets: &[u8]) -> Result<Line, LineFault>
 /// What follows the keyword.
 fn read_said(alloc: Global, keyword: Keyword, octets: &[u8]) -> Result<Line, LineFault>
     ensures ok { IfOk result (λ line. Says keyword octets.now line) }
-    ensures no_line { IsErrOf result LineFault.NoLine → (line : ScriptLine) → Says keyword octets.now line → ⊥ }
+    ensures no_line { IsErrOf result LineFault.NoLine → (line : ScriptLine) →
+        Says keyword octets.now line → ⊥ }
 {
     match keyword {
         Keyword::At => Ok(Line::At(Number::read(alloc, octets)?)),
@@ -191,7 +193,8 @@ const LONGEST_LINE: usize = 1_048_576;
 /// The line that the octets are, without a line feed.
 pub fn read_line(alloc: Global, octets: &[u8]) -> Result<Line, LineFault>
     ensures ok { IfOk result (λ line. IsLine octets.now line) }
-    ensures no_line { IsErrOf result LineFault.NoLine → (line : ScriptLine) → IsLine octets.now line → ⊥ }
+    ensures no_line { IsErrOf result LineFault.NoLine → (line : ScriptLine) →
+        IsLine octets.now line → ⊥ }
 {
     if octets.len() > LONGEST_LINE {
         return Err(LineFault::NoLine);

@@ -18,7 +18,8 @@ pub(crate) trait Word {
 
     fn read(alloc: Global, octets: &[u8]) -> Result<Self::Value, LineFault>
         ensures ok { IfOk result (λ value. spells octets.now value) }
-        ensures no_line { IsErrOf result LineFault.NoLine → (value : Self.Value) → spells octets.now value → ⊥ };
+        ensures no_line { IsErrOf result LineFault.NoLine → (value : Self.Value) →
+            spells octets.now value → ⊥ };
 }
 
 /// A number of 64 bits.
