@@ -9,7 +9,8 @@ use value_core::value_text;
 
 /// Adds a line for each row: this front, the row's path, a space and its value. Without memory nothing is added.
 pub fn put_rows(alloc: Global, front: &[u8], rows: &[Row], out: &mut Bytes) -> Result<(), NoMemory>
-    ensures ok { OnOk result (out.new ≡ out.old ++ flat_map (λ row. front.now ++ row_text row) rows.now) }
+    ensures ok { OnOk result (out.new ≡ out.old ++ flat_map
+        (λ row. front.now ++ row_text row) rows.now) }
     ensures err { OnErr result (out.new ≡ out.old) }
 {
     let mut text = Bytes::empty(alloc);
@@ -23,7 +24,8 @@ pub(crate) fn append_rows(
     rows: &[Row],
     out: &mut Bytes,
 ) -> Result<(), NoMemory>
-    ensures { OnOk result (out.new ≡ out.old ++ flat_map (λ row. front.now ++ row_text row) rows.now) }
+    ensures { OnOk result (out.new ≡ out.old ++ flat_map
+        (λ row. front.now ++ row_text row) rows.now) }
 {
     for row in rows {
         out.extend_from_slice(front)?;
