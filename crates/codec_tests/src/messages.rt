@@ -1,14 +1,11 @@
 //! Messages of protocol buffers: what an independent library wrote or refuses, limits of varints and tags, values of
 //! repeated fields, oneofs and map entries, and what is written.
-ghost use Rattle.pb_wire.specs.Message.{AreWithin};
-
 use base_lists::{Bytes, Seq};
 use pb_wire::{
-    Body, Field, Fields, WireFault, entry_of, fields_of, joined, last_octets, last_varint,
-    next_field, one_of, put_octets, put_varint, varint_of,
+    Body, Field, WireFault, entry_of, fields_of, joined, last_octets, last_varint, next_field,
+    one_of, put_octets, put_varint, varint_of,
 };
 use std::alloc::Global;
-use std::process::Abort;
 use std::test::*;
 
 /// Messages of an independent library's vectors, which it reads.
@@ -98,12 +95,6 @@ const REFUSED: [&[u8]; 19] = [
     b"\x1a",
     b"\x12\x22\x12\x1e\x0a\x03\x6f\x6c\x64\x12\x03\x63\x6c\x69\x1a",
 ];
-
-fn read(rt: &impl Abort, alloc: Global, octets: &[u8]) -> Fields
-    ensures { AreWithin octets.now result }
-{
-    fields_of(alloc, octets).expect(rt, "a message")
-}
 
 fn is_bad(alloc: Global, octets: &[u8]) -> bool {
     matches!(fields_of(alloc, octets), Err(WireFault::BadMessage))
@@ -251,22 +242,26 @@ const TEXTS: &[u8] = b"\x0a\x01a\x12\x01b\x0a\x01c\x08\x05";
 
 #[test]
 fn the_last_text_wins_and_a_varint_is_none(rt: HostRuntime) {
-    let fields = read(&rt, rt.alloc(), TEXTS);
-    assert_eq!(rt;
-        last_octets(TEXTS, fields.items(), 1),
-        Some(b"c".as_slice())
-    );
-    assert_eq!(rt;
-        last_octets(TEXTS, fields.items(), 2),
-        Some(b"b".as_slice())
-    );
-    assert_eq!(rt; last_octets(TEXTS, fields.items(), 3), None);
+    let texts = TEXTS;
+    match fields_of(rt.alloc(), texts) {
+        Ok(fields) => {
+            assert_eq!(rt;
+                last_octets(texts, fields.items(), 1),
+                Some(b"c".as_slice())
+            );
+            assert_eq!(rt;
+                last_octets(texts, fields.items(), 2),
+                Some(b"b".as_slice())
+            );
+            assert_eq!(rt; last_octets(texts, fields.items(), 3), None);
+        }
+        Err(_) => panic!(rt; "the texts are read"),
+    }
 }
 
 // protobuf.dev, "Encoding", "Oneofs": the last member that was written is what a oneof holds.
 #[test]
 fn a_oneof_holds_the_run_of_its_last_member(rt: HostRuntime) {
-    let fields = read(&rt, rt.alloc(), TEXTS);
     let cases: [(&[(u32, u8)], usize); 4] = [
         (&[(1, 2), (2, 2)], 2),
         (&[(1, 2)], 4),
@@ -274,7 +269,10 @@ fn a_oneof_holds_the_run_of_its_last_member(rt: HostRuntime) {
         (&[(9, 2)], 4),
     ];
     for (members, count) in cases {
-        assert_eq!(rt; one_of(fields.items(), members).len(), count, "{members:?}");
+        match fields_of(rt.alloc(), TEXTS) {
+            Ok(fields) => assert_eq!(rt; one_of(fields.items(), members).len(), count),
+            Err(_) => panic!(rt; "the texts are read"),
+        }
     }
 }
 
@@ -287,19 +285,35 @@ fn an_entry_without_its_key_or_value_has_an_empty_one(rt: HostRuntime) {
         (b"", b"", b""),
     ];
     for (entry, key, value) in cases {
-        let fields = read(&rt, rt.alloc(), entry);
-        assert_eq!(rt; entry_of(entry, fields.items()), (key, value));
+        match fields_of(rt.alloc(), entry) {
+            Ok(fields) => {
+                let (found_key, found_value) = entry_of(entry, fields.items());
+                assert_eq!(rt; found_key, key);
+                assert_eq!(rt; found_value, value);
+            }
+            Err(_) => panic!(rt; "an entry is read"),
+        }
     }
 }
 
 #[test]
 fn fields_are_read_one_at_a_time(rt: HostRuntime) {
-    let places = [0, 3, 12, 18, 27];
-    assert_eq!(rt; MESSAGE.len(), 27);
-    for (at, place) in places.iter().enumerate() {
-        let next = next_field(MESSAGE, *place).map(|(_, next)| next);
-        assert_eq!(rt; next, places.get(at + 1).copied(), "{place}");
+    let cases: [(usize, usize); 4] = [(0, 3), (3, 12), (12, 18), (18, 27)];
+    for (place, end) in cases {
+        if place > MESSAGE.len() {
+            panic!(rt; "a place past the end");
+        }
+        match next_field(MESSAGE, place) {
+            Some((_, next)) => assert_eq!(rt; next, end),
+            None => panic!(rt; "a field is read"),
+        }
     }
-    // 96 01 is 150, whose lowest three bits are no wire type
-    assert!(rt; next_field(MESSAGE, 1).is_none());
+    // no field at the end; and 96 01 is 150, whose lowest three bits are no wire type
+    let ends: [usize; 2] = [27, 1];
+    for place in ends {
+        if place > MESSAGE.len() {
+            panic!(rt; "a place past the end");
+        }
+        assert!(rt; next_field(MESSAGE, place).is_none());
+    }
 }
