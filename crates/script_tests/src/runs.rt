@@ -257,6 +257,11 @@ const BAD_WORDS: &[&str] = &[
     "check",
     "check a b",
     "checks a",
+    "--help S",
+    "--version 1",
+    "-help",
+    "help",
+    "--Version",
 ];
 
 #[test]
@@ -343,4 +348,41 @@ fn an_output_that_fails_ends_with_7(rt: HostRuntime) -> Result<(), Fail> {
         assert_eq!(rt; ended, 7, "write {front}");
     }
     Ok(())
+}
+
+#[test]
+fn an_input_that_gives_octets_and_then_fails_is_told_as_such(rt: HostRuntime) -> Result<(), Fail> {
+    let alloc = rt.alloc();
+    // A whole Set is read before the read that fails, and isn't answered.
+    let (ended, output) = drip_over(&rt, alloc, b"set 1\nset 1\n", &[7], &[]);
+    assert_eq!(rt; output.octets(), b"input fault\n".as_slice());
+    assert_eq!(rt; ended, 6);
+    Ok(())
+}
+
+const HELP: &str =
+    "check SCHEMA: print how many nodes the schema in the file SCHEMA has, or its first fault\nscript SCHEMA: run the script on standard input under the schema, and print its answers and its log\nscript SCHEMA ENTRIES OCTETS: the same, with a log of at most ENTRIES entries and OCTETS octets\n--help: print these lines\n--version: print the name and the version of the program\n";
+
+#[test]
+fn help_and_version_are_printed_and_nothing_is_read(rt: HostRuntime) {
+    let alloc = rt.alloc();
+    for (words, printed) in [("--help", HELP), ("--version", "gnmid 0.1.0\n")] {
+        let (ended, output, texts, reads) = fails_over(&rt, alloc, words, None, &[]);
+        assert_eq!(rt; output.octets(), printed.as_bytes(), "{words}");
+        assert_eq!(rt; (ended, texts, reads), (0, 0, 0), "{words}");
+        let (ended, output, texts, reads) = fails_over(&rt, alloc, words, None, &[1]);
+        assert_eq!(rt; output.octets(), b"".as_slice(), "{words}");
+        assert_eq!(rt; (ended, texts, reads), (7, 0, 0), "{words}");
+    }
+}
+
+#[test]
+fn a_file_is_asked_for_by_its_name(rt: HostRuntime) {
+    let alloc = rt.alloc();
+    for words in ["check T", "script T", "check s"] {
+        let schema = Some(SCHEMA.as_bytes());
+        let (ended, output, texts, reads) = fails_over(&rt, alloc, words, schema, &[]);
+        assert_eq!(rt; output.octets(), b"input fault\n".as_slice(), "{words}");
+        assert_eq!(rt; (ended, texts, reads), (6, 1, 0), "{words}");
+    }
 }
