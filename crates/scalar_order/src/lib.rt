@@ -7,8 +7,6 @@
 
 mod distinct;
 mod scalar;
-#[cfg(test)]
-mod tests;
 
 pub use distinct::{all_differ, same_scalar};
 pub use scalar::{Scalar, scalar_of};

@@ -4,6 +4,10 @@
 #[cfg(test)]
 mod paths;
 #[cfg(test)]
+mod scalars;
+#[cfg(test)]
 mod schema_texts;
 #[cfg(test)]
 mod schemas;
+#[cfg(test)]
+mod values;

@@ -14,8 +14,6 @@ mod laws;
 mod numbers;
 mod quotes;
 mod shapes;
-#[cfg(test)]
-mod tests;
 mod value_texts;
 mod written;
 

@@ -1,5 +1,5 @@
-use crate::{all_differ, same_scalar, scalar_of};
 use base_kinds::{Bytes, Text, Value, Values};
+use scalar_order::{all_differ, same_scalar, scalar_of};
 use std::alloc::Global;
 use std::process::Abort;
 use std::test::Fail;

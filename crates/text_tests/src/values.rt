@@ -1,10 +1,11 @@
-use crate::{
-    ValueFault, check_value, decimals_read_back, key_text, one_decimal, one_value_a_key,
-    read_base64, read_decimal, read_integer, read_key, read_natural, value_text,
-};
 use base_kinds::{Same, Seq, Shape, Text, Texts, Value};
 use std::alloc::Global;
 use std::test::Fail;
+use value_core::{
+    ValueFault, check_value, decimals_read_back, functions_give_what_is_spelled, key_text,
+    one_decimal, one_value_a_key, read_base64, read_decimal, read_integer, read_key, read_natural,
+    value_text,
+};
 
 fn text_of(alloc: Global, text: &str) -> Result<Text, Fail> {
     Ok(Text::of(alloc, text.as_bytes())?)
@@ -219,4 +220,5 @@ fn laws_hold_of_every_text() {
     one_value_a_key();
     one_decimal();
     decimals_read_back();
+    functions_give_what_is_spelled();
 }
