@@ -2,7 +2,7 @@
 use Rattle.std.proofs.Common.{◌≡◌, ℕ, ◌+◌, ◌-◌, ◌<◌, ◌≤◌, List, [], ◌∷◌, ◌++◌, Bool, true, false, eqb, length, take, get_or, refl, sym, ap, ◌∙◌, subst, arith, if◌then◌else◌}
 use Rattle.std.proofs.lemmas.Bool.Decides.{Decides-eqb}
 use Rattle.std.proofs.lemmas.List.{take_more, length-take}
-use Rattle.script_run.specs.Scripts.{before_feed, to_last_feed}
+use Rattle.script_run.specs.ScriptOctets.{before_feed, to_last_feed}
 
 pub feed_last : (text : List ℕ) → to_last_feed (text ++ 10 ∷ []) ≡ text ++ 10 ∷ []
 feed_last [] = refl

@@ -2,6 +2,5 @@ pub mod Authors
 pub mod LastFeeds
 pub mod Pieces
 pub mod PlainHistories
-pub mod ReadAnswers
+pub mod Runs
 pub mod ScriptLaws
-pub mod Transcripts

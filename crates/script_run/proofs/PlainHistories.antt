@@ -1,5 +1,7 @@
 -- Histories of plain Sets.
-use Rattle.std.proofs.Common.{◌≡◌, ℕ, List, [], ◌∷◌, ◌++◌, Bool, true, false, None, Result, Ok, Err, refl, sym, ap, ◌∙◌, subst, if◌then◌else◌}
+use Rattle.std.proofs.Common.{◌≡◌, ℕ, List, [], ◌∷◌, ◌++◌, Bool, true, false, None, Result, Ok, Err, refl, sym, ap, ◌∙◌, subst, if◌then◌else◌, ◌||◌, ◌<◌, nat_lt, length, arith}
+use Rattle.std.specs.List.{list_any}
+use Rattle.std.proofs.lemmas.Bool.Decides.{nat_tests}
 use Rattle.base_kinds.specs.declared.operation.Op.{Op}
 use Rattle.base_kinds.specs.declared.entry.Entry.{Entry}
 use Rattle.base_kinds.specs.declared.entry.Kind.{Kind}
@@ -7,8 +9,12 @@ use Rattle.base_kinds.specs.declared.entry.Kind.TheVariants as kinds
 use Rattle.base_kinds.specs.declared.entry.Ask.{Ask}
 use Rattle.base_kinds.specs.declared.entry.Ask.TheVariants as asks
 use Rattle.base_kinds.specs.declared.refusal.Refusal.{Refusal}
-use Rattle.base_kinds.specs.declared.refusal.Refusal.TheVariants.{BadPath}
-use Rattle.base_kinds.specs.History.{World, world_after, world_from, world_of, empty_world}
+use Rattle.base_kinds.specs.declared.refusal.Refusal.TheVariants.{BadPath, NotFound}
+use Rattle.base_kinds.specs.declared.entry.View.{View}
+use Rattle.base_kinds.specs.declared.operation.Row.{Row}
+use Rattle.base_kinds.specs.Events.{is_long, view_or_not_found, get_answer, history_after_get}
+use Rattle.base_kinds.specs.History.{World, world_after, world_from, world_of, stamp_of, empty_world}
+use Rattle.base_kinds.specs.Parts.{part}
 use Rattle.base_kinds.specs.Step.{step, judge, Rules, after_expiry, first_refusal, refusal_cases, is_past, time_at, next_entry, new_stamp, kind_of_ask, with_answer}
 use Rattle.base_kinds.specs.declared.path.Elem.{Elem}
 use Rattle.base_kinds.specs.Schema.{SchemaNode}
@@ -17,9 +23,8 @@ use Rattle.set_txn.specs.Operations.{ops_of_request}
 use Rattle.set_txn.specs.Resolution.{resolved}
 use Rattle.base_lists.specs.Results.{and_then}
 use Rattle.script_run.specs.declared.pending.Pending.{Pending}
-use Rattle.script_run.specs.PlainSets.{IsApply, IsPlain, AreApplies}
+use Rattle.script_run.specs.inner.PlainSets.{IsApply, IsPlain, AreApplies}
 use Rattle.script_run.specs.Requests.{set_ask}
-use Rattle.script_run.specs.Scripts.{ScriptState, history_read, is_long, seen, looked}
 
 no_trial_after : (kind : Kind) (world : World) → IsApply kind → (world_after kind world).trial ≡ None
 no_trial_after (kinds.Apply ops) world applies = refl
@@ -45,15 +50,41 @@ pub step_quiet : (rules : Rules) (entries : List Entry) (now author : ℕ) (ask 
 step_quiet rules entries now author ask applies = ap (λ h. judge rules h now author ask) (sym (clock_quiet entries now applies))
 
 -- and a read leaves the history as it is
-pub read_quiet : (state : ScriptState) (pattern : List Elem) → AreApplies state.history → history_read state pattern ≡ state.history
-read_quiet state pattern applies = by (is_long pattern)
+pub get_quiet : (entries : List Entry) (now : ℕ) (patterns : List (List Elem)) → AreApplies entries → entries ≡ history_after_get entries now patterns
+get_quiet entries now patterns applies = by (list_any is_long patterns)
   where
-    by : (b : Bool) → (if b then state.history else after_expiry state.history state.reading) ≡ state.history
+    by : (long : Bool) → entries ≡ (if long then entries else after_expiry entries now)
     by true = refl
-    by false = clock_quiet state.history state.reading applies
+    by false = sym (clock_quiet entries now applies)
 
-pub look_quiet : (state : ScriptState) (pattern : List Elem) → AreApplies state.history → (if is_long pattern then Err BadPath else seen state.history pattern) ≡ looked state pattern
-look_quiet state pattern applies = ap (λ h. if is_long pattern then Err BadPath else seen h pattern) (sym (clock_quiet state.history state.reading applies))
+-- ---- what a read of one pattern answers
+
+abbrev answer_by_length : List Entry → List Elem → Bool → Result View Refusal
+answer_by_length h pattern long = if long || false then Err BadPath else view_or_not_found h (pattern ∷ [])
+
+short_answer : (entries : List Entry) (now : ℕ) (pattern : List Elem) → is_long pattern ≡ false → AreApplies entries → view_or_not_found entries (pattern ∷ []) ≡ get_answer entries now (pattern ∷ [])
+short_answer entries now pattern is applies =
+    ap (λ h. view_or_not_found h (pattern ∷ [])) (sym (clock_quiet entries now applies)) ∙ ap (answer_by_length (after_expiry entries now) pattern) (sym is)
+
+abbrev answer_of_rows : List Entry → List Row → Result View Refusal
+answer_of_rows entries rows = if nat_lt (length rows) 1 || false then Err NotFound else Ok (record { stamp = stamp_of entries; rows = rows })
+
+pub nonempty : (rows : List Row) → (rows ≡ [] → ⊥) → 0 < length rows
+nonempty [] none = absurd (none refl)
+nonempty (row ∷ rows) none = omega arith
+
+pub answer_of_none : (entries : List Entry) (now : ℕ) (pattern : List Elem) (view : View) → is_long pattern ≡ false → AreApplies entries → view.rows ≡ part (pattern ∷ []) (world_of entries).tree → length view.rows ≡ 0 → Err NotFound ≡ get_answer entries now (pattern ∷ [])
+answer_of_none entries now pattern view is applies rows none =
+    let empty : nat_lt (length view.rows) 1 ≡ true = ap (λ n. nat_lt n 1) none in
+    ap (λ (b : Bool). if b || false then Err NotFound else Ok (record { stamp = stamp_of entries; rows = view.rows })) (sym empty)
+    ∙ ap (answer_of_rows entries) rows ∙ short_answer entries now pattern is applies
+
+pub answer_of_some : (entries : List Entry) (now : ℕ) (pattern : List Elem) (view : View) → is_long pattern ≡ false → AreApplies entries → view.stamp ≡ stamp_of entries → view.rows ≡ part (pattern ∷ []) (world_of entries).tree → 0 < length view.rows → Ok view ≡ get_answer entries now (pattern ∷ [])
+answer_of_some entries now pattern view is applies stamp rows some =
+    let full : nat_lt (length view.rows) 1 ≡ false = grind (arith, nat_tests, some) in
+    ap (λ (s : ℕ). Ok (record { stamp = s; rows = view.rows })) stamp
+    ∙ ap (λ (b : Bool). if b || false then Err NotFound else Ok (record { stamp = stamp_of entries; rows = view.rows })) (sym full)
+    ∙ ap (answer_of_rows entries) rows ∙ short_answer entries now pattern is applies
 
 -- where no case holds, the entry comes
 pub first_refusal-ok : (cases : List (Bool × Refusal)) (entry result : Entry) → first_refusal cases entry ≡ Ok result → entry ≡ result

@@ -1,112 +1,125 @@
 -- What holds of every script.
-use Rattle.std.proofs.Common.{◌≡◌, ℕ, ◌+◌, List, [], ◌∷◌, ◌++◌, Bool, true, false, length, Result, Ok, Err, refl, sym, ap, ◌∙◌, subst, inl, inr, arith}
+use Rattle.std.proofs.Common.{◌≡◌, ℕ, ◌+◌, ◌<◌, ◌≤◌, List, [], ◌∷◌, ◌++◌, Bool, true, false, Option, Some, None, Result, Ok, Err, refl, sym, ap, ◌∙◌, subst, inl, inr, arith}
 use Rattle.base_kinds.specs.declared.entry.Ask.{Ask}
 use Rattle.base_kinds.specs.declared.entry.Entry.{Entry}
 use Rattle.base_kinds.specs.declared.entry.Limits.{Limits}
 use Rattle.base_kinds.specs.declared.refusal.Refusal.{Refusal}
-use Rattle.base_kinds.specs.History.{IsHistory}
+use Rattle.base_kinds.specs.declared.request.SetAsk.{SetAsk}
+use Rattle.base_kinds.specs.Bases.{HasSoundTrees}
+use Rattle.base_kinds.specs.Events.{Event, set_answer, history_after_set, history_after_all}
+use Rattle.base_kinds.specs.History.{IsHistory, world_of}
+use Rattle.base_kinds.specs.Legal.{IsLegal}
 use Rattle.base_kinds.specs.Rules.{rules_of}
 use Rattle.base_kinds.specs.Schema.{SchemaNode}
-use Rattle.base_kinds.specs.Step.{Rules, step, judge, after_expiry, new_stamp, with_answer}
-use Rattle.history_laws.proofs.States.{history_after_one}
+use Rattle.base_kinds.specs.Step.{Rules, step, after_expiry, with_answer}
+use Rattle.history_laws.specs.LegalLaws.{AsksFit, IsFitEvent, AreFitEvents}
+use Rattle.history_laws.proofs.Judged.{events_keep_history}
+use Rattle.history_laws.proofs.Given.{base_is_legal, events_are_legal}
+use Rattle.history_laws.proofs.SoundTrees.{no_rows_are_sound, legal_trees_are_sound}
+use Rattle.set_txn.specs.Resolution.{resolved}
 use Rattle.script_text.specs.declared.line.Line.{Line}
 use Rattle.script_text.specs.declared.line.Line.TheVariants as lines
 use Rattle.script_text.specs.Lines.{lines_of}
 use Rattle.script_text.proofs.Meanings.{one_meaning}
-use Rattle.script_run.specs.PlainSets.{AreApplies, IsPlain}
-use Rattle.script_run.specs.Scripts.{ScriptState, fresh, answered, history_answered, asked, judged, state_after, answer, Ends, Prints, is_too_long, within_limit, RunsScript}
-use Rattle.script_run.specs.Laws.{state_behind}
-use Rattle.script_run.proofs.PlainHistories.{clock_quiet, judged_next, read_quiet, set_applies, step_quiet, asks_plainly}
+use Rattle.script_run.specs.Requests.{set_ask}
+use Rattle.script_run.specs.ScriptOctets.{is_too_long, within_limit}
+use Rattle.script_run.specs.ScriptStates.{ScriptState, fresh, rules_in, CountsAuthor, line_event, history_behind, state_after}
+use Rattle.script_run.specs.AnswerLines.{line_text}
+use Rattle.script_run.specs.Scripts.{Ends, Prints, RunsScript}
+use Rattle.script_run.specs.laws.ScriptLaws.{state_behind, with_event, script_events, HaveAuthors}
+use Rattle.set_txn.proofs.FitAsks.{resolved_is_fit}
 
--- ---- histories
+-- ---- events
 
-record HoldsOf (entries : List Entry) : Type 0 where
-  applies : AreApplies entries
-  history : IsHistory entries
+one_event : (rules : Rules) (h : List Entry) (event : Option Event) (events : List Event) → history_after_all rules (history_behind rules h event) events ≡ history_after_all rules h (with_event event events)
+one_event rules h None events = refl
+one_event rules h (Some event) events = refl
 
-after_answer : (rules : Rules) (reading author : ℕ) (ask : Ask) (history : List Entry) → IsPlain ask → HoldsOf history → (answer : Result Entry Refusal) → judge rules history reading author ask ≡ answer → HoldsOf (with_answer history answer)
-after_answer rules reading author ask history plain holds (Ok entry) judged =
-    let made = judged_next rules history reading author ask entry judged in
-    let number : length history + 1 ≡ entry.number = ap (λ (e : Entry). e.number) made in
-    let stamp : new_stamp history reading ≡ entry.stamp = ap (λ (e : Entry). e.stamp) made in
-    record {
-      applies = set_applies rules history reading author ask entry holds.applies plain judged;
-      history = history_after_one history entry holds.history (sym number) (omega (arith, stamp));
-    }
-after_answer rules reading author ask history plain holds (Err refusal) judged = holds
-
-after_ask : (rules : Rules) (reading author : ℕ) (ask : Ask) (history : List Entry) → IsPlain ask → HoldsOf history → HoldsOf (with_answer (after_expiry history reading) (step rules history reading author ask))
-after_ask rules reading author ask history plain holds =
-    let quiet = clock_quiet history reading holds.applies in
-    let same = step_quiet rules history reading author ask holds.applies in
-    let next = after_answer rules reading author ask history plain holds (judge rules history reading author ask) refl in
-    let stepped = subst (λ (a : Result Entry Refusal). HoldsOf (with_answer history a)) same next in
-    subst (λ (h : List Entry). HoldsOf (with_answer h (step rules history reading author ask))) (sym quiet) stepped
-
-after_request : (rules : Rules) (reading author : ℕ) (history : List Entry) → HoldsOf history → (asked : Result Ask Refusal) → ((ask : Ask) → asked ≡ Ok ask → IsPlain ask) → HoldsOf (history_answered rules history reading author asked)
-after_request rules reading author history holds (Ok ask) plain = after_ask rules reading author ask history (plain ask refl) holds
-after_request rules reading author history holds (Err refusal) plain = holds
-
-holds_after : (line : Line) (state : ScriptState) → HoldsOf state.history → HoldsOf (state_after line state).history
-holds_after (lines.Set author) state holds =
-    after_request (rules_of state.schema state.limits) state.reading author state.history holds (asked state) (λ ask is. asks_plainly state.schema state.pending ask is)
-holds_after (lines.Get author pattern) state holds = subst HoldsOf (sym (read_quiet state pattern holds.applies)) holds
-holds_after (lines.At reading) state holds = holds
-holds_after (lines.Add act path value) state holds = holds
-holds_after (lines.Trial author id span) state holds = holds
-holds_after (lines.Confirm author id) state holds = holds
-holds_after (lines.Cancel author id) state holds = holds
-holds_after (lines.Extend author id span) state holds = holds
-holds_after (lines.Sub line) state holds = holds
-holds_after (lines.Open author name mode only) state holds = holds
-holds_after (lines.Turn name) state holds = holds
-holds_after (lines.Poll name) state holds = holds
-holds_after (lines.End name) state holds = holds
-holds_after (lines.Stop calls fill) state holds = holds
-holds_after (lines.Fail calls) state holds = holds
-
-holds_behind : (ls : List Line) (state : ScriptState) → HoldsOf state.history → HoldsOf (state_behind ls state).history
-holds_behind [] state holds = holds
-holds_behind (line ∷ ls) state holds = holds_behind ls (state_after line state) (holds_after line state holds)
+pub makes_events : (ls : List Line) (state : ScriptState) → (state_behind ls state).history ≡ history_after_all (rules_in state) state.history (script_events ls state)
+makes_events [] state = refl
+makes_events (line ∷ ls) state =
+    makes_events ls (state_after line state) ∙ one_event (rules_in state) state.history (line_event line state) (script_events ls (state_after line state))
 
 pub makes_histories : (schema : List SchemaNode) (limits : Limits) (ls : List Line) → IsHistory (state_behind ls (fresh schema limits)).history
-makes_histories schema limits ls = (holds_behind ls (fresh schema limits) (record { applies = tt; history = tt })).history
+makes_histories schema limits ls =
+    subst IsHistory (sym (makes_events ls (fresh schema limits))) (events_keep_history (rules_of schema limits) [] (script_events ls (fresh schema limits)) tt)
+
+-- ---- legal histories
+
+asks_fit : (schema : List SchemaNode) (ask : SetAsk) (request : Result Ask Refusal) → resolved schema ask ≡ request → AsksFit request
+asks_fit schema ask (Ok it) is = resolved_is_fit schema ask it is
+asks_fit schema ask (Err refusal) is = tt
+
+abbrev IsFitIfAny : Option Event → Type 0
+IsFitIfAny None = Unit {0}
+IsFitIfAny (Some event) = IsFitEvent event
+
+event_fits : (line : Line) (state : ScriptState) → CountsAuthor line → IsFitIfAny (line_event line state)
+event_fits (lines.Set author) state counts =
+    record { author = omega (arith, counts); request_fits = asks_fit state.schema (set_ask state.pending) (resolved state.schema (set_ask state.pending)) refl }
+event_fits (lines.Get author pattern) state counts = record { author = omega (arith, counts); request_fits = tt }
+event_fits (lines.At reading) state counts = tt
+event_fits (lines.Add act path value) state counts = tt
+event_fits (lines.Trial author id span) state counts = tt
+event_fits (lines.Confirm author id) state counts = tt
+event_fits (lines.Cancel author id) state counts = tt
+event_fits (lines.Extend author id span) state counts = tt
+event_fits (lines.Sub line) state counts = tt
+event_fits (lines.Open author name mode only) state counts = tt
+event_fits (lines.Turn name) state counts = tt
+event_fits (lines.Poll name) state counts = tt
+event_fits (lines.End name) state counts = tt
+event_fits (lines.Stop calls fill) state counts = tt
+event_fits (lines.Fail calls) state counts = tt
+
+with_fit : (event : Option Event) (events : List Event) → IsFitIfAny event → AreFitEvents events → AreFitEvents (with_event event events)
+with_fit None events fit others = others
+with_fit (Some event) events fit others = (fit, others)
+
+events_fit : (ls : List Line) (state : ScriptState) → HaveAuthors ls → AreFitEvents (script_events ls state)
+events_fit [] state have = tt
+events_fit (line ∷ ls) state have =
+    with_fit (line_event line state) (script_events ls (state_after line state)) (event_fits line state have.0) (events_fit ls (state_after line state) have.1)
+
+pub makes_legal_histories : (schema : List SchemaNode) (limits : Limits) (ls : List Line) → HaveAuthors ls → IsLegal (rules_of schema limits) [] (state_behind ls (fresh schema limits)).history
+makes_legal_histories schema limits ls have =
+    let rules = rules_of schema limits in
+    let events = script_events ls (fresh schema limits) in
+    subst (IsLegal rules []) (sym (makes_events ls (fresh schema limits))) (events_are_legal rules [] [] events tt (events_fit ls (fresh schema limits) have) (base_is_legal rules []))
+
+pub makes_sound_trees : (schema : List SchemaNode) (limits : Limits) (ls : List Line) → HaveAuthors ls → HasSoundTrees schema (world_of (state_behind ls (fresh schema limits)).history)
+makes_sound_trees schema limits ls have =
+    legal_trees_are_sound schema limits [] (state_behind ls (fresh schema limits)).history (record { tree = no_rows_are_sound schema; before = tt }) (makes_legal_histories schema limits ls have)
 
 -- ---- one text
 
-same_rest : (more : Bool) (number : ℕ) (others : List (List ℕ)) (state : ScriptState) (line line' : Line) (rest rest' : List ℕ) (status status' : ℕ) → line ≡ line' → ((s : ScriptState) (t t' : List ℕ) → Prints more (number + 1) others s t status → Prints more (number + 1) others s t' status' → (t ≡ t') × (status ≡ status')) → Prints more (number + 1) others (state_after line state) rest status → Prints more (number + 1) others (state_after line' state) rest' status' → (answer line state ++ rest ≡ answer line' state ++ rest') × (status ≡ status')
-same_rest more number others state line line' rest rest' status status' same behind p q =
-    let both = behind (state_after line state) rest rest' p (subst (λ (l : Line). Prints more (number + 1) others (state_after l state) rest' status') (sym same) q) in
-    (ap (λ r. answer line state ++ r) both.0 ∙ ap (λ (l : Line). answer l state ++ rest') same, both.1)
+same_rest : (more : Bool) (number : ℕ) (others : List (List ℕ)) (state : ScriptState) (line line' : Line) (rest rest' : List ℕ) (whole whole' : Bool) → line ≡ line' → ((s : ScriptState) (t t' : List ℕ) → Prints more (number + 1) others s t whole → Prints more (number + 1) others s t' whole' → (t ≡ t') × (whole ≡ whole')) → Prints more (number + 1) others (state_after line state) rest whole → Prints more (number + 1) others (state_after line' state) rest' whole' → (line_text line state ++ rest ≡ line_text line' state ++ rest') × (whole ≡ whole')
+same_rest more number others state line line' rest rest' whole whole' same behind p q =
+    let both = behind (state_after line state) rest rest' p (subst (λ (l : Line). Prints more (number + 1) others (state_after l state) rest' whole') (sym same) q) in
+    (ap (λ r. line_text line state ++ r) both.0 ∙ ap (λ (l : Line). line_text l state ++ rest') same, both.1)
 
-ends_one : (more : Bool) (number : ℕ) (state : ScriptState) (text text' : List ℕ) (status status' : ℕ) → Ends more number state text status → Ends more number state text' status' → (text ≡ text') × (status ≡ status')
-ends_one true number state text text' status status' p q = (p.0 ∙ sym q.0, p.1 ∙ sym q.1)
-ends_one false number state text text' status status' p q = (p.0 ∙ sym q.0, p.1 ∙ sym q.1)
+ends_one : (more : Bool) (number : ℕ) (state : ScriptState) (text text' : List ℕ) (whole whole' : Bool) → Ends more number state text whole → Ends more number state text' whole' → (text ≡ text') × (whole ≡ whole')
+ends_one true number state text text' whole whole' p q = (p.0 ∙ sym q.0, p.1 ∙ sym q.1)
+ends_one false number state text text' whole whole' p q = (p.0 ∙ sym q.0, p.1 ∙ sym q.1)
 
-prints_one : (more : Bool) (number : ℕ) (octets : List (List ℕ)) (state : ScriptState) (text text' : List ℕ) (status status' : ℕ) → Prints more number octets state text status → Prints more number octets state text' status' → (text ≡ text') × (status ≡ status')
-prints_one more number [] state text text' status status' p q = ends_one more number state text text' status status' p q
-prints_one more number (first ∷ others) state text text' status status' (inl p) (inl q) =
-    let both = same_rest more number others state p.line q.line p.rest q.rest status status' (one_meaning first p.line q.line p.meaning.meaning q.meaning.meaning) (λ s t t'. prints_one more (number + 1) others s t t' status status') p.goes_on q.goes_on in
+prints_one : (more : Bool) (number : ℕ) (octets : List (List ℕ)) (state : ScriptState) (text text' : List ℕ) (whole whole' : Bool) → Prints more number octets state text whole → Prints more number octets state text' whole' → (text ≡ text') × (whole ≡ whole')
+prints_one more number [] state text text' whole whole' p q = ends_one more number state text text' whole whole' p q
+prints_one more number (first ∷ others) state text text' whole whole' (inl p) (inl q) =
+    let both = same_rest more number others state p.line q.line p.rest q.rest whole whole' (one_meaning first p.line q.line p.meaning.meaning q.meaning.meaning) (λ s t t'. prints_one more (number + 1) others s t t' whole whole') p.goes_on q.goes_on in
     (p.whole ∙ both.0 ∙ sym q.whole, both.1)
-prints_one more number (first ∷ others) state text text' status status' (inl p) (inr q) = absurd (q.0 p.line p.meaning)
-prints_one more number (first ∷ others) state text text' status status' (inr p) (inl q) = absurd (p.0 q.line q.meaning)
-prints_one more number (first ∷ others) state text text' status status' (inr p) (inr q) = (p.1 ∙ sym q.1, p.2 ∙ sym q.2)
+prints_one more number (first ∷ others) state text text' whole whole' (inl p) (inr q) = absurd (q.0 p.line p.meaning)
+prints_one more number (first ∷ others) state text text' whole whole' (inr p) (inl q) = absurd (p.0 q.line q.meaning)
+prints_one more number (first ∷ others) state text text' whole whole' (inr p) (inr q) = (p.1 ∙ sym q.1, p.2 ∙ sym q.2)
 
-pub prints_one_text : (schema : List SchemaNode) (limits : Limits) (script text text' : List ℕ) (status status' : ℕ) → RunsScript schema limits script text status → RunsScript schema limits script text' status' → (text ≡ text') × (status ≡ status')
+pub prints_one_text : (schema : List SchemaNode) (limits : Limits) (script text text' : List ℕ) (whole whole' : Bool) → RunsScript schema limits script text whole → RunsScript schema limits script text' whole' → (text ≡ text') × (whole ≡ whole')
 unfolding RunsScript
-prints_one_text schema limits script text text' status status' p q = prints_one (is_too_long script) 1 (lines_of (within_limit script)) (fresh schema limits) text text' status status' p q
+prints_one_text schema limits script text text' whole whole' p q = prints_one (is_too_long script) 1 (lines_of (within_limit script)) (fresh schema limits) text text' whole whole' p q
 
 -- ---- refusals
 
-answered_refused : (rules : Rules) (history : List Entry) (reading author : ℕ) (request : Result Ask Refusal) (ask : Ask) (refusal : Refusal) → request ≡ Ok ask → answered rules history reading author request ≡ Err refusal → history_answered rules history reading author request ≡ after_expiry history reading
-answered_refused rules history reading author request ask refusal is refused =
-    let stepped : step rules history reading author ask ≡ Err refusal = ap (answered rules history reading author) (sym is) ∙ refused in
-    ap (history_answered rules history reading author) is ∙ ap (with_answer (after_expiry history reading)) stepped
-
-pub refused_changes_nothing : (state : ScriptState) (author : ℕ) (ask : Ask) (refusal : Refusal) → asked state ≡ Ok ask → judged state author ≡ Err refusal → (state_after (lines.Set author) state).history ≡ after_expiry state.history state.reading
+pub refused_changes_nothing : (state : ScriptState) (author : ℕ) (ask : Ask) (refusal : Refusal) → resolved state.schema (set_ask state.pending) ≡ Ok ask → set_answer (rules_in state) state.history state.reading author (Ok ask) ≡ Err refusal → (state_after (lines.Set author) state).history ≡ after_expiry state.history state.reading
 refused_changes_nothing state author ask refusal is refused =
-    answered_refused (rules_of state.schema state.limits) state.history state.reading author (asked state) ask refusal is refused
+    ap (history_after_set (rules_in state) state.history state.reading author) is ∙ ap (with_answer (after_expiry state.history state.reading)) refused
 
-pub bad_request_changes_nothing : (state : ScriptState) (author : ℕ) (refusal : Refusal) → asked state ≡ Err refusal → (judged state author ≡ Err refusal) × ((state_after (lines.Set author) state).history ≡ state.history)
-bad_request_changes_nothing state author refusal is =
-    (ap (answered (rules_of state.schema state.limits) state.history state.reading author) is, ap (history_answered (rules_of state.schema state.limits) state.history state.reading author) is)
+pub bad_request_changes_nothing : (state : ScriptState) (author : ℕ) (refusal : Refusal) → resolved state.schema (set_ask state.pending) ≡ Err refusal → (state_after (lines.Set author) state).history ≡ state.history
+bad_request_changes_nothing state author refusal is = ap (history_after_set (rules_in state) state.history state.reading author) is

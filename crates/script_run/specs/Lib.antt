@@ -1,5 +1,8 @@
-pub mod Examples
-pub mod Laws
-pub mod PlainSets
+pub mod AnswerLines
 pub mod Requests
+pub mod ScriptOctets
+pub mod ScriptStates
 pub mod Scripts
+pub mod inner
+pub mod laws
+pub mod worked

@@ -19,9 +19,12 @@ change path value = record { path = path; given = Json value }
 -- the request with one operation more, of its kind the last
 abbrev pub with_operation : Act → List Elem → List ℕ → Pending → Pending
 with_operation Delete path value pending = record pending { deletes = pending.deletes ++ path ∷ [] }
-with_operation Replace path value pending = record pending { replaces = pending.replaces ++ change path value ∷ [] }
-with_operation Update path value pending = record pending { updates = pending.updates ++ change path value ∷ [] }
+with_operation Replace path value pending =
+    record pending { replaces = pending.replaces ++ change path value ∷ [] }
+with_operation Update path value pending =
+    record pending { updates = pending.updates ++ change path value ∷ [] }
 
 -- a plain Set of these operations, without a prefix
 abbrev pub set_ask : Pending → SetAsk
-set_ask pending = record { prefix = []; target = []; deletes = pending.deletes; replaces = pending.replaces; updates = pending.updates; action = Plain; unsupported = false }
+set_ask pending =
+    record { prefix = []; target = []; deletes = pending.deletes; replaces = pending.replaces; updates = pending.updates; action = Plain; unsupported = false }

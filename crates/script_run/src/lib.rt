@@ -1,16 +1,19 @@
 //! A script over one commit history: its lines in order, what each prints, and the log at its end.
+//!
+//! Start at `run_script` (run.rt) and `RunsScript` (specs/Scripts.antt): a script is lines to events (specs/ScriptStates.antt),
+//! events to answers (base_kinds, specs/Events.antt), and answers to lines (specs/AnswerLines.antt). laws.rt says what holds
+//! of every script: its history is legal, and its tree is valid.
 #![tactic(auto)]
 
-mod answers;
+mod answer_lines;
 mod laws;
+mod limit;
 mod pending;
-mod readable;
-mod session;
-mod transcript;
+mod run;
+mod state;
 
 pub use laws::{
-    bad_requests_change_nothing, refused_sets_change_nothing, scripts_make_histories,
-    scripts_print_one_text,
+    bad_requests_change_nothing, refused_sets_change_nothing, scripts_are_events,
+    scripts_make_histories, scripts_print_one_text, trees_of_scripts_are_sound,
 };
-pub use readable::SCRIPT_OCTETS;
-pub use transcript::{Transcript, run_script};
+pub use run::{Transcript, run_script};

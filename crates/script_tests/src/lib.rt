@@ -1,4 +1,4 @@
-//! Tests of scripts: their lines, their sessions, the text of the log and the top call.
+//! Tests of scripts: their lines, what they print, the text of the log and the top call.
 #![tactic(auto)]
 
 #[cfg(test)]
@@ -10,4 +10,4 @@ mod logs;
 #[cfg(test)]
 mod runs;
 #[cfg(test)]
-mod sessions;
+mod scripts;

@@ -10,7 +10,7 @@ use Rattle.schema_text.specs.declared.cause.SchemaFault.{SchemaFault}
 use Rattle.schema_text.specs.Schemas.{schema_of}
 use Rattle.script_run.specs.Scripts.{RunsScript}
 use Rattle.script_run.proofs.ScriptLaws.{prints_one_text}
-use Rattle.script_run.proofs.Transcripts.{of_whole}
+use Rattle.script_run.proofs.Runs.{of_whole}
 use Rattle.target_top.specs.declared.ending.Ending.{Ending}
 use Rattle.target_top.specs.declared.ending.Ending.TheVariants.{Done, NoMemory, NoSchema}
 use Rattle.target_top.specs.Ending.{exit_status}
@@ -84,11 +84,11 @@ whole_answered schema limits script all before after status read is wrote =
     record {
       answers = wrote.answers;
       is_whole = wrote.is_whole;
-      runs = subst (λ octets. RunsScript schema limits octets wrote.answers (exit_status (script_ending wrote.is_whole))) (sym follows.1) (of_whole schema limits script follows.0 wrote.answers (exit_status (script_ending wrote.is_whole)) follows.2 wrote.runs);
+      runs = subst (λ octets. RunsScript schema limits octets wrote.answers wrote.is_whole) (sym follows.1) (of_whole schema limits script follows.0 wrote.answers wrote.is_whole follows.2 wrote.runs);
       written = wrote.written;
     }
 
 pub same_written : WritesTheSame
 same_written schema limits script a b c d status other first second =
-    let same = prints_one_text schema limits script first.answers second.answers (exit_status (script_ending first.is_whole)) (exit_status (script_ending second.is_whole)) first.runs second.runs in
-    (same.0, first.written.1 ∙ same.1 ∙ sym second.written.1)
+    let same = prints_one_text schema limits script first.answers second.answers first.is_whole second.is_whole first.runs second.runs in
+    (same.0, first.written.1 ∙ ap (λ w. exit_status (script_ending w)) same.1 ∙ sym second.written.1)

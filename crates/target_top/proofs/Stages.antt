@@ -6,12 +6,11 @@ use Rattle.base_kinds.specs.declared.entry.Limits.{Limits}
 use Rattle.schema_text.specs.declared.cause.SchemaFault.{SchemaFault}
 use Rattle.schema_text.specs.Schemas.{schema_of}
 use Rattle.edge_traits.specs.Input.{ReadsToLimit}
-use Rattle.script_run.specs.Scripts.{RunsScript, status_of}
+use Rattle.script_run.specs.Scripts.{RunsScript}
 use Rattle.target_top.specs.declared.ending.Ending.{Ending}
 use Rattle.target_top.specs.declared.ending.Ending.TheVariants.{NoSchema}
 use Rattle.target_top.specs.ScriptRun.{script_ending, RunsLines, ScriptRun}
 use Rattle.target_top.specs.Printing.{PrintsText, MakesText}
-use Rattle.target_top.specs.Ending.{exit_status}
 use Rattle.target_top.specs.Environment.{Environment, TextFiles, GaveText}
 use Rattle.target_top.specs.SchemaFile.{fault_line, UnderText, UnderSchema}
 use Rattle.target_top.specs.inner.OpenedSchema.{Opened}
@@ -51,18 +50,13 @@ from_start limits before mid after ending schema rest lines = files_apart limits
 pub script_goes_on : (name : List ℕ) (limits : Limits) (schema : List SchemaNode) (before mid after : Environment) (ending : Ending) → Opened name schema before mid → after.files ≡ mid.files → RunsLines limits mid after ending schema → ScriptRun name limits before after ending
 script_goes_on name limits schema before mid after ending opened files lines = goes_on name schema before mid after ending (RunsLines limits before after ending) opened files (from_start limits before mid after ending schema opened.rest lines)
 
--- a script's status is that of its ending
-same_status : (is_whole : Bool) → status_of is_whole ≡ exit_status (script_ending is_whole)
-same_status true = refl
-same_status false = refl
-
 -- what was read was answered
-pub answered : (limits : Limits) (before after : Environment) (ending : Ending) (schema : List SchemaNode) (script text : List ℕ) (is_whole : Bool) → ReadsToLimit most_script_octets script before.input after.input → RunsScript schema limits script text (status_of is_whole) → PrintsText text (script_ending is_whole) before.output after.output ending → RunsLines limits before after ending schema
+pub answered : (limits : Limits) (before after : Environment) (ending : Ending) (schema : List SchemaNode) (script text : List ℕ) (is_whole : Bool) → ReadsToLimit most_script_octets script before.input after.input → RunsScript schema limits script text is_whole → PrintsText text (script_ending is_whole) before.output after.output ending → RunsLines limits before after ending schema
 answered limits before after ending schema script text is_whole read runs output = inl (record {
   script = script;
   read = read;
   text = text;
   is_whole = is_whole;
-  runs = subst (λ status. RunsScript schema limits script text status) (same_status is_whole) runs;
+  runs = runs;
   output = output;
 })

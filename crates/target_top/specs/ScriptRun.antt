@@ -8,7 +8,6 @@ use Rattle.base_kinds.specs.Schema.{SchemaNode}
 use Rattle.script_run.specs.Scripts.{RunsScript}
 use Rattle.target_top.specs.declared.ending.Ending.{Ending}
 use Rattle.target_top.specs.declared.ending.Ending.TheVariants.{Done, InputFault, BadLine}
-use Rattle.target_top.specs.Ending.{exit_status}
 use Rattle.target_top.specs.Environment.{Environment}
 use Rattle.target_top.specs.Printing.{SaysLast, OutOfMemory, PrintsText}
 use Rattle.target_top.specs.SchemaFile.{UnderSchema}
@@ -27,7 +26,7 @@ pub record Answers
   pub read : ReadsToLimit most_script_octets script before.input after.input
   pub text : List ℕ
   pub is_whole : Bool
-  pub runs : RunsScript schema limits script text (exit_status (script_ending is_whole))
+  pub runs : RunsScript schema limits script text is_whole
   pub output : PrintsText text (script_ending is_whole) before.output after.output ending
 
 -- the input failed within the limit

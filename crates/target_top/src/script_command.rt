@@ -5,10 +5,10 @@ use crate::ending::Ending;
 use crate::host::{Host, Kit};
 use crate::printing::{input_fault, out_of_memory, print};
 use crate::schema_file::open_schema;
-use base_kinds::Limits;
+use base_kinds::{Limits, MOST_SCRIPT_OCTETS};
 use edge_traits::{ReadFault, read_to_limit};
 use schema_core::Schema;
-use script_run::{SCRIPT_OCTETS, run_script};
+use script_run::run_script;
 use std::alloc::Global;
 
 /// Runs a script under these limits and the schema whose text is in the file with this name.
@@ -26,7 +26,7 @@ fn run_lines<K: Kit>(alloc: Global, schema: Schema, limits: Limits, host: &mut H
     ensures lines { RunsLines limits host.old host.new result schema }
     ensures files { host.new.files ≡ host.old.files }
 {
-    let octets = match read_to_limit(alloc, &mut host.input, SCRIPT_OCTETS) {
+    let octets = match read_to_limit(alloc, &mut host.input, MOST_SCRIPT_OCTETS) {
         Ok(octets) => octets,
         Err(ReadFault::Failed) => return input_fault(&mut host.output),
         Err(ReadFault::NoMemory) => return out_of_memory(&mut host.output),

@@ -49,7 +49,7 @@ pub record WroteAnswers
     (status : ℕ) : Type 0 where
   pub answers : List ℕ
   pub is_whole : Bool
-  pub runs : RunsScript schema limits script answers (exit_status (script_ending is_whole))
+  pub runs : RunsScript schema limits script answers is_whole
   pub written : WroteAndEnded answers (exit_status (script_ending is_whole)) old new status
 
 -- what a script's run does by a text read as a schema

@@ -1,5 +1,5 @@
 use Rattle.std.proofs.Common.{subst}
-use Rattle.script_run.specs.Scripts.{RunsScript, status_of}
+use Rattle.script_run.specs.Scripts.{RunsScript}
 use Rattle.target_top.specs.declared.ending.Ending.{Ending}
 use Rattle.target_top.specs.Printing.{PrintsText}
 use Rattle.target_top.specs.ScriptRun.{script_ending}
@@ -14,7 +14,7 @@ returns-clause-lines g c =
     let schema = c.args.schema in
     let text = c.in-Ok-run_script.transcript.text in
     let is_whole = c.in-Ok-run_script.transcript.is_whole in
-    let runs = subst (λ octets. RunsScript schema c.args.limits octets text (status_of is_whole)) c.items.ensures c.in-Ok-run_script.ensures in
+    let runs = subst (λ octets. RunsScript schema c.args.limits octets text is_whole) c.items.ensures c.in-Ok-run_script.ensures in
     let by_ending = subst (λ (good : Ending). PrintsText c.items-2.result.now good old new c.print.result) c.script_ending-good.ensures c.print.ensures in
     let output = subst (λ t. PrintsText t (script_ending is_whole) old new c.print.result) c.items-2.ensures by_ending in
     rw (← c.host.view_is) (answered c.args.limits _ _ c.print.result schema c.in-Ok.octets text is_whole c.in-Ok.ensures.ok runs output)

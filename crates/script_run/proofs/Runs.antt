@@ -1,0 +1,80 @@
+-- A script's run, line by line.
+use Rattle.std.proofs.Common.{◌≡◌, ℕ, ◌+◌, ◌<◌, ◌≤◌, List, [], ◌∷◌, ◌++◌, Bool, true, false, length, take, codes, refl, sym, ap, ◌∙◌, subst, inl, inr, ◌⊎◌, arith, append_assoc, length-append, IsTrue, if◌then◌else◌}
+use Rattle.std.proofs.lemmas.Bool.{false≢true}
+use Rattle.std.proofs.lemmas.Bool.Decides.{nat_tests}
+use Rattle.std.proofs.lemmas.List.{append-nil, take-append-le}
+use Rattle.base_kinds.specs.declared.entry.Limits.{Limits}
+use Rattle.base_kinds.specs.Schema.{SchemaNode}
+use Rattle.script_text.specs.declared.line.Line.{Line}
+use Rattle.script_text.specs.Grammar.{IsLine}
+use Rattle.script_text.specs.Lines.{lines_of}
+use Rattle.script_text.proofs.Meanings.{one_meaning}
+use Rattle.commit_report.specs.Logs.{log_text}
+use Rattle.base_kinds.specs.Limits.{most_script_octets}
+use Rattle.script_run.specs.ScriptOctets.{is_too_long, to_last_feed, within_limit}
+use Rattle.script_run.specs.ScriptStates.{ScriptState, fresh, is_supported, state_after}
+use Rattle.script_run.specs.AnswerLines.{line_text}
+use Rattle.script_run.specs.Scripts.{refused_line, IsScriptLine, Prints, RunsScript}
+
+-- a line that is read and not supported is no other line
+pub not_supported : (octets : List ℕ) (read : Line) → IsLine octets read → is_supported read ≡ false → (other : Line) → IsScriptLine octets other → ⊥
+not_supported octets read meant none other is =
+    let lost : IsTrue false = subst (λ b. IsTrue b) (ap is_supported (one_meaning octets other read is.meaning meant) ∙ none) is.supported in
+    false≢true lost
+
+-- octets that are no line at all are none of a script
+pub none_read : (octets : List ℕ) → ((line : Line) → IsLine octets line → ⊥) → (other : Line) → IsScriptLine octets other → ⊥
+none_read octets none other is = none other is.meaning
+
+-- what the lines from this number on print, behind this text, is what all lines print
+abbrev pub Leads : Bool → List (List ℕ) → ScriptState → ℕ → List (List ℕ) → ScriptState → List ℕ → Type 0
+Leads goes_on all start number lines state text = (rest : List ℕ) (whole : Bool) → Prints goes_on number lines state rest whole → Prints goes_on 1 all start (text ++ rest) whole
+
+pub begins : (goes_on : Bool) (all : List (List ℕ)) (start : ScriptState) → Leads goes_on all start 1 all start []
+begins goes_on all start rest whole prints = prints
+
+pub taken : (goes_on : Bool) (all : List (List ℕ)) (start : ScriptState) (number : ℕ) (lines : List (List ℕ)) (octets : List ℕ) (others : List (List ℕ)) (state next : ScriptState) (text longer : List ℕ) (line : Line) → Leads goes_on all start number lines state text → lines ≡ octets ∷ others → IsScriptLine octets line → next ≡ state_after line state → longer ≡ text ++ line_text line state → Leads goes_on all start (number + 1) others next longer
+taken goes_on all start number lines octets others state next text longer line leads first meaning is grown rest whole prints =
+    let after : Prints goes_on (number + 1) others (state_after line state) rest whole = subst (λ (s : ScriptState). Prints goes_on (number + 1) others s rest whole) is prints in
+    let prints_so : Prints goes_on number (octets ∷ others) state (line_text line state ++ rest) whole = inl (record { line = line; meaning = meaning; rest = rest; whole = refl; goes_on = after }) in
+    let run : Prints goes_on 1 all start (text ++ (line_text line state ++ rest)) whole = leads (line_text line state ++ rest) whole (subst (λ ls. Prints goes_on number ls state (line_text line state ++ rest) whole) (sym first) prints_so) in
+    subst (λ t. Prints goes_on 1 all start t whole) (sym (append_assoc text (line_text line state) rest) ∙ ap (λ t. t ++ rest) (sym grown)) run
+
+pub refused : (goes_on : Bool) (all : List (List ℕ)) (start : ScriptState) (number : ℕ) (lines : List (List ℕ)) (octets : List ℕ) (others : List (List ℕ)) (state : ScriptState) (text longer : List ℕ) → Leads goes_on all start number lines state text → lines ≡ octets ∷ others → ((line : Line) → IsScriptLine octets line → ⊥) → longer ≡ text ++ refused_line number → Prints goes_on 1 all start longer false
+refused goes_on all start number lines octets others state text longer leads first none_fits grown =
+    let prints_so : Prints goes_on number (octets ∷ others) state (refused_line number) false = inr (none_fits, refl, refl) in
+    subst (λ t. Prints goes_on 1 all start t false) (sym grown) (leads (refused_line number) false (subst (λ ls. Prints goes_on number ls state (refused_line number) false) (sym first) prints_so))
+
+pub ended : (goes_on : Bool) (all : List (List ℕ)) (start : ScriptState) (number : ℕ) (lines : List (List ℕ)) (state : ScriptState) (text longer : List ℕ) → goes_on ≡ false → Leads goes_on all start number lines state text → lines ≡ [] → longer ≡ text ++ (codes "log\n" ++ log_text state.history) → Prints goes_on 1 all start longer true
+ended goes_on all start number lines state text longer ends leads none grown =
+    let log = codes "log\n" ++ log_text state.history in
+    let prints_so : Prints false number [] state log true = (refl, refl) in
+    let here : Prints goes_on number [] state log true = subst (λ b. Prints b number [] state log true) (sym ends) prints_so in
+    subst (λ t. Prints goes_on 1 all start t true) (sym grown) (leads log true (subst (λ ls. Prints goes_on number ls state log true) (sym none) here))
+
+pub cut_off : (goes_on : Bool) (all : List (List ℕ)) (start : ScriptState) (number : ℕ) (lines : List (List ℕ)) (state : ScriptState) (text longer : List ℕ) → goes_on ≡ true → Leads goes_on all start number lines state text → lines ≡ [] → longer ≡ text ++ refused_line number → Prints goes_on 1 all start longer false
+cut_off goes_on all start number lines state text longer more leads none grown =
+    let prints_so : Prints true number [] state (refused_line number) false = (refl, refl) in
+    let here : Prints goes_on number [] state (refused_line number) false = subst (λ b. Prints b number [] state (refused_line number) false) (sym more) prints_so in
+    subst (λ t. Prints goes_on 1 all start t false) (sym grown) (leads (refused_line number) false (subst (λ ls. Prints goes_on number ls state (refused_line number) false) (sym none) here))
+
+-- ---- a script past its limit: its front decides
+
+long_of : (script : List ℕ) → most_script_octets < length script → is_too_long script ≡ true
+long_of script long = grind (arith, nat_tests)
+
+front_of : (script : List ℕ) → is_too_long script ≡ true → within_limit script ≡ to_last_feed (take most_script_octets script)
+front_of script long = ap (λ b. if b then to_last_feed (take most_script_octets script) else script) long
+
+-- what the octets print that were taken, to the end or past the limit, the whole script prints
+pub of_whole : (schema : List SchemaNode) (limits : Limits) (octets more : List ℕ) (text : List ℕ) (whole : Bool) → (more ≡ []) ⊎ (length octets ≡ most_script_octets + 1) → RunsScript schema limits octets text whole → RunsScript schema limits (octets ++ more) text whole
+unfolding RunsScript
+of_whole schema limits octets more text whole (inl none) run = subst (λ m. RunsScript schema limits (octets ++ m) text whole) (sym none) (subst (λ o. RunsScript schema limits o text whole) (sym (append-nil octets)) run)
+of_whole schema limits octets more text whole (inr over) run =
+    let long : is_too_long octets ≡ true = long_of octets (omega (arith, over)) in
+    let longer : is_too_long (octets ++ more) ≡ true = long_of (octets ++ more) (simp length-append (omega (arith, over))) in
+    let within : most_script_octets ≤ length octets = omega (arith, over) in
+    let same : take most_script_octets (octets ++ more) ≡ take most_script_octets octets = rw take-append-le in
+    let lines : within_limit octets ≡ within_limit (octets ++ more) = front_of octets long ∙ ap to_last_feed (sym same) ∙ sym (front_of (octets ++ more) longer) in
+    subst (λ s. Prints (is_too_long (octets ++ more)) 1 (lines_of s) (fresh schema limits) text whole) lines
+    (subst (λ b. Prints b 1 (lines_of (within_limit octets)) (fresh schema limits) text whole) (long ∙ sym longer) run)

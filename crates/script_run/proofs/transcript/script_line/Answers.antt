@@ -1,9 +1,0 @@
-use Rattle.std.proofs.Common.{Err, sym, ap, ◌∙◌}
-use Rattle.script_run.proofs.Transcripts.{not_built, none_read}
-use Rattle.script_run.proofs.transcript.script_line.Goals as goal
-
-pub returns-else-is_built-clause-no_line : goal.returns-else-is_built-clause-no_line
-returns-else-is_built-clause-no_line c = not_built c.args.octets.now c.in-Ok.line c.in-Ok.ensures.ok (sym c.is_built.ensures ∙ c.if-is_built.false)
-
-pub returns-in-Err-NoLine-clause-no_line : goal.returns-in-Err-NoLine-clause-no_line
-returns-in-Err-NoLine-clause-no_line c = none_read c.args.octets.now (c.in-Err-NoLine.ensures.no_line (ap Err c.in-Err-NoLine.field-0-is))

@@ -1,0 +1,53 @@
+-- What a script prints at a line: the answer to the event that the line is. The texts are this project's own.
+use Rattle.std.specs.Prelude.{ℕ, List, [], ◌∷◌, ◌++◌, Result, Ok, Err, Option, Some, None, codes}
+use Rattle.std.specs.List.{flat_map}
+use Rattle.std.specs.Fmt.{decimal}
+use Rattle.base_kinds.specs.declared.operation.Row.{Row}
+use Rattle.base_kinds.specs.declared.entry.Entry.{Entry}
+use Rattle.base_kinds.specs.declared.entry.View.{View}
+use Rattle.base_kinds.specs.declared.refusal.Refusal.{Refusal}
+use Rattle.base_kinds.specs.Events.{Event, Answer, OfSet, OfGet, event_answer}
+use Rattle.base_kinds.specs.Refusals.{number_of, code_of}
+use Rattle.base_kinds.specs.Step.{Rules}
+use Rattle.commit_report.specs.Logs.{row_text}
+use Rattle.script_text.specs.declared.line.Line.{Line}
+use Rattle.script_run.specs.ScriptStates.{ScriptState, rules_in, line_event}
+
+-- `refused` with the number and the gRPC code of the refusal
+abbrev pub refusal_line : Refusal → List ℕ
+refusal_line refusal =
+    codes "refused "
+    ++ (decimal (number_of refusal) ++ (32 ∷ (decimal (code_of refusal) ++ 10 ∷ [])))
+
+-- `ok` and a stamp, or the refusal
+abbrev pub reply_line : Result ℕ Refusal → List ℕ
+reply_line (Ok stamp) = codes "ok " ++ (decimal stamp ++ 10 ∷ [])
+reply_line (Err refusal) = refusal_line refusal
+
+-- the stamp of the new entry, or the refusal
+abbrev pub entry_stamp : Result Entry Refusal → Result ℕ Refusal
+entry_stamp (Ok entry) = Ok entry.stamp
+entry_stamp (Err refusal) = Err refusal
+
+abbrev pub row_line : Row → List ℕ
+row_line row = codes "row " ++ row_text row
+
+abbrev pub state_line : ℕ → List ℕ
+state_line stamp = codes "state " ++ (decimal stamp ++ 10 ∷ [])
+
+-- `row` with a path and a value for each row, in order, and `state` with the stamp; or the refusal
+abbrev pub view_lines : Result View Refusal → List ℕ
+view_lines (Ok view) = flat_map row_line view.rows ++ state_line view.stamp
+view_lines (Err refusal) = refusal_line refusal
+
+abbrev pub answer_lines : Answer → List ℕ
+answer_lines (OfSet reply) = reply_line (entry_stamp reply)
+answer_lines (OfGet view) = view_lines view
+
+abbrev pub event_lines : Rules → List Entry → Option Event → List ℕ
+event_lines rules h None = []
+event_lines rules h (Some event) = answer_lines (event_answer rules h event)
+
+-- what is printed at a line in this state: nothing where it is no event
+abbrev pub line_text : Line → ScriptState → List ℕ
+line_text line state = event_lines (rules_in state) state.history (line_event line state)
