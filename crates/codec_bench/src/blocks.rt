@@ -74,7 +74,8 @@ fn add_literal(draws: &mut Draws, block: &mut Bytes) -> Result<(), NoMemory> {
 // Where the blocks give headers, one after the other, the checksum is that of these.
 fn read_all(alloc: Global, blocks: &[Bytes], before: u64) -> Result<u64, Fault>
     ensures read { IfOk result (λ checksum. ReadsBlocks empty_table blocks.now before checksum) }
-    ensures bad { IsErrOf result Fault.BadOctets → (checksum : ℕ) → ReadsBlocks empty_table blocks.now before checksum → ⊥ }
+    ensures bad { IsErrOf result Fault.BadOctets
+        → (checksum : ℕ) → ReadsBlocks empty_table blocks.now before checksum → ⊥ }
 {
     let mut decoder = Decoder::make(alloc);
     let mut checksum = before;

@@ -58,7 +58,8 @@ fn drawn_number(draws: &mut Draws) -> u32
 // Where the octets are a message, the checksum is that of its fields.
 fn read_all(alloc: Global, octets: &[u8], before: u64) -> Result<u64, Fault>
     ensures read { IfOk result (λ checksum. ReadsFields octets.now before checksum) }
-    ensures bad { IsErrOf result Fault.BadOctets → (fields : List FieldValue) → IsMessage octets.now fields → ⊥ }
+    ensures bad { IsErrOf result Fault.BadOctets
+        → (fields : List FieldValue) → IsMessage octets.now fields → ⊥ }
 {
     match fields_of(alloc, octets) {
         Ok(fields) => Ok(checksum_of(before, fields.items())),

@@ -64,7 +64,8 @@ pub record IsPart (max : ℕ) (octets : List ℕ) : Type 0 where
 -- The length that the first three octets state. An octet that isn't there counts as 0, so that this is the least
 -- length which a frame that begins so can have.
 abbrev pub stated_length : List ℕ → ℕ
-stated_length octets = slice_index octets 0 * 2 ^ 16 + slice_index octets 1 * 2 ^ 8 + slice_index octets 2
+stated_length octets =
+    slice_index octets 0 * 2 ^ 16 + slice_index octets 1 * 2 ^ 8 + slice_index octets 2
 
 -- more octets of payload are stated than a frame may have
 abbrev pub IsTooLong : ℕ → List ℕ → Type 0

@@ -56,8 +56,10 @@ pub fn one_list()
 /// The frame that stands first, and those of the octets after it, are those of the octets.
 pub fn first_then_rest()
     ensures none { (max : ℕ) (octets : List ℕ) → IsPart max octets → Frames max octets [] octets }
-    ensures too_long { (max : ℕ) (octets : List ℕ) → IsTooLong max octets → FramesTo max octets [] octets }
-    ensures one { (max : ℕ) (octets : List ℕ) (head : Head) (used : ℕ) (fs : List Frame) (rest : List ℕ)
+    ensures too_long { (max : ℕ) (octets : List ℕ) → IsTooLong max octets
+        → FramesTo max octets [] octets }
+    ensures one { (max : ℕ) (octets : List ℕ) (head : Head) (used : ℕ) (fs : List Frame)
+        (rest : List ℕ)
         → StandsFirst max octets head used → FramesTo max (drop used octets) fs rest
         → FramesTo max octets (frame_of head (slice_range octets 9 used) ∷ fs) rest }
     ensures one_to_a_part { (max : ℕ) (octets : List ℕ) (head : Head) (used : ℕ) (fs : List Frame)
@@ -69,7 +71,8 @@ pub fn first_then_rest()
 pub fn first_of_the_list()
     ensures none { (max : ℕ) (octets : List ℕ) (fs : List Frame) (rest : List ℕ) → IsPart max octets
         → FramesTo max octets fs rest → (fs ≡ []) × (rest ≡ octets) }
-    ensures one { (max : ℕ) (octets : List ℕ) (head : Head) (used : ℕ) (fs : List Frame) (rest : List ℕ)
+    ensures one { (max : ℕ) (octets : List ℕ) (head : Head) (used : ℕ) (fs : List Frame)
+        (rest : List ℕ)
         → StandsFirst max octets head used → FramesTo max octets fs rest
         → (gs : List Frame) × (fs ≡ frame_of head (slice_range octets 9 used) ∷ gs)
         × FramesTo max (drop used octets) gs rest }

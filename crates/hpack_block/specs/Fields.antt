@@ -10,7 +10,11 @@ use Rattle.hpack_block.specs.Tables.{Table, with_entry, entry_at, name_at}
 -- The first octet begins with the bits 1, 01, 001, 0001 or 0000.
 abbrev pub form_of : ℕ → Form
 form_of first =
-    if nat_lt first 16 then WithoutIndexing else if nat_lt first 32 then NeverIndexed else if nat_lt first 64 then SizeUpdate else if nat_lt first 128 then WithIndexing else Indexed
+    if nat_lt first 16 then WithoutIndexing
+    else if nat_lt first 32 then NeverIndexed
+    else if nat_lt first 64 then SizeUpdate
+    else if nat_lt first 128 then WithIndexing
+    else Indexed
 
 -- the index of an entry, with a prefix of 7 bits (section 6.1)
 pub record IsIndexed (table : Table) (octets : List ℕ) (header : Header) (rest : List ℕ) : Type 0 where
@@ -35,7 +39,10 @@ pub record IsLiteral (bits : ℕ) (table : Table) (octets : List ℕ) (header : 
 -- In a form, the octets begin with a field that gives the header, and the rest follows. The table is the next one then.
 abbrev pub IsField : Form → Table → List ℕ → Header → Table → List ℕ → Type 0
 IsField Indexed table octets header next rest = IsIndexed table octets header rest × (table ≡ next)
-IsField WithIndexing table octets header next rest = IsLiteral 6 table octets header rest × (with_entry header table ≡ next)
+IsField WithIndexing table octets header next rest =
+    IsLiteral 6 table octets header rest × (with_entry header table ≡ next)
 IsField SizeUpdate table octets header next rest = ⊥
-IsField WithoutIndexing table octets header next rest = IsLiteral 4 table octets header rest × (table ≡ next)
-IsField NeverIndexed table octets header next rest = IsLiteral 4 table octets header rest × (table ≡ next)
+IsField WithoutIndexing table octets header next rest =
+    IsLiteral 4 table octets header rest × (table ≡ next)
+IsField NeverIndexed table octets header next rest =
+    IsLiteral 4 table octets header rest × (table ≡ next)

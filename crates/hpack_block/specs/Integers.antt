@@ -31,4 +31,5 @@ pub record PastPrefix (low most : ℕ) (after : List ℕ) (n : ℕ) (rest : List
 abbrev pub IsInteger : ℕ → List ℕ → ℕ → List ℕ → Type 0
 IsInteger bits [] n rest = ⊥
 IsInteger bits (first ∷ after) n rest =
-    InPrefix (first % 2 ^ bits) (2 ^ bits - 1) after n rest ⊎ PastPrefix (first % 2 ^ bits) (2 ^ bits - 1) after n rest
+    InPrefix (first % 2 ^ bits) (2 ^ bits - 1) after n rest
+    ⊎ PastPrefix (first % 2 ^ bits) (2 ^ bits - 1) after n rest

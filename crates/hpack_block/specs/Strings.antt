@@ -11,7 +11,8 @@ pub record IsContent (octets content rest : List ℕ) : Type 0 where
 
 -- The content is the text itself where the first octet's top bit is 0, and where it is 1 the text's Huffman code.
 abbrev pub IsCoded : ℕ → List ℕ → List ℕ → Type 0
-IsCoded first content text = ((first < 128) × (content ≡ text)) ⊎ ((128 ≤ first) × Huff content text)
+IsCoded first content text =
+    ((first < 128) × (content ≡ text)) ⊎ ((128 ≤ first) × Huff content text)
 
 -- The octets begin with the string, and the rest follows.
 pub record IsString (octets text rest : List ℕ) : Type 0 where

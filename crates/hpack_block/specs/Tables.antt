@@ -24,7 +24,8 @@ size_of_all headers = sum_by size_of headers
 abbrev pub fitting_entries : ℕ → List Header → List Header
 fitting_entries room [] = []
 fitting_entries room (entry ∷ entries) =
-    if nat_le (size_of entry) room then entry ∷ fitting_entries (room - size_of entry) entries else []
+    if nat_le (size_of entry) room then entry ∷ fitting_entries (room - size_of entry) entries
+    else []
 
 -- An entry is added (section 4.4). One that is larger than the table's maximum size empties the table.
 abbrev pub with_entry : Header → Table → Table
@@ -33,7 +34,8 @@ with_entry header table =
 
 -- the maximum size is changed (section 4.3)
 abbrev pub with_maximum : ℕ → Table → Table
-with_maximum maximum table = record { entries = fitting_entries maximum table.entries; maximum = maximum }
+with_maximum maximum table =
+    record { entries = fitting_entries maximum table.entries; maximum = maximum }
 
 -- a connection's table at first
 abbrev pub empty_table : Table

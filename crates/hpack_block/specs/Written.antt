@@ -11,7 +11,8 @@ use Rattle.hpack_block.specs.StaticTable.{static_table}
 -- an integer with a prefix of so many bits, above which the mark stands
 abbrev pub integer_of : ℕ → ℕ → ℕ → List ℕ
 integer_of bits mark n =
-    if nat_lt n (2 ^ bits - 1) then (mark + n) ∷ [] else (mark + (2 ^ bits - 1)) ∷ groups_of 4 (n - (2 ^ bits - 1))
+    if nat_lt n (2 ^ bits - 1) then (mark + n) ∷ []
+    else (mark + (2 ^ bits - 1)) ∷ groups_of 4 (n - (2 ^ bits - 1))
 
 abbrev pub string_of : List ℕ → List ℕ
 string_of text = integer_of 7 0 (length text) ++ text

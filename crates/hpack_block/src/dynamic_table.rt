@@ -34,7 +34,8 @@ impl Model for DynamicTable {
 
     ghost view = { λ t. record { entries = t.entries.items; maximum = t.maximum } };
 
-    ghost invariant = { λ t. (size_of_all t.entries.items + t.room ≡ t.maximum) × (t.maximum ≤ largest_table) };
+    ghost invariant = { λ t. (size_of_all t.entries.items + t.room ≡ t.maximum)
+        × (t.maximum ≤ largest_table) };
 }
 
 impl DynamicTable {

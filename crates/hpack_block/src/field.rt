@@ -24,9 +24,11 @@ pub(crate) fn field_in<'a>(
     table: &mut DynamicTable,
     list: &mut HeaderList,
 ) -> Result<&'a [u8], Ended>
-    ensures ok { IfOk result (λ rest. TakesField (form_of (slice_index octets.now 0)) table.old octets.now table.new rest.now list.old list.new) }
+    ensures ok { IfOk result (λ rest. TakesField (form_of (slice_index octets.now 0))
+        table.old octets.now table.new rest.now list.old list.new) }
     ensures shorter { IfOk result (λ rest. length rest.now < length octets.now) }
-    ensures bad { IsErrOf result Ended.Bad → NoField (form_of (slice_index octets.now 0)) table.old octets.now }
+    ensures bad { IsErrOf result Ended.Bad
+        → NoField (form_of (slice_index octets.now 0)) table.old octets.now }
 {
     match form_of(first_octet(octets)) {
         Form::Indexed => indexed_in(alloc, octets, table, list),
@@ -44,7 +46,8 @@ fn indexed_in<'a>(
     table: &DynamicTable,
     list: &mut HeaderList,
 ) -> Result<&'a [u8], Ended>
-    ensures ok { IfOk result (λ rest. TakesField Form.Indexed table.now octets.now table.now rest.now list.old list.new) }
+    ensures ok { IfOk result (λ rest. TakesField Form.Indexed
+        table.now octets.now table.now rest.now list.old list.new) }
     ensures shorter { IfOk result (λ rest. length rest.now < length octets.now) }
     ensures bad { IsErrOf result Ended.Bad → NoField Form.Indexed table.now octets.now }
 {
@@ -64,7 +67,8 @@ fn with_indexing_in<'a>(
     table: &mut DynamicTable,
     list: &mut HeaderList,
 ) -> Result<&'a [u8], Ended>
-    ensures ok { IfOk result (λ rest. TakesField Form.WithIndexing table.old octets.now table.new rest.now list.old list.new) }
+    ensures ok { IfOk result (λ rest. TakesField Form.WithIndexing
+        table.old octets.now table.new rest.now list.old list.new) }
     ensures shorter { IfOk result (λ rest. length rest.now < length octets.now) }
     ensures bad { IsErrOf result Ended.Bad → NoField Form.WithIndexing table.old octets.now }
 {
@@ -80,7 +84,8 @@ fn without_indexing_in<'a>(
     table: &DynamicTable,
     list: &mut HeaderList,
 ) -> Result<&'a [u8], Ended>
-    ensures ok { IfOk result (λ rest. TakesField Form.WithoutIndexing table.now octets.now table.now rest.now list.old list.new) }
+    ensures ok { IfOk result (λ rest. TakesField Form.WithoutIndexing
+        table.now octets.now table.now rest.now list.old list.new) }
     ensures shorter { IfOk result (λ rest. length rest.now < length octets.now) }
     ensures bad { IsErrOf result Ended.Bad → NoField Form.WithoutIndexing table.now octets.now }
 {
@@ -101,7 +106,8 @@ fn literal_in<'a>(
     requires in_octet { bits ≤ 7 }
     ensures ok { IfOk result (λ x. IsLiteral bits table.now octets.now x.0 x.1.now) }
     ensures shorter { IfOk result (λ x. length x.1.now < length octets.now) }
-    ensures bad { IsErrOf result Ended.Bad → (header : HeaderValue) (rest : List ℕ) → IsLiteral bits table.now octets.now header rest → ⊥ }
+    ensures bad { IsErrOf result Ended.Bad
+        → (header : HeaderValue) (rest : List ℕ) → IsLiteral bits table.now octets.now header rest → ⊥ }
 {
     let Some((index, after)) = integer_in(bits, octets) else {
         return Err(Ended::Bad);
@@ -120,7 +126,8 @@ fn name_in<'a>(
 ) -> Result<(Bytes, &'a [u8]), Ended>
     ensures ok { IfOk result (λ x. IsName table.now index octets.now x.0 x.1.now) }
     ensures shorter { IfOk result (λ x. length x.1.now ≤ length octets.now) }
-    ensures bad { IsErrOf result Ended.Bad → (name rest : List ℕ) → IsName table.now index octets.now name rest → ⊥ }
+    ensures bad { IsErrOf result Ended.Bad
+        → (name rest : List ℕ) → IsName table.now index octets.now name rest → ⊥ }
 {
     if index == 0 {
         return string_in(alloc, octets);

@@ -1,4 +1,6 @@
-//! Header blocks of HTTP/2 (HPACK, RFC 7541): read against a dynamic table, and written in one form.
+//! Header blocks of HTTP/2 (HPACK, RFC 7541): read against a dynamic table, and written in one form. Start with
+//! `Decoder::block` and specs/Answers.antt, which stands on specs/Block.antt; what is written is specs/Written.antt.
+//! Steps that private functions alone cite stand in specs/inner.
 #![tactic(auto)]
 
 mod decoder;

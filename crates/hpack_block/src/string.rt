@@ -13,7 +13,8 @@ use std::alloc::Global;
 pub(crate) fn string_in(alloc: Global, octets: &[u8]) -> Result<(Bytes, &[u8]), Ended>
     ensures ok { IfOk result (λ x. IsString octets.now x.0 x.1.now) }
     ensures shorter { IfOk result (λ x. length x.1.now < length octets.now) }
-    ensures bad { IsErrOf result Ended.Bad → (text rest : List ℕ) → IsString octets.now text rest → ⊥ }
+    ensures bad { IsErrOf result Ended.Bad
+        → (text rest : List ℕ) → IsString octets.now text rest → ⊥ }
 {
     let Some((content, rest)) = content_in(octets) else {
         return Err(Ended::Bad);

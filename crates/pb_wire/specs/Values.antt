@@ -24,7 +24,8 @@ abbrev pub varint_in : ℕ → Field → Option ℕ
 varint_in number field = if field.number == number then number_of_body field.body else None
 
 abbrev pub octets_in : List ℕ → ℕ → Field → Option (List ℕ)
-octets_in message number field = if field.number == number then octets_of_body message field.body else None
+octets_in message number field =
+    if field.number == number then octets_of_body message field.body else None
 
 -- each varint of the number, in order
 abbrev pub varints : ℕ → List Field → List ℕ
@@ -50,7 +51,8 @@ joined_octets message number fields = concat (occurrences message number fields)
 abbrev pub last_run : List Field → List Field
 last_run [] = []
 last_run (field ∷ fields) =
-    if list_all (λ (other : Field). other.number == field.number) fields then field ∷ fields else last_run fields
+    if list_all (λ (other : Field). other.number == field.number) fields then field ∷ fields
+    else last_run fields
 
 -- A oneof's members are given by their numbers and wire types. It holds the last one, with its occurrences directly
 -- before: a message is joined from these alone, and of a scalar the last counts.
@@ -83,7 +85,8 @@ has_key key entry = pointwise nat_eq key entry.0
 abbrev pub last_entries : {V : Type 0} → List (List ℕ × V) → List (List ℕ × V)
 last_entries [] = []
 last_entries (entry ∷ entries) =
-    if list_any (has_key entry.0) entries then last_entries entries else entry ∷ last_entries entries
+    if list_any (has_key entry.0) entries then last_entries entries
+    else entry ∷ last_entries entries
 
 abbrev pub value_of_key : {V : Type 0} → List ℕ → List (List ℕ × V) → Option V
 value_of_key {V} key entries =

@@ -21,7 +21,8 @@ pub fn one_number()
 /// The shortest spelling is one, and no other has fewer octets.
 pub fn shortest_spelling()
     ensures spells { (n : ℕ) → n < 2 ^ 64 → IsVarint (shortest n) n }
-    ensures fewest { (n : ℕ) (octets : List ℕ) → IsVarint octets n → length (shortest n) ≤ length octets }
+    ensures fewest { (n : ℕ) (octets : List ℕ) → IsVarint octets n
+        → length (shortest n) ≤ length octets }
 {}
 
 /// The fields of a message are those that are read one after the other, from place 0 on.
@@ -51,7 +52,8 @@ pub fn members_alone()
     ensures varints { (members : List (ℕ × ℕ)) (number : ℕ) (fields : List FieldValue)
         → has_member members number 0 ≡ true
         → varints number (filter (is_member members) fields) ≡ varints number fields }
-    ensures octets { (members : List (ℕ × ℕ)) (message : List ℕ) (number : ℕ) (fields : List FieldValue)
+    ensures octets { (members : List (ℕ × ℕ)) (message : List ℕ) (number : ℕ)
+        (fields : List FieldValue)
         → has_member members number 2 ≡ true
         → occurrences message number (filter (is_member members) fields)
         ≡ occurrences message number fields }

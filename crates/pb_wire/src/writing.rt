@@ -24,7 +24,8 @@ pub fn put_varint(number: u32, value: u64, out: &mut Bytes) -> Result<(), NoMemo
     // What was added before memory ran out is a front of the field's octets.
     ensures err { OnErr result (AppendsFront out.old out.new (varint_field number value)) }
     // These octets are just that field.
-    ensures is_field { IsMessage (varint_field number value) (record { number = number; body = Varint value } ∷ []) }
+    ensures is_field { IsMessage (varint_field number value)
+        (record { number = number; body = Varint value } ∷ []) }
 {
     out.push((number * 8) as u8)?;
     put_shortest(value, out)
@@ -38,7 +39,8 @@ pub fn put_octets(number: u32, octets: &[u8], out: &mut Bytes) -> Result<(), NoM
     // What was added before memory ran out is a front of the field's octets.
     ensures err { OnErr result (AppendsFront out.old out.new (octets_field number octets.now)) }
     // These octets are just that field.
-    ensures is_field { IsMessage (octets_field number octets.now) (record { number = number; body = octets_body octets.now } ∷ []) }
+    ensures is_field { IsMessage (octets_field number octets.now)
+        (record { number = number; body = octets_body octets.now } ∷ []) }
 {
     out.push((number * 8 + 2) as u8)?;
     put_shortest(octets.len() as u64, out)?;
