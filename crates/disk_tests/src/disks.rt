@@ -79,7 +79,7 @@ fn leaves(
     if disk.starved() {
         return Err(NoMemory);
     }
-    let counted = failed as u64 + passes == 6 && disk.stopped() == (passes < 6);
+    let counted = passes.checked_add(failed as u64) == Some(6) && disk.stopped() == (passes < 6);
     Ok(counted && has_octets(disk.image().octets(), pattern, filled))
 }
 
@@ -203,14 +203,23 @@ fn reads_whole(alloc: Global, octets: &[u8], passes: u64) -> Result<bool, NoMemo
     }
 }
 
+/// Whether a disk of so many octets is read in this many calls, and not in one less.
+fn is_read_in(alloc: Global, length: usize, calls: u64) -> Result<bool, NoMemory> {
+    let octets = vec![in alloc; 7u8; length]?;
+    Ok(
+        !reads_whole(alloc, &octets, calls.saturating_sub(1))?
+            && reads_whole(alloc, &octets, calls)?,
+    )
+}
+
+/// Lengths of disks, and the calls in which each is read.
+const READINGS: &[(usize, u64)] = &[(0, 1), (1, 2), (65536, 2), (65537, 3)];
+
 /// A reading asks for the length, and then for each 65,536 octets that are begun.
 #[test]
 fn a_reading_makes_a_call_for_each_piece(rt: HostRuntime) -> Result<(), NoMemory> {
-    let octets = vec![in rt.alloc(); 7u8; 65537]?;
-    for (length, calls) in [(0, 1), (1, 2), (65536, 2), (65537, 3)] {
-        let front = &octets[..length];
-        assert!(rt; !reads_whole(rt.alloc(), front, calls - 1)?, "at {length}");
-        assert!(rt; reads_whole(rt.alloc(), front, calls)?, "at {length}");
+    for (length, calls) in READINGS.iter().copied() {
+        assert!(rt; is_read_in(rt.alloc(), length, calls)?, "at {length}");
     }
     Ok(())
 }

@@ -1,5 +1,7 @@
 //! Journals: their octets, what is read where one of them is changed, and each rule of what may
 //! follow.
+ghost use Rattle.base_kinds.specs.Limits.{AreInRange};
+
 use base_kinds::{Act, Bytes, Elem, Entry, Kind, Limits, Op, Ops, Row, Seq, Text, Value};
 use journal_format::{
     CLOSED_GATE, JournalFault, OPEN_GATE, read_journal, write_entry, write_header,
@@ -226,7 +228,9 @@ fn behind(
     author: u32,
     stamp: u64,
     case: Case,
-) -> Result<u64, Fail> {
+) -> Result<u64, Fail>
+    requires { AreInRange limits.now }
+{
     let mut out = Seq::empty(alloc);
     write_header(limits, &mut out)?;
     put(alloc, &mut out, 1, 1000, first)?;
