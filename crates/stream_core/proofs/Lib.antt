@@ -1,0 +1,4 @@
+pub mod Beating
+pub mod Found
+pub mod Joining
+pub mod Turned

@@ -1,0 +1,8 @@
+use Rattle.std.proofs.Common.{◌≡◌, take, filter}
+use Rattle.base_kinds.specs.declared.operation.Row.{Row}
+use Rattle.sub_plan.specs.Groups.{group_of}
+use Rattle.stream_laws.specs.Beats.{beat_numbered, is_due}
+use Rattle.stream_core.proofs.notes.due_rows.Given as goal
+
+abbrev pub invariant-loop-row : goal.invariant-loop-row
+invariant-loop-row l = l.found.items ≡ filter (λ (row : Row). is_due (beat_numbered l.beats (group_of l.lines row.path))) (take l.row-index l.rows)

@@ -1,0 +1,4 @@
+pub mod Due
+pub mod Gaps
+pub mod Kept
+pub mod Merging

@@ -1,0 +1,7 @@
+pub mod Equal
+pub mod Kept
+pub mod Steps
+pub mod Groups
+pub mod Runs
+pub mod Marks
+pub mod Following

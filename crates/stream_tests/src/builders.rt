@@ -1,0 +1,70 @@
+//! What the tests are made of: subscriptions and rows, each from a text.
+use base_kinds::{ListMode, Path, Row, Rows, SubLine, SubLines, SubMode, Text, Value};
+use gnmi_kinds::{Encoding, GnmiPath, SubAsk};
+use path_core::read_path_text;
+use std::alloc::Global;
+use std::process::Abort;
+
+/// A subscription: its path, its mode, its interval and its heartbeat in nanoseconds, and whether it has changes alone.
+pub type Sub = (&'static str, SubMode, u64, u64, bool);
+
+pub fn path_of(rt: &impl Abort, alloc: Global, text: &str) -> Path {
+    read_path_text(alloc, text.as_bytes()).expect(rt, "a path")
+}
+
+fn line_of(rt: &impl Abort, alloc: Global, sub: Sub) -> SubLine {
+    let (path, mode, interval, heartbeat, suppress) = sub;
+    SubLine {
+        path: path_of(rt, alloc, path),
+        mode,
+        interval,
+        suppress,
+        heartbeat,
+    }
+}
+
+/// The list of these subscriptions, behind this prefix.
+pub fn ask_of(
+    rt: &impl Abort,
+    alloc: Global,
+    prefix: &str,
+    mode: ListMode,
+    subs: &'static [Sub],
+) -> SubAsk {
+    let mut lines = SubLines::empty(alloc);
+    for sub in subs.iter().copied() {
+        lines.push(line_of(rt, alloc, sub)).expect(rt, "memory");
+    }
+    SubAsk {
+        prefix: GnmiPath {
+            path: path_of(rt, alloc, prefix),
+            origin: Text::of(alloc, b"openconfig").expect(rt, "a text"),
+            target: Text::of(alloc, b"r1").expect(rt, "a text"),
+            old_element: false,
+        },
+        lines,
+        mode,
+        updates_only: false,
+        encoding: Encoding::Proto,
+        unsupported: false,
+    }
+}
+
+fn row_of(rt: &impl Abort, alloc: Global, path: &str, number: u64) -> Row {
+    let path = path_of(rt, alloc, path);
+    Row {
+        path,
+        value: Value::Uint(number),
+    }
+}
+
+/// Rows of these paths and numbers.
+pub fn rows_of(rt: &impl Abort, alloc: Global, rows: &'static [(&'static str, u64)]) -> Rows {
+    let mut found = Rows::empty(alloc);
+    for (path, number) in rows.iter().copied() {
+        found
+            .push(row_of(rt, alloc, path, number))
+            .expect(rt, "memory");
+    }
+    found
+}
