@@ -1,0 +1,7 @@
+pub mod CallLemmas
+pub mod FrameLemmas
+pub mod LawLemmas
+pub mod OutcomeLemmas
+pub mod SettingsLemmas
+pub mod SoundLemmas
+pub mod StreamLemmas

@@ -1,0 +1,10 @@
+pub mod Codes
+pub mod States
+pub mod Outcomes
+pub mod Payloads
+pub mod Requests
+pub mod Blocks
+pub mod Meanings
+pub mod Calls
+pub mod Laws
+pub mod worked

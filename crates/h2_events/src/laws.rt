@@ -1,0 +1,40 @@
+//! Laws of the definitions, which hold for every caller.
+ghost use Rattle.std.specs.Prelude.{◌≡◌, ℕ, ◌≤◌, List, [], ◌∷◌, ◌++◌, Bool, IsTrue, map};
+ghost use Rattle.h2_frame.specs.Frames.{Frame};
+ghost use Rattle.h2_events.specs.declared.event.RecvEvent.{RecvEvent as Heard};
+ghost use Rattle.h2_events.specs.Events.{highest_from, any_resets};
+ghost use Rattle.h2_events.specs.Items.{Item, Wrote, Read, heard, written, said_on, as_read, events_read, was_reset, GoTogether};
+
+/// What is read off one order and then another is what is read off both.
+pub fn orders_join()
+    ensures heard { (one other : List Item) → heard (one ++ other) ≡ heard one ++ heard other }
+    ensures written { (one other : List Item) → written (one ++ other) ≡ written one ++ written other }
+    ensures said { (stream : ℕ) (one other : List Item)
+        → said_on stream (one ++ other) ≡ said_on stream one ++ said_on stream other }
+    ensures read { (one other : List Item) → as_read (one ++ other) ≡ as_read one ++ as_read other }
+    ensures events { (one other : List Read)
+        → events_read (one ++ other) ≡ events_read one ++ events_read other }
+    // Frames that were written have nothing but themselves in them.
+    ensures frames { (frames : List Frame) → written (map Wrote frames) ≡ frames }
+    ensures silent { (frames : List Frame) → (heard (map Wrote frames) ≡ []) × (as_read (map Wrote frames) ≡ []) }
+    ensures unsaid { (stream : ℕ) (frames : List Frame) → said_on stream (map Wrote frames) ≡ [] }
+{}
+
+/// A stream that was reset stays so.
+pub fn resets_stay()
+    ensures { (stream : ℕ) (one other : List Item)
+        → IsTrue (was_reset stream one) → IsTrue (was_reset stream (one ++ other)) }
+{}
+
+/// The highest stream of events never falls, and that of more events follows from it.
+pub fn highest_of_more()
+    ensures joined { (highest : ℕ) (one other : List Heard)
+        → highest_from highest (one ++ other) ≡ highest_from (highest_from highest one) other }
+    ensures rises { (highest : ℕ) (events : List Heard) → highest ≤ highest_from highest events }
+{}
+
+/// Where both orders are one they go together.
+pub fn one_goes_together()
+    ensures { (is_fed : ℕ → Bool) (order : List Item) (reader : List Read)
+        → as_read order ≡ reader → GoTogether is_fed order reader }
+{}

@@ -1,0 +1,14 @@
+//! What the two halves of an HTTP/2 connection say to each other and to who serves it: the events of frames that were
+//! read, what may be said on a stream, and the order of all that happens. Start with `RecvEvent`, specs/Items.antt (the
+//! order and what is read off it) and `WirePort`, by which whoever has messages for a stream gives them.
+#![tactic(auto)]
+
+mod event;
+mod laws;
+mod port;
+mod said;
+
+pub use event::{RecvEvent, RecvEvents, RecvFault};
+pub use laws::{highest_of_more, one_goes_together, orders_join, resets_stay};
+pub use port::{Ready, Took, WirePort};
+pub use said::{Piece, Said};

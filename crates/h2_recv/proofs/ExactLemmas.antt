@@ -1,0 +1,133 @@
+-- Octets are read in one way at most.
+use Rattle.std.proofs.Common.{◌≡◌, ℕ, ◌+◌, ◌<◌, ◌≤◌, ◌⊎◌, List, [], ◌∷◌, ◌++◌, length, get_or, drop, refl, sym, ap, subst, ◌∙◌, arith, inl, inr, Option, Some, None, Result, Ok, Err}
+use Rattle.std.proofs.lemmas.List.{append-nil, get_or_append_left}
+use Rattle.h2_frame.specs.Frames.{Frame, Spells, BeginsWith, LeadingFrames, IsPart, IsTooLong, stated_length}
+use Rattle.h2_frame.proofs.Reading.{states_least}
+use Rattle.h2_frame.proofs.Spelling.{alike, not_part}
+use Rattle.h2_events.specs.declared.event.RecvEvent.{RecvEvent}
+use Rattle.h2_events.specs.Events.{largest_frame}
+use Rattle.h2_calls.specs.declared.peer.Peer.{Peer}
+use Rattle.h2_calls.specs.Outcomes.{Told}
+use Rattle.h2_calls.specs.Meanings.{Means}
+use Rattle.h2_calls.specs.Calls.{Moment, read, ended, Calls, AreRead, IsFault, frames_of}
+use Rattle.h2_calls.proofs.OutcomeLemmas.{one_outcome}
+use Rattle.h2_recv.specs.declared.reader.Reader.{Reader}
+use Rattle.h2_recv.specs.Receiving.{share, Opens, Reaches, Reads, FaultStands, Faults, Astray}
+use Rattle.h2_recv.proofs.PieceLemmas.{spelled_length}
+
+-- no frame is read at this place
+abbrev Stuck : Peer → List ℕ → Type 0
+Stuck peer octets = IsPart largest_frame octets ⊎ ((code : ℕ) × FaultStands peer octets code)
+
+begun_alike : (octets n m : List ℕ) (f g : Frame) → BeginsWith largest_frame octets f n → BeginsWith largest_frame octets g m → (f ≡ g) × (n ≡ m)
+begun_alike octets n m f g p q = let h = alike p.front q.front n m f g p.spells q.spells (sym p.joined ∙ q.joined) in (h.1, h.2)
+
+-- a frame that is allowed states no more than is
+not_too_long : (octets after : List ℕ) (f : Frame) → BeginsWith largest_frame octets f after → IsTooLong largest_frame octets → ⊥
+not_too_long octets after f p long =
+    let size : length p.front ≡ 9 + f.head.length = spelled_length p.front f p.spells in
+    let least : stated_length p.front ≤ f.head.length = states_least p.front [] f (subst (λ (o : List ℕ). Spells o f) (sym (append-nil p.front)) p.spells) in
+    let a : get_or octets 0 0 ≡ get_or p.front 0 0 = ap (λ (o : List ℕ). get_or o 0 0) p.joined ∙ get_or_append_left p.front after 0 0 (omega arith) in
+    let b : get_or octets 1 0 ≡ get_or p.front 1 0 = ap (λ (o : List ℕ). get_or o 1 0) p.joined ∙ get_or_append_left p.front after 0 1 (omega arith) in
+    let c : get_or octets 2 0 ≡ get_or p.front 2 0 = ap (λ (o : List ℕ). get_or o 2 0) p.joined ∙ get_or_append_left p.front after 0 2 (omega arith) in
+    omega (arith, long, least, a, b, c, p.allowed)
+
+told_no_fault : (peer : Peer) (f g : Frame) (told : Told) (code : ℕ) → f ≡ g → Means peer f (Ok told) → IsFault peer g code → ⊥
+told_no_fault peer f g told code e p q =
+    let same = one_outcome peer f (Ok told) (Err code) p (subst (λ (k : Frame). IsFault peer k code) (sym e) q) in absurd cc
+
+stuck_no_frame : (peer : Peer) (octets after : List ℕ) (f : Frame) (told : Told) → Stuck peer octets → BeginsWith largest_frame octets f after → Means peer f (Ok told) → ⊥
+stuck_no_frame peer octets after f told (inl part) p means =
+    not_part largest_frame p.front after f p.spells (subst (λ (o : List ℕ). IsPart largest_frame o) p.joined part)
+stuck_no_frame peer octets after f told (inr (code, inl long)) p means = not_too_long octets after f p long.0
+stuck_no_frame peer octets after f told (inr (code, inr stands)) p means =
+    let h = begun_alike octets after stands.1 f stands.0 p stands.2 in
+    told_no_fault peer f stands.0 told code h.0 means stands.3
+
+stuck_first : (peer last : Peer) (octets a : List ℕ) (g : Frame) (e : Option RecvEvent) (two : List Moment) (b : List ℕ) (other : Peer)
+    → octets ≡ a → peer ≡ last → Stuck last a → LeadingFrames largest_frame octets (frames_of (read g e ∷ two)) b → Calls peer (read g e ∷ two) other → ⊥
+stuck_first peer last octets a g e two b other same last_is stuck p q =
+    stuck_no_frame peer octets p.0 g (record { event = e; peer = q.0 })
+    (subst (λ (o : List ℕ). Stuck peer o) (sym same) (subst (λ (k : Peer). Stuck k a) (sym last_is) stuck)) p.1 q.1
+
+same_told : (one other : Told) → ◌≡◌ {A = Result Told ℕ} (Ok one) (Ok other) → (one.event ≡ other.event) × (one.peer ≡ other.peer)
+same_told one other e = let same : one ≡ other = cc in (ap (λ (t : Told). t.event) same, ap (λ (t : Told). t.peer) same)
+
+one_run : (peer last other : Peer) (octets a b : List ℕ) (one two : List Moment)
+    → LeadingFrames largest_frame octets (frames_of one) a → Calls peer one last → AreRead one → Stuck last a
+    → LeadingFrames largest_frame octets (frames_of two) b → Calls peer two other → AreRead two → Stuck other b
+    → (one ≡ two) × (a ≡ b) × (last ≡ other)
+one_run peer last other octets a b [] [] p c r s q d t u = (refl, sym p ∙ q, sym c ∙ d)
+one_run peer last other octets a b [] (read g e ∷ two) p c r s q d t u = absurd (stuck_first peer last octets a g e two b other p c s q d)
+one_run peer last other octets a b (read f e ∷ one) [] p c r s q d t u = absurd (stuck_first peer other octets b f e one a last q d u p c)
+one_run peer last other octets a b (ended n ∷ one) two p c r s q d t u = absurd r
+one_run peer last other octets a b [] (ended n ∷ two) p c r s q d t u = absurd t
+one_run peer last other octets a b (read f e ∷ one) (ended n ∷ two) p c r s q d t u = absurd t
+one_run peer last other octets a b (read f e ∷ one) (read g h ∷ two) p c r s q d t u =
+    let first = begun_alike octets p.0 q.0 f g p.1 q.1 in
+    let told = same_told (record { event = e; peer = c.0 }) (record { event = h; peer = d.0 })
+    (one_outcome peer f (Ok (record { event = e; peer = c.0 })) (Ok (record { event = h; peer = d.0 })) c.1
+    (subst (λ (k : Frame). Means peer k (Ok (record { event = h; peer = d.0 }))) (sym first.0) d.1)) in
+    let more = one_run c.0 last other p.0 a b one two p.2 c.2 r s
+    (subst (λ (o : List ℕ). LeadingFrames largest_frame o (frames_of two) b) (sym first.1) q.2)
+    (subst (λ (k : Peer). Calls k two other) (sym told.1) d.2) t u in
+    (ap (λ (k : Frame). read k e ∷ one) first.0 ∙ ap (λ (k : Option RecvEvent). read g k ∷ one) told.0 ∙ ap (λ (k : List Moment). read g h ∷ k) more.0, more.1, more.2)
+
+-- ---- the preface
+
+opened_alike : (begun now other : ℕ) (piece b c : List ℕ) → Opens begun piece now b → Opens begun piece other c → (now ≡ other) × (b ≡ c)
+opened_alike begun now other piece b c p q = (p.now_is ∙ sym q.now_is, p.behind_is ∙ sym q.behind_is)
+
+one_reach : (old : Reader) (piece a b : List ℕ) (one two : List Moment) (now then : ℕ) (last other : Peer)
+    → Reaches old piece one a now last → Stuck last a → Reaches old piece two b then other → Stuck other b
+    → (one ≡ two) × (a ≡ b) × (last ≡ other) × (now ≡ then)
+one_reach old piece a b one two now then last other p s q u =
+    let o = opened_alike old.begun now then piece p.behind q.behind p.opened q.opened in
+    let run = one_run old.peer last other (old.rest ++ p.behind) a b one two p.leading p.calls p.read s
+    (subst (λ (k : List ℕ). LeadingFrames largest_frame (old.rest ++ k) (frames_of two) b) (sym o.1) q.leading) q.calls q.read u in
+    (run.0, run.1, run.2, o.0)
+
+same_readers : (one other : Reader) → one.rest ≡ other.rest → one.peer ≡ other.peer → one.begun ≡ other.begun → one ≡ other
+same_readers one other r p b =
+    ap (λ (k : List ℕ). record { begun = one.begun; rest = k; peer = one.peer }) r
+    ∙ ap (λ (k : Peer). record { begun = one.begun; rest = other.rest; peer = k }) p
+    ∙ ap (λ (k : ℕ). record { begun = k; rest = other.rest; peer = other.peer }) b
+
+pub one_read : (old new other : Reader) (piece : List ℕ) (one two : List Moment) → Reads old piece one new → Reads old piece two other → (one ≡ two) × (new ≡ other)
+one_read old new other piece one two p q =
+    let h = one_reach old piece new.rest other.rest one two new.begun other.begun new.peer other.peer p.reaches (inl p.part) q.reaches (inl q.part) in
+    (h.0, same_readers new other h.1 h.2 h.3)
+
+one_code : (peer : Peer) (octets : List ℕ) (code other : ℕ) → FaultStands peer octets code → FaultStands peer octets other → code ≡ other
+one_code peer octets code other (inl p) (inl q) = p.1 ∙ sym q.1
+one_code peer octets code other (inl p) (inr q) = absurd (not_too_long octets q.1 q.0 q.2 p.0)
+one_code peer octets code other (inr p) (inl q) = absurd (not_too_long octets p.1 p.0 p.2 q.0)
+one_code peer octets code other (inr p) (inr q) =
+    let h = begun_alike octets p.1 q.1 p.0 q.0 p.2 q.2 in
+    let same = one_outcome peer p.0 (Err code) (Err other) p.3 (subst (λ (k : Frame). IsFault peer k other) (sym h.0) q.3) in cc
+
+pub one_fault : (old : Reader) (piece : List ℕ) (one two : List Moment) (code other : ℕ) → Faults old piece one code → Faults old piece two other → (one ≡ two) × (code ≡ other)
+one_fault old piece one two code other p q =
+    let h = one_reach old piece p.after q.after one two p.begun q.begun p.peer q.peer p.reaches (inr (code, p.stands)) q.reaches (inr (other, q.stands)) in (
+      h.0,
+      one_code p.peer p.after code other p.stands
+          (subst (λ (k : Peer). FaultStands k p.after other) (sym h.2) (subst (λ (o : List ℕ). FaultStands q.peer o other) (sym h.1) q.stands)),
+    )
+
+pub part_no_fault : (peer : Peer) (octets : List ℕ) (code : ℕ) → IsPart largest_frame octets → FaultStands peer octets code → ⊥
+part_no_fault peer octets code part (inl long) =
+    let least : stated_length octets ≤ part.frame.head.length = states_least octets part.missing part.frame part.whole in
+    omega (arith, long.0, least, part.allowed)
+part_no_fault peer octets code part (inr q) =
+    not_part largest_frame q.2.front q.1 q.0 q.2.spells (subst (λ (o : List ℕ). IsPart largest_frame o) q.2.joined part)
+
+pub read_no_fault : (old new : Reader) (piece : List ℕ) (one two : List Moment) (code : ℕ) → Reads old piece one new → Faults old piece two code → ⊥
+read_no_fault old new piece one two code p q =
+    let h = one_reach old piece new.rest q.after one two new.begun q.begun new.peer q.peer p.reaches (inl p.part) q.reaches (inr (code, q.stands)) in
+    part_no_fault q.peer q.after code (subst (λ (o : List ℕ). IsPart largest_frame o) h.1 p.part) q.stands
+
+pub read_not_astray : (old new : Reader) (piece : List ℕ) (one two : List Moment) (code : ℕ) → Reads old piece one new → Astray old piece two code → ⊥
+read_not_astray old new piece one two code p q = q.departs p.reaches.opened.goes_on
+
+pub fault_not_astray : (old : Reader) (piece : List ℕ) (one two : List Moment) (code other : ℕ) → Faults old piece one code → Astray old piece two other → ⊥
+fault_not_astray old piece one two code other p q = q.departs p.reaches.opened.goes_on

@@ -1,0 +1,5 @@
+pub mod ExactLemmas
+pub mod FrameLemmas
+pub mod JoinLemmas
+pub mod PieceLemmas
+pub mod RunLemmas

@@ -1,0 +1,14 @@
+//! The receiving half of an HTTP/2 connection: octets of a client in any pieces in, events out. Start with `Recv` and
+//! specs/Receiving.antt; what a whole frame means stands in h2_calls.
+#![tactic(auto)]
+
+mod laws;
+mod preface;
+mod reader;
+mod recv;
+mod unread;
+
+pub use laws::{one_reading, pieces_join};
+pub use reader::Reader;
+pub use recv::Recv;
+pub use unread::Unread;

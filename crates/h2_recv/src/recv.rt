@@ -1,0 +1,161 @@
+//! The receiver.
+ghost use Rattle.std.specs.Prelude.{◌≡◌, ◌≤◌, ◌<◌, ◌↔◌, ℕ, List, length, Ok, Err, OnOk, IsTrue};
+ghost use Rattle.h2_frame.specs.Frames.{IsPart};
+ghost use Rattle.h2_calls.specs.Calls.{Moment, frames_of};
+ghost use Rattle.h2_recv.specs.declared.reader.Reader.{Reader as Reading};
+ghost use Rattle.h2_recv.specs.Receiving.{Fed, Reads, EndsFrame, new_reader, state_ended, wanted, missing, held, most_held};
+ghost use Rattle.h2_recv.specs.inner.Steps.{HasRead, HasFailed, HasStopped};
+
+use crate::preface::{PREFACE_OCTETS, goes_on, share};
+use crate::reader::{Reader, wanted};
+use crate::unread::Unread;
+use h2_calls::Peer;
+use h2_events::{RecvEvents, RecvFault};
+use h2_frame::PROTOCOL_ERROR;
+use std::alloc::Global;
+use std::marker::Model;
+
+/// Reads what a client sends, in any pieces.
+#[derive(Debug, Drop)]
+pub struct Recv {
+    reader: Reader,
+    fault: Option<RecvFault>,
+}
+
+impl Model for Recv {
+    ghost use Rattle.std.specs.Prelude.{◌≤◌};
+    ghost use Rattle.h2_frame.specs.Frames.{IsPart};
+    ghost use Rattle.h2_recv.specs.Receiving.{State, state_of};
+
+    ghost Value = { State };
+
+    ghost view = { λ r. state_of r.fault r.reader };
+
+    ghost invariant = { λ r. (r.reader.begun ≤ 24) × IsPart 16384 r.reader.rest };
+}
+
+impl Recv {
+    /// A receiver to which nothing came. Takes no memory.
+    pub fn make(alloc: Global) -> Recv
+        ensures { result ≡ Ok new_reader }
+    {
+        Recv {
+            reader: Reader::unread(alloc),
+            fault: None,
+        }
+    }
+
+    /// Takes the next octets. The events of the frames that are whole then are put to the others. After a fault it
+    /// answers that fault for ever.
+    pub fn feed(
+        &mut self,
+        alloc: Global,
+        piece: &[u8],
+        out: &mut RecvEvents,
+    ) -> Result<(), RecvFault>
+        ensures { Fed self.old piece.now out.old result self.new out.new }
+    {
+        if let Some(fault) = self.fault {
+            return Err(fault);
+        }
+        match self.reader.read(alloc, piece, out) {
+            Ok(()) => Ok(()),
+            Err(fault) => {
+                self.fault = Some(fault);
+                self.reader = Reader::unread(alloc);
+                Err(fault)
+            }
+        }
+    }
+
+    /// This side has ended a stream: it has written END_STREAM on it.
+    pub fn ended(&mut self, stream: u32)
+        ensures { self.new ≡ state_ended stream self.old }
+    {
+        self.reader.peer.ended(stream);
+    }
+
+    /// How many octets more may come until a frame is whole: a piece that is no longer holds one frame at most.
+    pub fn wanted(&self) -> usize
+        ensures is { result ≡ wanted self.now }
+        ensures some { 0 < result }
+        ensures one { (old new : Reading) (piece : List ℕ) (moments : List Moment)
+            → self.now ≡ Ok old → length piece ≤ result → Reads old piece moments new
+            → length (frames_of moments) ≤ 1 }
+    {
+        if self.fault.is_some() {
+            return 1;
+        }
+        self.reader.wanted()
+    }
+
+    /// How many octets of frames are kept: those of a frame that isn't whole, and of a header block. None after a fault.
+    #[tactic(auto, using(crate::proofs::PieceLemmas::part_length))]
+    pub fn held(&self) -> usize
+        ensures value { result ≡ held self.now }
+        ensures bounded { result ≤ most_held }
+    {
+        if self.fault.is_some() {
+            return 0;
+        }
+        self.reader.rest.len() + self.reader.peer.block_len()
+    }
+
+    /// Whether the octets so far end where a frame ends, behind the preface.
+    pub fn whole(&self) -> bool
+        ensures { IsTrue result ↔ EndsFrame self.now }
+    {
+        self.fault.is_none() && self.reader.peer.greeted && self.reader.rest.is_empty()
+    }
+}
+
+impl Reader {
+    // Nothing was read.
+    #[tactic(auto, using(crate::proofs::RunLemmas::part_of_nothing))]
+    fn unread(alloc: Global) -> Reader
+        ensures is { result ≡ new_reader }
+        ensures begun { result.begun ≤ 24 }
+        ensures part { IsPart 16384 result.rest }
+    {
+        Reader {
+            begun: 0,
+            rest: Unread::empty(alloc),
+            peer: Peer::make(alloc),
+        }
+    }
+
+    fn wanted(&self) -> usize
+        requires begun { self.now.begun ≤ 24 }
+        requires part { IsPart 16384 self.now.rest }
+        ensures is { result ≡ missing self.now }
+        ensures some { 0 < result }
+        ensures one { (new : Reading) (piece : List ℕ) (moments : List Moment)
+            → length piece ≤ result → Reads self.now piece moments new
+            → length (frames_of moments) ≤ 1 }
+    {
+        if self.begun < PREFACE_OCTETS {
+            PREFACE_OCTETS - self.begun
+        } else {
+            wanted(self.rest.items())
+        }
+    }
+
+    fn read(&mut self, alloc: Global, piece: &[u8], out: &mut RecvEvents) -> Result<(), RecvFault>
+        requires begun { self.old.begun ≤ 24 }
+        requires part { IsPart 16384 self.old.rest }
+        ensures begun { self.new.begun ≤ 24 }
+        ensures part { OnOk result (IsPart 16384 self.new.rest) }
+        ensures ok { OnOk result (HasRead self.old piece.now out.old self.new out.new) }
+        ensures fault { (code : ℕ) → result ≡ Err (RecvFault.Protocol code)
+            → HasFailed code self.old piece.now out.old out.new }
+        ensures memory { result ≡ Err RecvFault.NoMemory
+            → HasStopped self.old piece.now out.old out.new }
+    {
+        if !goes_on(self.begun, piece) {
+            return Err(RecvFault::Protocol(PROTOCOL_ERROR));
+        }
+        let share = share(self.begun, piece);
+        self.begun += share;
+        self.frames(alloc, &piece[share..], out)
+    }
+}
