@@ -1,0 +1,4 @@
+pub mod Acting
+pub mod Lines
+pub mod Wires
+pub mod worked

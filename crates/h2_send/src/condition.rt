@@ -1,0 +1,49 @@
+ghost use Rattle.std.specs.Prelude.{◌≡◌};
+ghost use Rattle.h2_send.specs.Wires.{answer_of, answered, condition_after};
+
+use crate::fault::WireFaultOut;
+use edge_traits::Failed;
+
+/// Whether a wire still writes, and if not, what closed it.
+#[derive(Clone, Copy, Debug, PartialEq, Eq)]
+pub enum Condition {
+    Open,
+    /// By `finish`.
+    Finished,
+    WriteFault,
+    NoMemory,
+}
+
+/// What a wire answers from then on.
+pub(crate) fn answer_of(condition: Condition) -> Result<(), WireFaultOut>
+    ensures { result ≡ answer_of condition }
+{
+    match condition {
+        Condition::Open => Ok(()),
+        Condition::Finished => Ok(()),
+        Condition::WriteFault => Err(WireFaultOut::WriteFault),
+        Condition::NoMemory => Err(WireFaultOut::NoMemory),
+    }
+}
+
+/// What a call leaves of an open wire, where `next` follows on Ok.
+pub(crate) fn condition_after(next: Condition, done: &Result<(), WireFaultOut>) -> Condition
+    ensures { result ≡ condition_after next done.now }
+{
+    match done {
+        Ok(()) => next,
+        Err(WireFaultOut::WriteFault) => Condition::WriteFault,
+        Err(WireFaultOut::NoMemory) => Condition::NoMemory,
+        Err(WireFaultOut::Overflow) => Condition::Open,
+    }
+}
+
+/// What a call answers of a sink.
+pub(crate) fn answered(done: Result<(), Failed>) -> Result<(), WireFaultOut>
+    ensures { result ≡ answered done }
+{
+    match done {
+        Ok(()) => Ok(()),
+        Err(_) => Err(WireFaultOut::WriteFault),
+    }
+}

@@ -1,0 +1,11 @@
+-- What may wait at most.
+use Rattle.std.specs.Prelude.{ℕ, ◌≤◌, List, length}
+
+-- the octets that may wait on one stream: a message of at most 4,194,304 and the five octets before it
+abbrev pub largest_pending : ℕ
+largest_pending = 4194309
+
+-- so many of these octets are sent, and they are no more than may wait
+pub record HoldsWithin (sent : ℕ) (octets : List ℕ) : Type 0 where
+  pub sent_within : sent ≤ length octets
+  pub bound : length octets ≤ largest_pending
