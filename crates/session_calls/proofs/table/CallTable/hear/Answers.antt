@@ -1,0 +1,16 @@
+use Rattle.std.proofs.Common.{◌≡◌, List, ◌++◌, sym, ap, ◌∙◌}
+use Rattle.std.specs.Prelude.{option_to_list}
+use Rattle.h2_events.specs.declared.event.RecvEvent.{RecvEvent}
+use Rattle.session_calls.specs.declared.request.Request.{Request}
+use Rattle.session_calls.specs.Requests.{requests, request_with}
+use Rattle.session_calls.proofs.Tables.{requests_more}
+use Rattle.session_calls.proofs.table.CallTable.hear.Goals as goal
+
+pub returns-in-Ok-clause-request : goal.returns-in-Ok-clause-request
+returns-in-Ok-clause-request c =
+    let heard = c.args.self.now in
+    let event = c.args.event.now in
+    let view = c.self.view_is in
+    let same : heard ≡ c.self.inside.heard = cc in
+    let more : option_to_list c.in-Ok.request ≡ request_with heard event = c.in-Ok.ensures.request c.self.inside.heard c.self.invariant ∙ ap (λ (hs : List RecvEvent). request_with hs event) (sym same) in
+    requests_more heard event ∙ ap (λ (rs : List Request). requests heard ++ rs) (sym more)

@@ -1,0 +1,108 @@
+ghost use Rattle.std.specs.Prelude.{◌≡◌, [], ◌∷◌, ◌++◌, option_to_list, List, OnOk, OnErr, IfOk, IfSome};
+ghost use Rattle.h2_events.specs.declared.event.RecvEvent.{RecvEvent as Event};
+ghost use Rattle.session_calls.specs.Calls.{stream_of};
+ghost use Rattle.session_calls.specs.Requests.{requests, request_with};
+ghost use Rattle.session_calls.specs.inner.Tables.{KeepsAll};
+
+use crate::open_call::{OpenCall, Step, call_after};
+use crate::request::Request;
+use base_lists::{NoMemory, Remembered};
+use h2_events::RecvEvent;
+use std::alloc::Global;
+use std::collections::BTreeMap;
+use std::marker::Model;
+
+/// The calls that are open on a connection. Contracts see the events that were heard, of which nothing else is kept than
+/// the calls: of each, the message that isn't whole yet and two messages at most.
+#[derive(Drop)]
+pub struct CallTable {
+    calls: BTreeMap<u32, OpenCall>,
+    heard: Remembered<RecvEvent>,
+}
+
+impl Model for CallTable {
+    ghost use Rattle.std.specs.Prelude.{List};
+    ghost use Rattle.h2_events.specs.declared.event.RecvEvent.{RecvEvent as EventValue};
+    ghost use Rattle.session_calls.specs.inner.Tables.{KeepsAll as KeepsEach};
+
+    ghost Value = { List EventValue };
+
+    ghost view = { λ t. t.heard };
+
+    ghost invariant = { λ t. KeepsEach t.heard t.calls };
+}
+
+impl CallTable {
+    /// At the beginning of a connection. Takes no memory.
+    pub fn make(alloc: Global) -> CallTable
+        ensures { result ≡ [] }
+    {
+        CallTable {
+            calls: BTreeMap::new(alloc),
+            heard: Remembered::nothing(),
+        }
+    }
+
+    /// Hears the next event, and answers the request that is whole with it. Where memory ran out all calls are lost.
+    pub fn hear(&mut self, alloc: Global, event: &RecvEvent) -> Result<Option<Request>, NoMemory>
+        ensures heard { OnOk result (self.new ≡ self.old ++ event.now ∷ []) }
+        ensures request { IfOk result (λ request.
+            requests (self.old ++ event.now ∷ []) ≡ requests self.old ++ option_to_list request) }
+        ensures lost { OnErr result (self.new ≡ []) }
+    {
+        match hear_in(alloc, &mut self.calls, event) {
+            Ok(request) => {
+                self.heard.remember(event);
+                Ok(request)
+            }
+            Err(fault) => {
+                self.calls = BTreeMap::new(alloc);
+                self.heard = Remembered::nothing();
+                Err(fault)
+            }
+        }
+    }
+}
+
+fn hear_in(
+    alloc: Global,
+    calls: &mut BTreeMap<u32, OpenCall>,
+    event: &RecvEvent,
+) -> Result<Option<Request>, NoMemory>
+    ensures keeps { (heard : List Event) → KeepsAll heard calls.old
+        → OnOk result (KeepsAll (heard ++ event.now ∷ []) calls.new) }
+    ensures request { (heard : List Event) → KeepsAll heard calls.old
+        → IfOk result (λ request. option_to_list request ≡ request_with heard event.now) }
+{
+    let Some(stream) = stream_of(event) else {
+        return Ok(None);
+    };
+    let call = calls.remove(&stream);
+    match call_after(alloc, call, event)? {
+        Step::None => Ok(None),
+        Step::Open(call) => {
+            calls.insert(stream, call)?;
+            Ok(None)
+        }
+        Step::Asked(asked) => Ok(Some(Request { stream, asked })),
+    }
+}
+
+/// The stream of an event of a call.
+fn stream_of(event: &RecvEvent) -> Option<u32>
+    ensures { result ≡ stream_of event.now }
+{
+    match event {
+        RecvEvent::Call(stream, _, _) => Some(*stream),
+        RecvEvent::TooLong(stream) => Some(*stream),
+        RecvEvent::Piece(stream, _, _, _) => Some(*stream),
+        RecvEvent::Trailers(stream) => Some(*stream),
+        RecvEvent::Reset(stream) => Some(*stream),
+        RecvEvent::StreamFault(stream, _) => Some(*stream),
+        RecvEvent::Settings(_, _) => None,
+        RecvEvent::SettingsAck => None,
+        RecvEvent::Ping(_) => None,
+        RecvEvent::Window(_, _) => None,
+        RecvEvent::GoAway => None,
+    }
+}
