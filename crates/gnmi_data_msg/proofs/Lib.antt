@@ -1,0 +1,5 @@
+pub mod Texts
+pub mod FieldsIn
+pub mod Pieces
+pub mod Held
+pub mod ReadBack

@@ -1,0 +1,57 @@
+-- What messages are made of (protobuf.dev, "Encoding"): fields, strings, and messages under one number. `None` stands where
+-- the octets are no such message.
+use Rattle.std.specs.Prelude.{ℕ, zero, suc, List, [], ◌∷◌, length, Bool, Option, Some, None, unwrap_or, if◌then◌else◌, Result, Ok, Err, ◌≡◌}
+use Rattle.std.specs.List.{list_all}
+use Rattle.std.specs.Str.{is_utf8}
+use Rattle.base_lists.specs.Options.{◌>>=◌}
+use Rattle.pb_wire.specs.declared.field.Field.{Field}
+use Rattle.pb_wire.specs.inner.Reading.{field_at}
+use Rattle.pb_wire.specs.Values.{occurrences, last_octets}
+use Rattle.gnmi_data_msg.specs.declared.fault.MsgFault.{MsgFault}
+use Rattle.gnmi_data_msg.specs.declared.fault.MsgFault.TheVariants as faults
+
+-- A call's answer is the value that is defined, and BadMessage exactly where there is none. Memory may be wanting.
+abbrev pub IsReadAs : {A : Type 0} → Result A MsgFault → Option A → Type 0
+IsReadAs (Ok a) defined = defined ≡ Some a
+IsReadAs (Err faults.BadMessage) defined = defined ≡ None
+IsReadAs (Err faults.NoMemory) defined = Unit {0}
+
+-- the octets that are the last of a message of `total` octets, as so many fields at most
+unfoldable pub fields_from : ℕ → ℕ → List ℕ → Option (List Field)
+fields_from total steps [] = Some []
+fields_from total zero (octet ∷ octets) = None
+fields_from total (suc steps) (octet ∷ octets) = do
+  first ← field_at total (octet ∷ octets)
+  others ← fields_from total steps first.1
+  Some (first.0 ∷ others)
+
+-- The fields of a message, which no message has in two ways: `fields_are_the_message` says that they are those of pb_wire's
+-- definition, which these steps only compute.
+unfoldable pub fields_in : List ℕ → Option (List Field)
+fields_in octets = fields_from (length octets) (length octets) octets
+
+-- what each item gives, in order, where each gives something
+abbrev pub each : {A B : Type 0} → (A → Option B) → List A → Option (List B)
+each f [] = Some []
+each f (item ∷ items) = do
+  first ← f item
+  others ← each f items
+  Some (first ∷ others)
+
+-- the messages of a repeated field
+abbrev pub messages_in : {A : Type 0} → (List ℕ → Option A) → List ℕ → ℕ → List Field → Option (List A)
+messages_in meaning message number fields = each meaning (occurrences message number fields)
+
+-- a string is UTF-8
+abbrev pub text_of : List ℕ → Option (List ℕ)
+text_of octets = if is_utf8 octets then Some octets else None
+
+-- each string of the number is UTF-8
+abbrev pub are_texts : List ℕ → ℕ → List Field → Bool
+are_texts message number fields = list_all is_utf8 (occurrences message number fields)
+
+-- A single string: the last one counts, the others have to be UTF-8 too, and an absent one is empty.
+abbrev pub single_text : List ℕ → ℕ → List Field → Option (List ℕ)
+single_text message number fields =
+    if are_texts message number fields then text_of (unwrap_or (last_octets message number fields) [])
+    else None

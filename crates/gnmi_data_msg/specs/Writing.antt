@@ -1,0 +1,66 @@
+-- The octets in which paths and values are written: fields by rising number, keys by their names, and no empty string (protobuf.dev,
+-- "Encoding", "Default Values").
+use Rattle.std.specs.Prelude.{ℕ, ℤ, zero, suc, List, [], ◌∷◌, ◌++◌, Bool, true, false, if◌then◌else◌}
+use Rattle.std.specs.List.{flat_map}
+use Rattle.std.specs.Int.{w64, cast_unsigned}
+use Rattle.base_kinds.specs.declared.path.Elem.{Elem}
+use Rattle.base_kinds.specs.declared.value.Value.{Value}
+use Rattle.base_kinds.specs.declared.value.Value as v
+use Rattle.base_kinds.specs.Values.{is_list, values_in}
+use Rattle.pb_wire.specs.Values.{map_key, map_value}
+use Rattle.pb_wire.specs.Writing.{varint_field, octets_field}
+use Rattle.gnmi_data_msg.specs.Numbers.{path_elem, path_target, elem_name, elem_key, string_val, int_val, uint_val, bool_val, bytes_val, decimal_val, leaflist_val, decimal_digits, decimal_precision, array_element}
+
+-- a single string, which isn't written where it is empty
+abbrev pub text_field : ℕ → List ℕ → List ℕ
+text_field number [] = []
+text_field number (octet ∷ octets) = octets_field number (octet ∷ octets)
+
+-- the messages of a repeated field
+abbrev pub message_fields : {A : Type 0} → (A → List ℕ) → ℕ → List A → List ℕ
+message_fields octets_of number items = flat_map (λ item. octets_field number (octets_of item)) items
+
+abbrev pub entry_octets : List ℕ × List ℕ → List ℕ
+entry_octets entry = text_field map_key entry.0 ++ text_field map_value entry.1
+
+abbrev pub elem_octets : Elem → List ℕ
+elem_octets elem = text_field elem_name elem.name ++ message_fields entry_octets elem_key elem.keys
+
+abbrev pub path_octets : List Elem → List ℕ
+path_octets path = message_fields elem_octets path_elem path
+
+-- a path that has a target alone, as the prefix of a notification
+abbrev pub target_octets : List ℕ → List ℕ
+target_octets target = text_field path_target target
+
+-- a single number, which isn't written where it is 0
+abbrev pub number_field : ℕ → ℕ → List ℕ
+number_field number zero = []
+number_field number (suc n) = varint_field number (suc n)
+
+-- a Decimal64
+abbrev pub decimal_octets : ℤ → ℕ → List ℕ
+decimal_octets digits places =
+    number_field decimal_digits (cast_unsigned w64 digits) ++ number_field decimal_precision places
+
+abbrev pub bit_of : Bool → ℕ
+bit_of false = 0
+bit_of true = 1
+
+-- a TypedValue with the scalar of a leaf, which is written whatever it is; a list is none
+abbrev pub scalar_octets : Value → List ℕ
+scalar_octets (v.Bool b) = varint_field bool_val (bit_of b)
+scalar_octets (v.Int number) = varint_field int_val (cast_unsigned w64 number)
+scalar_octets (v.Uint number) = varint_field uint_val number
+scalar_octets (v.Dec digits places) = octets_field decimal_val (decimal_octets digits places)
+scalar_octets (v.Text text) = octets_field string_val text
+scalar_octets (v.Bin octets) = octets_field bytes_val octets
+scalar_octets (v.Enum text) = octets_field string_val text
+scalar_octets (v.List' n values) = []
+
+-- a TypedValue with the value of a leaf or a leaf-list (gNMI 2.3.4)
+abbrev pub value_octets : Value → List ℕ
+value_octets value =
+    if is_list value
+    then octets_field leaflist_val (message_fields scalar_octets array_element (values_in value))
+    else scalar_octets value

@@ -1,0 +1,23 @@
+use base_lists::NoMemory;
+use thiserror::Error;
+
+/// Why no message was read.
+#[derive(Clone, Copy, Debug, PartialEq, Eq, Error)]
+pub enum MsgFault {
+    /// The octets aren't fields, here or in a message inside this one, or a string isn't UTF-8.
+    #[error("bad message")]
+    BadMessage,
+    #[error("no memory")]
+    NoMemory,
+}
+
+impl From<NoMemory> for MsgFault {
+    ghost use Rattle.std.specs.Prelude.{◌≡◌};
+    ghost use Rattle.gnmi_data_msg.specs.declared.fault.MsgFault.TheVariants.{NoMemory as OutOfMemory};
+
+    ghost from_gives = { λ _ fault. fault ≡ OutOfMemory };
+
+    fn from(_e: NoMemory) -> MsgFault {
+        MsgFault::NoMemory
+    }
+}

@@ -1,0 +1,96 @@
+//! Writing a Path.
+ghost use Rattle.std.specs.Prelude.{◌≡◌, ◌++◌, ◌≤◌, IfOk, OnOk, OnErr};
+ghost use Rattle.gnmi_data_msg.specs.Writing.{text_field, message_fields, path_octets};
+
+use crate::numbers::{ELEM_KEY, ELEM_NAME, ENTRY_KEY, ENTRY_VALUE, PATH_ELEM};
+use base_kinds::{Elem, Path};
+use base_lists::{Bytes, NoMemory, Text};
+use pb_wire::put_octets;
+use std::alloc::Global;
+
+/// A value that is written as one message.
+pub trait Written {
+    ghost use Rattle.std.specs.Prelude.{List, ℕ};
+
+    ghost octets: { Self → List ℕ };
+
+    fn written(&self, alloc: Global) -> Result<Bytes, NoMemory>
+        ensures { IfOk result (λ message. message ≡ octets self.now) };
+}
+
+/// Adds the messages of a repeated field. What was added before memory ran out stays.
+pub fn put_messages<T: Written>(
+    alloc: Global,
+    number: u32,
+    items: &[T],
+    out: &mut Bytes,
+) -> Result<(), NoMemory>
+    requires some { 1 ≤ number }
+    requires one_octet { number ≤ 15 }
+    ensures { OnOk result (out.new ≡ out.old ++ message_fields T.octets number items.now) }
+{
+    for item in items {
+        let message = item.written(alloc)?;
+        put_octets(number, message.items(), out)?;
+    }
+    Ok(())
+}
+
+/// Adds a single string, where it isn't empty.
+pub fn put_text(number: u32, text: &[u8], out: &mut Bytes) -> Result<(), NoMemory>
+    requires some { 1 ≤ number }
+    requires one_octet { number ≤ 15 }
+    ensures { OnOk result (out.new ≡ out.old ++ text_field number text.now) }
+{
+    if text.is_empty() {
+        return Ok(());
+    }
+    put_octets(number, text, out)
+}
+
+impl Written for (Text, Text) {
+    ghost use Rattle.gnmi_data_msg.specs.Writing.{entry_octets};
+
+    ghost octets = { entry_octets };
+
+    fn written(&self, alloc: Global) -> Result<Bytes, NoMemory> {
+        let mut message = Bytes::empty(alloc);
+        put_text(ENTRY_KEY, self.0.octets(), &mut message)?;
+        put_text(ENTRY_VALUE, self.1.octets(), &mut message)?;
+        Ok(message)
+    }
+}
+
+impl Written for Elem {
+    ghost use Rattle.gnmi_data_msg.specs.Writing.{elem_octets};
+
+    ghost octets = { elem_octets };
+
+    fn written(&self, alloc: Global) -> Result<Bytes, NoMemory> {
+        let mut message = Bytes::empty(alloc);
+        put_text(ELEM_NAME, self.name.octets(), &mut message)?;
+        put_messages(alloc, ELEM_KEY, self.keys.items(), &mut message)?;
+        Ok(message)
+    }
+}
+
+impl Written for Path {
+    ghost use Rattle.gnmi_data_msg.specs.Writing.{path_octets};
+
+    ghost octets = { path_octets };
+
+    fn written(&self, alloc: Global) -> Result<Bytes, NoMemory> {
+        let mut message = Bytes::empty(alloc);
+        put_messages(alloc, PATH_ELEM, self.items(), &mut message)?;
+        Ok(message)
+    }
+}
+
+/// Adds the octets of a Path of these elements, without origin and target. After want of memory nothing is added.
+pub fn write_path(alloc: Global, path: &Path, out: &mut Bytes) -> Result<(), NoMemory>
+    ensures ok { OnOk result (out.new ≡ out.old ++ path_octets path.now) }
+    ensures err { OnErr result (out.new ≡ out.old) }
+{
+    let message = path.written(alloc)?;
+    out.extend_from_slice(message.items())
+}

@@ -1,0 +1,5 @@
+pub mod FieldSteps
+pub mod MemberSteps
+pub mod Repeated
+pub mod ValueSteps
+pub mod Written
