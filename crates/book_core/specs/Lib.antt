@@ -1,0 +1,8 @@
+pub mod Calls
+pub mod Cores
+pub mod inner
+pub mod Moments
+pub mod Openings
+pub mod Singles
+pub mod Views
+pub mod worked

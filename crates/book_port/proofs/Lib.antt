@@ -1,0 +1,4 @@
+pub mod Answering
+pub mod Chronicled
+pub mod Following
+pub mod Runs
