@@ -1,3 +1,3 @@
 pub mod LogView
+pub mod Refusals
 pub mod StandsFor
-pub mod TreeRefusal

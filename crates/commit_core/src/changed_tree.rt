@@ -3,7 +3,7 @@ ghost use Rattle.std.specs.Prelude.{◌≡◌, true, IfOk, IfErr, OnOk};
 ghost use Rattle.base_kinds.specs.Tree.{effect, in_turn, with_act};
 ghost use Rattle.base_kinds.specs.Valid.{valid, fits};
 ghost use Rattle.base_kinds.specs.Rising.{IsRising};
-ghost use Rattle.commit_core.specs.inner.TreeRefusal.{IsTreeRefusal};
+ghost use Rattle.commit_core.specs.inner.Refusals.{IsTreeRefusal};
 
 use base_kinds::{Act, NoMemory, Op, Path, Paths, Refusal, Rows, TreeLike};
 use schema_core::Schema;
@@ -55,15 +55,22 @@ fn every_row<T: TreeLike>(alloc: Global, tree: &T) -> Result<Rows, NoMemory>
     tree.part(alloc, &patterns)
 }
 
-/// The tree after the operations: the deletes, then the replaces, then the updates, each in list order.
+/// A copy of the tree, after the operations.
 fn tree_after<T: TreeLike + Drop>(alloc: Global, tree: &T, ops: &[Op]) -> Result<T, NoMemory>
     ensures { IfOk result (λ next. T.rows next ≡ effect ops.now (T.rows tree.now)) }
 {
     let mut next = tree.copy(alloc)?;
-    apply_all(alloc, &mut next, Act::Delete, ops)?;
-    apply_all(alloc, &mut next, Act::Replace, ops)?;
-    apply_all(alloc, &mut next, Act::Update, ops)?;
+    apply_ops(alloc, &mut next, ops)?;
     Ok(next)
+}
+
+/// Applies the operations: the deletes, then the replaces, then the updates, each in list order.
+pub fn apply_ops<T: TreeLike>(alloc: Global, tree: &mut T, ops: &[Op]) -> Result<(), NoMemory>
+    ensures { OnOk result (T.rows tree.new ≡ effect ops.now (T.rows tree.old)) }
+{
+    apply_all(alloc, tree, Act::Delete, ops)?;
+    apply_all(alloc, tree, Act::Replace, ops)?;
+    apply_all(alloc, tree, Act::Update, ops)
 }
 
 /// Applies the operations that have this act.

@@ -1,6 +1,6 @@
-ghost use Rattle.std.specs.Prelude.{◌≡◌, [], ◌∷◌, ◌++◌, ◌+◌, ◌<◌, ◌≤◌, OnOk};
+ghost use Rattle.std.specs.Prelude.{◌≡◌, [], ◌∷◌, ◌++◌, ◌+◌, ◌<◌, ◌≤◌, OnOk, OnErr};
 
-use base_kinds::{Entry, NoMemory};
+use base_kinds::{Entries, Entry, NoMemory};
 use std::alloc::Global;
 use std::marker::Model;
 
@@ -35,18 +35,39 @@ impl Log {
         }
     }
 
+    /// The log of these entries. Takes no memory.
+    pub fn of(entries: Entries) -> Log
+        ensures { result.items ≡ entries }
+    {
+        Log {
+            stored: entries.into_vec(),
+        }
+    }
+
     pub fn items(&self) -> &[Entry]
         ensures { result.now ≡ self.now.items }
     {
         self.stored.as_slice()
     }
 
-    /// Takes room for so many more entries.
+    /// The entries. Takes no memory.
+    pub fn into_entries(self) -> Entries
+        ensures { result ≡ self.items }
+    {
+        let Log { stored } = self;
+        Entries::from_vec(stored)
+    }
+
+    /// Takes room for so many more entries, where there is less.
     pub fn reserve(&mut self, more: usize) -> Result<(), NoMemory>
         ensures items { self.new.items ≡ self.old.items }
         ensures ok { OnOk result (more ≤ self.new.room) }
         ensures kept { self.old.room ≤ self.new.room }
+        ensures enough { OnErr result (self.old.room < more) }
     {
+        if self.stored.capacity() - self.stored.len() >= more {
+            return Ok(());
+        }
         self.stored.reserve(more)?;
         Ok(())
     }

@@ -4,3 +4,4 @@ pub mod Pieces
 pub mod PlainHistories
 pub mod Runs
 pub mod ScriptLaws
+pub mod ScriptTexts

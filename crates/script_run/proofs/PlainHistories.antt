@@ -15,10 +15,9 @@ use Rattle.base_kinds.specs.declared.operation.Row.{Row}
 use Rattle.base_kinds.specs.Events.{is_long, view_or_not_found, get_answer, history_after_get}
 use Rattle.base_kinds.specs.History.{World, world_after, world_from, world_of, stamp_of, empty_world}
 use Rattle.base_kinds.specs.Parts.{part}
-use Rattle.base_kinds.specs.Step.{step, judge, Rules, after_expiry, first_refusal, refusal_cases, is_past, time_at, next_entry, new_stamp, kind_of_ask, with_answer}
+use Rattle.base_kinds.specs.Step.{step, judge, Rules, after_expiry, is_due, first_refusal, refusal_cases, is_past, time_at, next_entry, new_stamp, kind_of_ask, with_answer}
 use Rattle.base_kinds.specs.declared.path.Elem.{Elem}
 use Rattle.base_kinds.specs.Schema.{SchemaNode}
-use Rattle.commit_core.specs.CoreView.{OpensNoTrial}
 use Rattle.set_txn.specs.Operations.{ops_of_request}
 use Rattle.set_txn.specs.Resolution.{resolved}
 use Rattle.base_lists.specs.Results.{and_then}
@@ -43,6 +42,9 @@ no_trial : (entries : List Entry) → AreApplies entries → (world_of entries).
 no_trial entries applies = no_trial_from empty_world entries refl applies
 
 -- nothing is ever due
+pub none_due : (entries : List Entry) (now : ℕ) → AreApplies entries → is_due entries now ≡ false
+none_due entries now applies = ap (λ trial. is_past trial (time_at entries now)) (no_trial entries applies)
+
 pub clock_quiet : (entries : List Entry) (now : ℕ) → AreApplies entries → after_expiry entries now ≡ entries
 clock_quiet entries now applies = ap (λ trial. if is_past trial (time_at entries now) then entries ++ next_entry entries (new_stamp entries now) 0 kinds.Expire ∷ [] else entries) (no_trial entries applies)
 
@@ -141,10 +143,3 @@ plain_answer (Err refusal) ask is = cc is
 
 pub asks_plainly : (schema : List SchemaNode) (pending : Pending) (ask : Ask) → resolved schema (set_ask pending) ≡ Ok ask → IsPlain ask
 asks_plainly schema pending ask is = plain_answer (ops_of_request schema (set_ask pending)) ask is
-
-pub opens_none : (ask : Ask) → IsPlain ask → OpensNoTrial ask
-opens_none (asks.Apply ops) plain = tt
-opens_none (asks.Trial id ops duration) plain = absurd plain
-opens_none (asks.Confirm id) plain = tt
-opens_none (asks.Cancel id) plain = tt
-opens_none (asks.Extend id duration) plain = tt

@@ -1,5 +1,6 @@
 // Laws of what scripts make and print.
 ghost use Rattle.script_run.specs.laws.ScriptLaws.{MakesEvents, MakesHistories, MakesLegalHistories, MakesSoundTrees, PrintsOne, RefusedChangesNothing, BadRequestsChangeNothing};
+ghost use Rattle.script_run.specs.laws.ScriptTexts.{PrintsEvents};
 
 /// What a script's lines make of the history, their events make of it, as those of every other front end.
 pub fn scripts_are_events()
@@ -30,4 +31,10 @@ pub fn refused_sets_change_nothing()
 /// A Set whose request is refused by itself changes nothing, and the clock's event doesn't come.
 pub fn bad_requests_change_nothing()
     ensures { BadRequestsChangeNothing }
+{}
+
+/// A script within the limit of its octets, whose every line is one of a script, prints the answers to their events, in order,
+/// and then the log of the history that they made, and it is whole.
+pub fn scripts_print_their_answers()
+    ensures { PrintsEvents }
 {}

@@ -14,6 +14,7 @@ mod state;
 
 pub use laws::{
     bad_requests_change_nothing, refused_sets_change_nothing, scripts_are_events,
-    scripts_make_histories, scripts_print_one_text, trees_of_scripts_are_sound,
+    scripts_make_histories, scripts_print_one_text, scripts_print_their_answers,
+    trees_of_scripts_are_sound,
 };
 pub use run::{Transcript, run_script};

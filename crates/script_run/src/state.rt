@@ -1,5 +1,6 @@
 ghost use Rattle.std.specs.Prelude.{◌≡◌, ◌≢◌, ◌<◌, [], ◌∷◌, ◌++◌, IsTrue, IfOk, OnOk, Ok, Err};
 ghost use Rattle.base_kinds.specs.Events.{set_answer, history_after_set, get_answer, history_after_get};
+ghost use Rattle.base_kinds.specs.Legal.{IsFit};
 ghost use Rattle.base_kinds.specs.Rules.{rules_of};
 ghost use Rattle.set_txn.specs.Resolution.{resolved};
 ghost use Rattle.commit_report.specs.Logs.{log_text};
@@ -143,6 +144,7 @@ fn commit(
 ) -> Result<Result<u64, Refusal>, NoMemory>
     requires author { 0 < author }
     requires plain { IsPlain ask }
+    requires fit { IsFit ask }
     requires applies { AreApplies core.old.entries }
     ensures reply { IfOk result (λ reply.
         let rules = rules_of core.old.schema core.old.limits in

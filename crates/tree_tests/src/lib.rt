@@ -1,14 +1,12 @@
-//! Tests of trees and of the history over them: the reference model, trees compared with it over operations that a fixed
-//! generator makes, the six rules of validity, and the core.
+//! Tests of trees: the reference model, trees compared with it over operations that a fixed generator makes, and the six
+//! rules of validity.
 //!
-//! Start at the tables: of the reference model in model.rt, of whole trees in validity.rt, of three rules by themselves in
-//! rules.rt, and of the core in commits.rt.
+//! Start at the tables: of the reference model in model.rt, of whole trees in validity.rt, and of three rules by themselves
+//! in rules.rt.
 #![tactic(auto)]
 
 #[cfg(test)]
 mod builders;
-#[cfg(test)]
-mod commits;
 #[cfg(test)]
 mod compared;
 #[cfg(test)]

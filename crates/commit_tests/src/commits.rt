@@ -1,0 +1,245 @@
+ghost use Rattle.base_kinds.specs.Legal.{IsFit};
+
+use crate::builders::schema_of;
+use crate::requests::{Asked, Changed, NOTHING, ask_of, change_of, marks_of, resolved, step};
+use base_kinds::{Action, Ask, Changes, Limits, Path, Paths, Refusal, Row, Value};
+use commit_core::Core;
+use plain_tree::PlainTree;
+use std::alloc::Global;
+use std::process::Abort;
+
+const ROOMY: Limits = Limits {
+    entries: 65_536,
+    octets: 268_435_456,
+};
+
+/// The smallest limits that there are.
+const NARROW: Limits = Limits {
+    entries: 2,
+    octets: 4_096,
+};
+
+/// Two texts and a number of 16 bits.
+const SCHEMA: &str = "\
+module m\n\
+container /system\n\
+container /system/config\n\
+leaf /system/config/hostname string\n\
+leaf /system/config/motd string\n\
+leaf /system/config/mtu uint16\n\
+";
+
+fn core_of(rt: &impl Abort, alloc: Global, limits: Limits) -> Core<PlainTree> {
+    let schema = schema_of(rt, alloc, SCHEMA);
+    Core::make(alloc, schema, PlainTree::empty(alloc), limits)
+}
+
+/// With a further leaf and a wider number.
+const WIDE: &str = "\
+module m\n\
+container /system\n\
+container /system/config\n\
+leaf /system/config/hostname string\n\
+leaf /system/config/motd bool\n\
+leaf /system/config/mtu uint32\n\
+leaf /system/config/contact string\n\
+";
+
+/// A Set of `/system/config/WORD` to the text of a JSON value, by this schema.
+fn set_of(rt: &impl Abort, alloc: Global, schema: &str, word: &str, json: &str) -> Ask
+    ensures { IsFit result }
+{
+    let path = format!(in alloc; "/system/config/{word}").expect(rt, "memory");
+    let mut updates = Changes::empty(alloc);
+    updates
+        .push(change_of(rt, alloc, path.as_str(), json))
+        .expect(rt, "memory");
+    let schema = schema_of(rt, alloc, schema);
+    resolved(
+        rt,
+        alloc,
+        &schema,
+        Paths::empty(alloc),
+        updates,
+        Action::Plain,
+    )
+    .expect(rt, "an ask")
+}
+
+/// A Set without operations.
+fn set_nothing(rt: &impl Abort, alloc: Global) -> Ask
+    ensures { IsFit result }
+{
+    let schema = schema_of(rt, alloc, SCHEMA);
+    ask_of(rt, alloc, &schema, NOTHING, Asked::Set).expect(rt, "an ask")
+}
+
+/// A Set of the hostname to a text of so many octets.
+fn set_long(rt: &impl Abort, alloc: Global, size: u32) -> Ask
+    ensures { IsFit result }
+{
+    let mut text = String::new(alloc);
+    text.push('"').expect(rt, "memory");
+    for _ in 0..size {
+        text.push('x').expect(rt, "memory");
+    }
+    text.push('"').expect(rt, "memory");
+    set_of(rt, alloc, SCHEMA, "hostname", text.as_str())
+}
+
+/// The stamp of the entry that the ask becomes, which is taken.
+fn accept(rt: &impl Abort, core: &mut Core<PlainTree>, alloc: Global, now: u64, ask: Ask) -> u64
+    requires { IsFit ask }
+{
+    step(rt, alloc, core, now, 1, ask).expect(rt, "an entry")
+}
+
+/// What the ask is refused for, if it is, at the reading 2000. Nothing is taken.
+fn refused(rt: &impl Abort, core: &mut Core<PlainTree>, alloc: Global, ask: Ask) -> Option<Refusal>
+    requires { IsFit ask }
+{
+    assert!(rt; !core.due(2000));
+    let refusal = core.judge(alloc, 2000, 1, ask).err();
+    core.forget();
+    refusal
+}
+
+/// The number of rows, whether the first has this text as its value, and the stamp.
+fn first_text(
+    rt: &impl Abort,
+    core: &Core<PlainTree>,
+    alloc: Global,
+    text: &str,
+) -> (usize, bool, u64) {
+    let mut patterns = Paths::empty(alloc);
+    patterns.push(Path::empty(alloc)).expect(rt, "memory");
+    let view = core.look(alloc, &patterns).expect(rt, "memory");
+    let is = match view.rows.get(0) {
+        Some(
+            Row {
+                value: Value::Text(found),
+                ..
+            },
+        ) => found.octets() == text.as_bytes(),
+        _ => false,
+    };
+    (view.rows.len(), is, view.stamp)
+}
+
+const READINGS: &[(u64, u64)] = &[
+    (0, 1),
+    (0, 2),
+    (1000, 1000),
+    (1000, 1001),
+    (10, 1002),
+    (1003, 1003),
+    (4_102_444_799_999_999_999, 4_102_444_799_999_999_999),
+    (4_102_444_800_000_000_000, 4_102_444_800_000_000_000),
+    (4_102_444_800_000_000_005, 4_102_444_800_000_000_001),
+    (u64::MAX, 4_102_444_800_000_000_002),
+    (0, 4_102_444_800_000_000_003),
+];
+
+#[test]
+fn stamps_follow_the_clock_and_rise(rt: HostRuntime) {
+    let alloc = rt.alloc();
+    let mut core = core_of(&rt, alloc, ROOMY);
+    for (now, stamp) in READINGS.iter().copied() {
+        let ask = set_of(&rt, alloc, SCHEMA, "motd", "\"m\"");
+        assert_eq!(rt; accept(&rt, &mut core, alloc, now, ask), stamp, "at {now}");
+        assert_eq!(rt;
+            first_text(&rt, &core, alloc, "m"),
+            (1, true, stamp),
+            "at {now}"
+        );
+    }
+    for (i, entry) in core.entries().iter().enumerate() {
+        assert_eq!(rt; marks_of(entry), (i as u64 + 1, 1, entry.stamp));
+    }
+    assert_eq!(rt; core.entries().len(), 11);
+}
+
+/// Leaves and values by the wider schema, with the refusal of each.
+const VALUES: &[(&str, &str, Option<Refusal>)] = &[
+    ("contact", "\"x\"", Some(Refusal::TreeInvalid)),
+    ("motd", "true", Some(Refusal::TreeInvalid)),
+    ("mtu", "65535", None),
+    ("mtu", "65536", Some(Refusal::TreeInvalid)),
+];
+
+#[test]
+fn what_is_let_go_or_refused_leaves_nothing(rt: HostRuntime) {
+    let alloc = rt.alloc();
+    let mut core = core_of(&rt, alloc, ROOMY);
+    core.forget();
+    let lost = set_of(&rt, alloc, SCHEMA, "motd", "\"lost\"");
+    assert_eq!(rt; refused(&rt, &mut core, alloc, lost), None);
+    let first = set_of(&rt, alloc, SCHEMA, "hostname", "\"r1\"");
+    assert_eq!(rt; accept(&rt, &mut core, alloc, 1000, first), 1000);
+    for (word, json, refusal) in VALUES.iter().copied() {
+        let ask = set_of(&rt, alloc, WIDE, word, json);
+        assert_eq!(rt;
+            refused(&rt, &mut core, alloc, ask),
+            refusal,
+            "{word} {json}"
+        );
+    }
+    assert_eq!(rt; first_text(&rt, &core, alloc, "r1"), (1, true, 1000));
+    assert_eq!(rt; core.entries().len(), 1);
+}
+
+/// A delete of all that the update doesn't set anew.
+const DELETED: Changed = Changed {
+    deletes: &["/system/*"],
+    updates: &[("/system/config/motd", "\"new\"")],
+};
+
+#[test]
+fn deletes_come_before_updates(rt: HostRuntime) {
+    let alloc = rt.alloc();
+    let mut core = core_of(&rt, alloc, ROOMY);
+    for word in ["hostname", "motd"] {
+        let ask = set_of(&rt, alloc, SCHEMA, word, "\"old\"");
+        accept(&rt, &mut core, alloc, 1000, ask);
+    }
+    let ask = ask_of(&rt, alloc, core.schema(), DELETED, Asked::Set).expect(&rt, "an ask");
+    accept(&rt, &mut core, alloc, 1000, ask);
+    assert_eq!(rt; first_text(&rt, &core, alloc, "new"), (1, true, 1002));
+}
+
+/// How many octets the hostname has under these limits, with the refusal of the Set.
+const SIZES: &[(Limits, u32, Option<Refusal>)] = &[
+    (ROOMY, 316_644, None),
+    (ROOMY, 316_645, Some(Refusal::TreeFull)),
+    (NARROW, 3_971, None),
+    (NARROW, 3_972, Some(Refusal::LogFull)),
+    (NARROW, 316_645, Some(Refusal::TreeFull)),
+];
+
+#[test]
+fn trees_and_logs_have_limits(rt: HostRuntime) {
+    let alloc = rt.alloc();
+    for (limits, size, refusal) in SIZES.iter().copied() {
+        let mut core = core_of(&rt, alloc, limits);
+        let ask = set_long(&rt, alloc, size);
+        assert_eq!(rt;
+            refused(&rt, &mut core, alloc, ask),
+            refusal,
+            "{size} octets"
+        );
+    }
+    let mut core = core_of(&rt, alloc, NARROW);
+    for _ in 0..2 {
+        accept(&rt, &mut core, alloc, 1, set_nothing(&rt, alloc));
+    }
+    let third = set_nothing(&rt, alloc);
+    assert_eq!(rt;
+        refused(&rt, &mut core, alloc, third),
+        Some(Refusal::LogFull)
+    );
+    let invalid = set_of(&rt, alloc, WIDE, "contact", "\"x\"");
+    assert_eq!(rt;
+        refused(&rt, &mut core, alloc, invalid),
+        Some(Refusal::TreeInvalid)
+    );
+}

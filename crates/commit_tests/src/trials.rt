@@ -1,0 +1,292 @@
+use crate::builders::{path_of, schema_of};
+use crate::requests::{Asked, Changed, NOTHING, ask_of, marks_of, pass, step};
+use base_kinds::{Limits, Paths, Refusal, Seq, View};
+use commit_core::Core;
+use plain_tree::PlainTree;
+use std::alloc::Global;
+use std::process::Abort;
+
+const LIMITS: Limits = Limits {
+    entries: 65_536,
+    octets: 268_435_456,
+};
+
+/// Two texts, and a number in a container of its own.
+const SCHEMA: &str = "\
+module m\n\
+container /system\n\
+container /system/config\n\
+leaf /system/config/hostname string\n\
+leaf /system/config/motd string\n\
+container /lab\n\
+leaf /lab/big uint64\n\
+";
+
+fn new_core(rt: &impl Abort, alloc: Global, limits: Limits) -> Core<PlainTree> {
+    let schema = schema_of(rt, alloc, SCHEMA);
+    Core::make(alloc, schema, PlainTree::empty(alloc), limits)
+}
+
+/// A request of author 1 at a reading, and its answer.
+#[derive(Clone, Copy)]
+struct Line {
+    now: u64,
+    changed: Changed,
+    asked: Asked,
+    answer: Result<u64, Refusal>,
+}
+
+fn answer(
+    rt: &impl Abort,
+    alloc: Global,
+    core: &mut Core<PlainTree>,
+    line: Line,
+) -> Result<u64, Refusal> {
+    let ask = ask_of(rt, alloc, core.schema(), line.changed, line.asked)?;
+    step(rt, alloc, core, line.now, 1, ask)
+}
+
+fn walk(rt: &impl Abort, alloc: Global, core: &mut Core<PlainTree>, lines: &[Line]) {
+    for (at, line) in lines.iter().copied().enumerate() {
+        assert_eq!(rt; answer(rt, alloc, core, line), line.answer, "line {at}");
+    }
+}
+
+const HOSTNAME: Changed = Changed {
+    deletes: &[],
+    updates: &[("/system/config/hostname", "\"r1\"")],
+};
+
+const BEGUN: Line = Line {
+    now: 1000,
+    changed: HOSTNAME,
+    asked: Asked::Trial("t", 60),
+    answer: Ok(1000),
+};
+
+/// A trial of 60 seconds, confirmed just before its deadline, and at it.
+const DEADLINES: &[(&[Line], (u64, u32, u64), usize)] = &[
+    (
+        &[
+            BEGUN,
+            Line {
+                now: 60_000_000_999,
+                changed: NOTHING,
+                asked: Asked::Confirm("t"),
+                answer: Ok(60_000_000_999),
+            },
+        ],
+        (2, 1, 60_000_000_999),
+        1,
+    ),
+    (
+        &[
+            BEGUN,
+            Line {
+                now: 60_000_001_000,
+                changed: NOTHING,
+                asked: Asked::Confirm("t"),
+                answer: Err(Refusal::NoTrial),
+            },
+        ],
+        (2, 0, 60_000_001_000),
+        0,
+    ),
+];
+
+fn rows_of(rt: &impl Abort, alloc: Global, core: &Core<PlainTree>) -> View {
+    let mut patterns = Paths::empty(alloc);
+    patterns.push(path_of(rt, alloc, "/")).expect(rt, "memory");
+    core.look(alloc, &patterns).expect(rt, "memory")
+}
+
+#[test]
+fn a_trial_ends_at_its_deadline(rt: HostRuntime) {
+    let alloc = rt.alloc();
+    for (lines, last, rows) in DEADLINES.iter().copied() {
+        let mut core = new_core(&rt, alloc, LIMITS);
+        walk(&rt, alloc, &mut core, lines);
+        assert_eq!(rt; core.entries().last().map(marks_of), Some(last));
+        assert_eq!(rt; rows_of(&rt, alloc, &core).rows.len(), rows);
+        assert!(rt; !core.is_trial_open());
+    }
+}
+
+/// A Set, a trial over it with other values and a delete, and its cancel.
+const CANCELLED: &[Line] = &[
+    Line {
+        now: 1000,
+        changed: Changed {
+            deletes: &[],
+            updates: &[
+                ("/system/config", "{\"hostname\":\"a\",\"motd\":\"m\"}"),
+                ("/lab/big", "\"5\""),
+            ],
+        },
+        asked: Asked::Set,
+        answer: Ok(1000),
+    },
+    Line {
+        now: 1000,
+        changed: Changed {
+            deletes: &["/lab"],
+            updates: &[("/system/config", "{\"hostname\":\"b\",\"motd\":\"n\"}")],
+        },
+        asked: Asked::Trial("t", 60),
+        answer: Ok(1001),
+    },
+    Line {
+        now: 1000,
+        changed: NOTHING,
+        asked: Asked::Cancel("t"),
+        answer: Ok(1002),
+    },
+];
+
+#[test]
+fn a_cancel_brings_the_tree_back(rt: HostRuntime) {
+    let alloc = rt.alloc();
+    let mut core = new_core(&rt, alloc, LIMITS);
+    walk(&rt, alloc, &mut core, &CANCELLED[..1]);
+    let before = rows_of(&rt, alloc, &core);
+    walk(&rt, alloc, &mut core, &CANCELLED[1..2]);
+    assert_eq!(rt; rows_of(&rt, alloc, &core).rows.len(), 2);
+    walk(&rt, alloc, &mut core, &CANCELLED[2..]);
+    let after = rows_of(&rt, alloc, &core);
+    assert_eq!(rt; after.stamp, 1002);
+    assert_eq!(rt; (before.rows.len(), after.rows == before.rows), (3, true));
+    let again = Line {
+        now: 1000,
+        changed: NOTHING,
+        asked: Asked::Cancel("t"),
+        answer: Err(Refusal::NoTrial),
+    };
+    walk(&rt, alloc, &mut core, &[again]);
+}
+
+/// What is refused while a trial is open, and before.
+const REFUSED: &[Line] = &[
+    Line {
+        now: 1,
+        changed: NOTHING,
+        asked: Asked::Confirm("t"),
+        answer: Err(Refusal::NoTrial),
+    },
+    Line {
+        now: 1,
+        changed: NOTHING,
+        asked: Asked::Trial("t", 60),
+        answer: Ok(1),
+    },
+    Line {
+        now: 1,
+        changed: NOTHING,
+        asked: Asked::Set,
+        answer: Err(Refusal::TrialOpen),
+    },
+    Line {
+        now: 1,
+        changed: NOTHING,
+        asked: Asked::Trial("t", 60),
+        answer: Err(Refusal::TrialOpen),
+    },
+    Line {
+        now: 1,
+        changed: NOTHING,
+        asked: Asked::Confirm("u"),
+        answer: Err(Refusal::WrongId),
+    },
+    Line {
+        now: 1,
+        changed: NOTHING,
+        asked: Asked::Extend("t", 0),
+        answer: Err(Refusal::BadDuration),
+    },
+    Line {
+        now: 1,
+        changed: NOTHING,
+        asked: Asked::Extend("t", 86_401),
+        answer: Err(Refusal::BadDuration),
+    },
+    Line {
+        now: 1,
+        changed: NOTHING,
+        asked: Asked::Trial("t", 86_400),
+        answer: Err(Refusal::TrialOpen),
+    },
+    Line {
+        now: 1,
+        changed: HOSTNAME,
+        asked: Asked::Confirm("t"),
+        answer: Err(Refusal::MixedAction),
+    },
+    Line {
+        now: 1,
+        changed: NOTHING,
+        asked: Asked::Confirm("ttttttttttttttttttttttttttttttttttttttttttttttttttttttttttttttttt"),
+        answer: Err(Refusal::BadId),
+    },
+];
+
+#[test]
+fn trials_are_refused_for_their_causes(rt: HostRuntime) {
+    let alloc = rt.alloc();
+    let mut core = new_core(&rt, alloc, LIMITS);
+    walk(&rt, alloc, &mut core, REFUSED);
+    assert_eq!(rt; core.entries().len(), 1);
+}
+
+/// The clock goes back, and an extend counts from its own stamp.
+const EXTENDED: &[Line] = &[
+    Line {
+        now: 5000,
+        changed: NOTHING,
+        asked: Asked::Trial("t", 1),
+        answer: Ok(5000),
+    },
+    Line {
+        now: 10,
+        changed: NOTHING,
+        asked: Asked::Extend("t", 2),
+        answer: Ok(5001),
+    },
+    Line {
+        now: 2_000_005_000,
+        changed: NOTHING,
+        asked: Asked::Extend("t", 1),
+        answer: Ok(2_000_005_000),
+    },
+    Line {
+        now: 3_000_005_000,
+        changed: NOTHING,
+        asked: Asked::Cancel("t"),
+        answer: Err(Refusal::NoTrial),
+    },
+];
+
+#[test]
+fn an_extend_counts_from_its_own_stamp(rt: HostRuntime) {
+    let alloc = rt.alloc();
+    let mut core = new_core(&rt, alloc, LIMITS);
+    walk(&rt, alloc, &mut core, EXTENDED);
+    assert_eq!(rt; core.entries().len(), 4);
+}
+
+#[test]
+fn a_restart_ends_a_trial_that_was_replayed(rt: HostRuntime) {
+    let alloc = rt.alloc();
+    let mut core = new_core(&rt, alloc, LIMITS);
+    walk(&rt, alloc, &mut core, &[BEGUN]);
+    let mut again = new_core(&rt, alloc, LIMITS);
+    assert!(rt; again.entries().is_empty());
+    again
+        .replay(alloc, core.into_entries())
+        .expect(&rt, "memory");
+    assert!(rt; again.is_trial_open());
+    assert_eq!(rt; rows_of(&rt, alloc, &again).rows.len(), 1);
+    again.take(again.restart(1000));
+    assert_eq!(rt; again.entries().last().map(marks_of), Some((2, 0, 1001)));
+    assert!(rt; rows_of(&rt, alloc, &again).rows.is_empty());
+    pass(&mut again, u64::MAX);
+    assert_eq!(rt; again.into_entries().len(), 2);
+}
