@@ -24,7 +24,7 @@ use Rattle.book_core.specs.inner.Books.{IsBook}
 use Rattle.book_port.specs.Chronicles.{history_of, IsBy}
 use Rattle.book_port.specs.Opened.{Opened, rules_in}
 use Rattle.book_port.proofs.Answering.{quiet_expiry, expires_once, step_again, set_behind}
-use Rattle.book_core.specs.Cores.{CoreView, EndsTrial, IsNext}
+use Rattle.commit_core.specs.CoreView.{CoreView, EndsTrial, IsNext}
 use Rattle.book_core.specs.Moments.{IsAttempted, GoesThrough}
 use Rattle.book_port.specs.Answers.{look_stages, set_stages, AnswersSet}
 use Rattle.book_core.specs.Calls.{expiry_calls}

@@ -25,7 +25,7 @@ use Rattle.book_port.proofs.Chronicled.{history_of_more, marks_of_more}
 use Rattle.book_port.proofs.Runs.{run_on}
 use Rattle.book_core.specs.inner.Books.{IsBook, KeepsRules}
 use Rattle.book_core.specs.inner.Parts.{GoesOn, CallsOfPart}
-use Rattle.book_core.specs.Cores.{CoreView}
+use Rattle.commit_core.specs.CoreView.{CoreView}
 use Rattle.book_core.specs.Moments.{IsAttempted}
 use Rattle.book_core.specs.Views.{BookView, history_in, most_marks}
 

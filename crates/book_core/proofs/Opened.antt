@@ -22,7 +22,7 @@ use Rattle.book_port.specs.declared.happening.Happening.{Happening}
 use Rattle.book_port.specs.Chronicles.{history_of, marks_of, entered}
 use Rattle.book_port.specs.Opened.{Opened, IsRun, reopened}
 use Rattle.book_port.proofs.Chronicled.{history_of_entered, marks_of_entered}
-use Rattle.book_core.specs.Cores.{CoreView}
+use Rattle.commit_core.specs.CoreView.{CoreView}
 use Rattle.book_core.specs.Openings.{SyncsThen, HasJournal, opening_stages, restart_calls, IsReady, IsUnfit, IsCutAtRestart, IsFaulty, IsStarved}
 use Rattle.book_core.specs.Views.{BookView}
 use Rattle.book_core.specs.inner.Books.{IsBook, opened_with}

@@ -22,7 +22,7 @@ use Rattle.book_port.specs.declared.happening.Happening.TheVariants.{Entered}
 use Rattle.book_port.specs.Chronicles.{entered}
 use Rattle.book_port.specs.Opened.{Opened, IsFounded, IsRun, reopened, restart_entry}
 use Rattle.book_port.proofs.Runs.{founded_is_run, reopened_has_no_trial}
-use Rattle.book_core.specs.Cores.{IsReplayable}
+use Rattle.commit_core.specs.CoreView.{IsReplayable}
 use Rattle.book_core.specs.Openings.{opening_stages, restart_calls}
 use Rattle.book_core.specs.inner.Restarts.{IsRestartOf, with_one, append_calls}
 

@@ -1,5 +1,4 @@
 pub mod Calls
-pub mod Cores
 pub mod inner
 pub mod Moments
 pub mod Openings

@@ -4,12 +4,11 @@ ghost use Rattle.disk_model.specs.Calls.{armed_with, starved};
 ghost use Rattle.book_core.specs.Views.{BookView};
 
 use crate::book::Book;
-use crate::commits::Commits;
-use base_kinds::Fill;
+use base_kinds::{Fill, TreeLike};
 use base_lists::NoMemory;
 use disk_model::Armed;
 
-impl<D: Armed, C: Commits> Book<D, C> {
+impl<D: Armed, T: TreeLike + Drop> Book<D, T> {
     /// Lets the disk fail in the call after this many, counted once all failures have hit that wait
     /// already.
     pub fn fail_after(&mut self, passes: u64) -> Result<(), NoMemory>

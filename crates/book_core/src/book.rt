@@ -12,7 +12,7 @@ ghost use Rattle.book_port.specs.Answers.{AnswersSet, AnswersLook, set_stages, l
 ghost use Rattle.book_port.specs.Chronicles.{marks_of, Adds};
 ghost use Rattle.book_port.specs.Opened.{IsRun, rules_in};
 ghost use Rattle.book_core.specs.Calls.{CallsFor, repair_calls, expiry_calls, calls_before};
-ghost use Rattle.book_core.specs.Cores.{EndsTrial, IsNext};
+ghost use Rattle.commit_core.specs.CoreView.{EndsTrial, IsNext};
 ghost use Rattle.book_core.specs.Moments.{GoesThrough, IsDoubted};
 ghost use Rattle.book_core.specs.Views.{BookView, history_in, most_marks};
 ghost use Rattle.book_core.specs.inner.Books.{KeepsRules};
@@ -20,8 +20,8 @@ ghost use Rattle.book_core.specs.inner.Faults.{refused_for};
 ghost use Rattle.book_core.specs.inner.Parts.{GoesOn};
 
 use crate::chronicle::Chronicle;
-use crate::commits::Commits;
-use base_kinds::{Ask, Entries, Entry, Paths, Refusal, View};
+use base_kinds::{Ask, Entries, Entry, Paths, Refusal, TreeLike, View};
+use commit_core::Core;
 use commit_journal::{Ledger, LedgerFault};
 use disk_model::Disk;
 use std::alloc::Global;
@@ -37,13 +37,13 @@ const MOST_MARKS: u64 = 1 << 63;
 /// due, and then does what is asked. A call that a fault of the disk ends leaves a mark of its
 /// author.
 #[derive(Drop)]
-pub struct Book<D: Disk, C: Commits> {
-    pub(crate) core: C,
+pub struct Book<D: Disk, T: TreeLike> {
+    pub(crate) core: Core<T>,
     pub(crate) ledger: Ledger<D>,
     pub(crate) marks: u64,
     pub(crate) chronicle: Chronicle,
     /// The core as the opening left it, and the disk as the opening was given it.
-    pub(crate) first: Snapshot<C>,
+    pub(crate) first: Snapshot<Core<T>>,
     pub(crate) given: Snapshot<D>,
 }
 
@@ -55,7 +55,7 @@ pub struct BookEnd<D: Disk> {
     pub entries: Entries,
 }
 
-impl<D: Disk, C: Commits> Model for Book<D, C> {
+impl<D: Disk, T: TreeLike> Model for Book<D, T> {
     ghost use Rattle.std.specs.Coded.{codes};
     ghost use Rattle.base_kinds.specs.contracts.value.Value as value;
     ghost use Rattle.book_core.specs.Views.{BookView, book_code};
@@ -67,14 +67,14 @@ impl<D: Disk, C: Commits> Model for Book<D, C> {
 
     ghost view = { λ b. record {
       disk = b.ledger.disk;
-      opened = opened_with (C.shown b.first.value) (D.faults b.given.value);
+      opened = opened_with b.first.value (D.faults b.given.value);
       chronicle = b.chronicle;
       doubt = b.ledger.doubt;
     } };
 
     ghost invariant = { λ b.
-        IsBook D.told D.faults (opened_with (C.shown b.first.value) (D.faults b.given.value))
-        b.chronicle (C.shown b.core) b.ledger b.marks };
+        IsBook D.told D.faults (opened_with b.first.value (D.faults b.given.value))
+        b.chronicle b.core b.ledger b.marks };
 }
 
 /// Adds the mark of a call that a fault of the disk ended.
@@ -98,19 +98,19 @@ fn refusal_of(fault: LedgerFault) -> Refusal
 
 /// Makes the entry that the core awaits the last one: in the journal first, and only then in the
 /// core.
-fn enter<D: Disk, C: Commits>(
-    core: &mut C,
+fn enter<D: Disk, T: TreeLike + Drop>(
+    core: &mut Core<T>,
     ledger: &mut Ledger<D>,
     chronicle: &mut Chronicle,
     entry: Entry,
 ) -> Result<(), Refusal>
-    requires awaited { IsNext (C.shown core.old) entry }
+    requires awaited { IsNext core.old entry }
     requires settled { ledger.old.doubt ≡ None }
     requires next { MayFollow ledger.old.limits ledger.old.history entry }
-    ensures rules { KeepsRules (C.shown core.old) (C.shown core.new) }
+    ensures rules { KeepsRules core.old core.new }
     ensures core_ok { OnOk result
-        ((C.shown core.new).entries ≡ (C.shown core.old).entries ++ entry ∷ []) }
-    ensures core_err { OnErr result ((C.shown core.new).entries ≡ (C.shown core.old).entries) }
+        (core.new.entries ≡ core.old.entries ++ entry ∷ []) }
+    ensures core_err { OnErr result (core.new.entries ≡ core.old.entries) }
     ensures chronicle_ok { OnOk result (chronicle.new ≡ chronicle.old ++ Entered entry ∷ []) }
     ensures chronicle_err { OnErr result (chronicle.new ≡ chronicle.old) }
     ensures ledger_ok { OnOk result ((ledger.new.history ≡ ledger.old.history ++ entry ∷ [])
@@ -153,7 +153,7 @@ fn enter<D: Disk, C: Commits>(
     }
 }
 
-impl<D: Disk, C: Commits> Book<D, C> {
+impl<D: Disk, T: TreeLike + Drop> Book<D, T> {
     /// Settles what is in doubt: the attempt doesn't stand.
     fn settle(&mut self, author: u32) -> Result<(), Refusal>
         requires few { length (marks_of self.old.chronicle) < most_marks }

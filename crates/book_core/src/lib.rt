@@ -11,11 +11,9 @@
 mod arming;
 mod book;
 mod chronicle;
-mod commits;
 mod opening;
 mod single;
 
 pub use book::{Book, BookEnd};
-pub use commits::Commits;
 pub use opening::BookOpening;
 pub use single::Single;

@@ -10,15 +10,15 @@ ghost use Rattle.commit_journal.specs.Images.{IsJournalOr};
 ghost use Rattle.commit_journal.specs.Openings.{IsReady, opening_calls};
 ghost use Rattle.book_port.specs.Chronicles.{entered};
 ghost use Rattle.book_port.specs.Opened.{reopened};
-ghost use Rattle.book_core.specs.Cores.{CoreView, IsReplayable};
+ghost use Rattle.commit_core.specs.CoreView.{CoreView, IsReplayable};
 ghost use Rattle.book_core.specs.Openings.{Opens};
 ghost use Rattle.book_core.specs.inner.Books.{KeepsRules};
 ghost use Rattle.book_core.specs.inner.Restarts.{IsRestartOf, with_one, append_calls};
 
 use crate::book::Book;
 use crate::chronicle::Chronicle;
-use crate::commits::Commits;
-use base_kinds::{BARE_RECORD_OCTETS, Entries, Entry, NoMemory, Path, Paths};
+use base_kinds::{BARE_RECORD_OCTETS, Entries, Entry, NoMemory, Path, Paths, TreeLike};
+use commit_core::Core;
 use commit_journal::{Ledger, LedgerFault, Opening};
 use disk_model::Disk;
 use schema_core::Schema;
@@ -28,8 +28,8 @@ use tree_check::{CheckFault, check};
 
 /// What the opening of a book gave.
 #[derive(Drop)]
-pub enum BookOpening<D: Disk, C: Commits> {
-    Ready(Book<D, C>),
+pub enum BookOpening<D: Disk, T: TreeLike> {
+    Ready(Book<D, T>),
     /// The octets are no journal from this place on.
     Damaged(u64, D),
     /// The journal's tree doesn't keep to the schema, or is too large. Nothing was written.
@@ -58,9 +58,9 @@ impl From<NoMemory> for RestoreFault {
 
 /// Whether the tree is valid under the schema, and small enough.
 #[tactic(auto, using(crate::proofs::Openings::whole, history_laws::proofs::States::rising_world))]
-fn is_sound<C: Commits>(alloc: Global, core: &C) -> Result<bool, NoMemory>
+fn is_sound<T: TreeLike + Drop>(alloc: Global, core: &Core<T>) -> Result<bool, NoMemory>
     ensures { IfOk result (λ is. IsTrue is
-        ↔ IsSound (C.shown core.now).schema (world_of (C.shown core.now).entries).tree) }
+        ↔ IsSound core.now.schema (world_of core.now.entries).tree) }
 {
     let mut root = Paths::empty(alloc);
     root.push(Path::empty(alloc))?;
@@ -74,10 +74,10 @@ fn is_sound<C: Commits>(alloc: Global, core: &C) -> Result<bool, NoMemory>
 }
 
 /// Ends the trial that is open. The answer is the entry that did so.
-fn end_trial<C: Commits>(core: &mut C, now: u64) -> Option<Entry>
-    ensures entries { (C.shown core.new).entries ≡ reopened (C.shown core.old).entries now }
-    ensures rules { KeepsRules (C.shown core.old) (C.shown core.new) }
-    ensures restart { IsRestartOf (C.shown core.old).entries now result }
+fn end_trial<T: TreeLike + Drop>(core: &mut Core<T>, now: u64) -> Option<Entry>
+    ensures entries { core.new.entries ≡ reopened core.old.entries now }
+    ensures rules { KeepsRules core.old core.new }
+    ensures restart { IsRestartOf core.old.entries now result }
 {
     if !core.is_trial_open() {
         return None;
@@ -89,21 +89,21 @@ fn end_trial<C: Commits>(core: &mut C, now: u64) -> Option<Entry>
 
 /// Makes a history that of a core that has none, without the trial that is open in it. The answer
 /// is the entry that ended that.
-fn restore<C: Commits>(
+fn restore<T: TreeLike + Drop>(
     alloc: Global,
-    core: &mut C,
+    core: &mut Core<T>,
     entries: Entries,
     now: u64,
 ) -> Result<Option<Entry>, RestoreFault>
-    requires fresh { (C.shown core.old).entries ≡ [] }
+    requires fresh { core.old.entries ≡ [] }
     requires replayable { IsReplayable entries }
-    ensures entries { OnOk result ((C.shown core.new).entries ≡ reopened entries now) }
-    ensures rules { KeepsRules (C.shown core.old) (C.shown core.new) }
+    ensures entries { OnOk result (core.new.entries ≡ reopened entries now) }
+    ensures rules { KeepsRules core.old core.new }
     ensures sound { OnOk result
-        (IsSound (C.shown core.old).schema (world_of (reopened entries now)).tree) }
+        (IsSound core.old.schema (world_of (reopened entries now)).tree) }
     ensures restart { IfOk result (λ restart. IsRestartOf entries now restart) }
     ensures unfit { IsErrOf result RestoreFault.Unfit
-        → IsSound (C.shown core.old).schema (world_of (reopened entries now)).tree → ⊥ }
+        → IsSound core.old.schema (world_of (reopened entries now)).tree → ⊥ }
 {
     core.replay(alloc, entries)?;
     let restart = end_trial(core, now);
@@ -157,20 +157,20 @@ fn chronicle_of(entries: &[Entry]) -> Chronicle
 }
 
 /// Goes on from what a journal holds.
-fn go_on<D: Disk, C: Commits + Drop>(
+fn go_on<D: Disk, T: TreeLike + Drop>(
     alloc: Global,
     given: Snapshot<D>,
     mut ledger: Ledger<D>,
-    mut core: C,
+    mut core: Core<T>,
     entries: Entries,
     now: u64,
-) -> BookOpening<D, C>
+) -> BookOpening<D, T>
     requires ready { IsReady D.told D.faults given.value ledger entries }
     requires calls { WhereArmed (D.fuse given.value) (D.told given.value) (λ c.
         CallsPassed (opening_calls (length c.seen)) (D.fuse given.value) (D.fuse ledger.disk)) }
-    requires fresh { (C.shown core).entries ≡ [] }
-    requires limits { (C.shown core).limits ≡ ledger.limits }
-    ensures { Opens D.told D.faults D.fuse given.value (C.shown core).schema now result }
+    requires fresh { core.entries ≡ [] }
+    requires limits { core.limits ≡ ledger.limits }
+    ensures { Opens D.told D.faults D.fuse given.value core.schema now result }
 {
     let Ok(()) = ledger.reserve(BARE_RECORD_OCTETS) else {
         return BookOpening::NoMemory(ledger.give());
@@ -198,16 +198,17 @@ fn go_on<D: Disk, C: Commits + Drop>(
     }
 }
 
-impl<D: Disk, C: Commits + Drop> Book<D, C> {
-    /// Opens a book on what a disk has, at this reading of the clock. A trial that is open is ended
-    /// first, by an entry of its own.
-    pub fn reopen(alloc: Global, disk: D, schema: Schema, now: u64) -> BookOpening<D, C>
+impl<D: Disk, T: TreeLike + Drop> Book<D, T> {
+    /// Opens a book on what a disk has over an empty tree, at this reading of the clock in
+    /// nanoseconds since 1970. A trial that is open is ended first, by an entry of its own.
+    pub fn reopen(alloc: Global, disk: D, tree: T, schema: Schema, now: u64) -> BookOpening<D, T>
+        requires { T.rows tree ≡ [] }
         ensures { Opens D.told D.faults D.fuse disk schema now result }
     {
         let given = Snapshot::of(&disk);
         match Ledger::reopen(alloc, disk) {
             Opening::Ready(ledger, entries) => {
-                let core = C::make(alloc, schema, ledger.limits());
+                let core = Core::make(alloc, schema, tree, ledger.limits());
                 go_on(alloc, given, ledger, core, entries, now)
             }
             Opening::Damaged(place, disk) => BookOpening::Damaged(place, disk),

@@ -1,8 +1,7 @@
 ghost use Rattle.std.specs.Prelude.{◌≡◌, ◌<◌, []};
 
 use crate::book::Book;
-use crate::commits::Commits;
-use base_kinds::{Ask, Paths, Refusal, View};
+use base_kinds::{Ask, Paths, Refusal, TreeLike, View};
 use base_lists::Remembered;
 use book_port::BookPort;
 use disk_model::Disk;
@@ -12,15 +11,15 @@ use std::snapshot::Snapshot;
 
 /// A book that one author alone reaches.
 #[derive(Drop)]
-pub struct Single<D: Disk + Drop, C: Commits + Drop> {
-    book: Book<D, C>,
+pub struct Single<D: Disk + Drop, T: TreeLike + Drop> {
+    book: Book<D, T>,
     author: u32,
     /// The book as it was when the port was made, and as each turn found it.
-    start: Snapshot<Book<D, C>>,
-    finds: Remembered<Book<D, C>>,
+    start: Snapshot<Book<D, T>>,
+    finds: Remembered<Book<D, T>>,
 }
 
-impl<D: Disk + Drop, C: Commits + Drop> Model for Single<D, C> {
+impl<D: Disk + Drop, T: TreeLike + Drop> Model for Single<D, T> {
     ghost use Rattle.std.specs.Coded.{codes};
     ghost use Rattle.base_kinds.specs.contracts.value.Value as value;
     ghost use Rattle.book_core.specs.Singles.{SingleView, IsSingle, single_code};
@@ -39,9 +38,9 @@ impl<D: Disk + Drop, C: Commits + Drop> Model for Single<D, C> {
     ghost invariant = { λ s. IsSingle s.book s.author s.start.value };
 }
 
-impl<D: Disk + Drop, C: Commits + Drop> Single<D, C> {
+impl<D: Disk + Drop, T: TreeLike + Drop> Single<D, T> {
     /// A port of this author.
-    pub fn make(book: Book<D, C>, author: u32) -> Single<D, C>
+    pub fn make(book: Book<D, T>, author: u32) -> Single<D, T>
         requires { 0 < author }
         ensures { result ≡ record { book = book; author = author; start = book; finds = [] } }
     {
@@ -55,14 +54,14 @@ impl<D: Disk + Drop, C: Commits + Drop> Single<D, C> {
     }
 
     /// Gives the book back.
-    pub fn give(self) -> Book<D, C>
+    pub fn give(self) -> Book<D, T>
         ensures { result ≡ self.book }
     {
         self.book
     }
 }
 
-impl<D: Disk + Drop, C: Commits + Drop> BookPort for Single<D, C> {
+impl<D: Disk + Drop, T: TreeLike + Drop> BookPort for Single<D, T> {
     ghost use Rattle.book_core.specs.Singles.{port_of};
 
     ghost port = { port_of };

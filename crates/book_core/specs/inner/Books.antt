@@ -6,7 +6,7 @@ use Rattle.disk_model.specs.Moments.{LeavesNow}
 use Rattle.journal_format.specs.Histories.{IsJournalHistory}
 use Rattle.commit_journal.specs.Images.{IsJournalOr}
 use Rattle.commit_journal.specs.Ledgers.{LedgerView}
-use Rattle.book_core.specs.Cores.{CoreView}
+use Rattle.commit_core.specs.CoreView.{CoreView}
 use Rattle.book_port.specs.declared.happening.Happening.{Happening}
 use Rattle.book_port.specs.Chronicles.{history_of, marks_of}
 use Rattle.book_port.specs.Opened.{Opened, IsRun}

@@ -8,7 +8,7 @@ use Rattle.book_port.specs.declared.happening.Happening.TheVariants.{Entered, Ma
 use Rattle.book_port.specs.Answers.{set_stages, AnswersSet}
 use Rattle.book_port.specs.Chronicles.{history_of, mark_after}
 use Rattle.book_port.specs.Opened.{rules_in}
-use Rattle.book_core.specs.Cores.{CoreView}
+use Rattle.commit_core.specs.CoreView.{CoreView}
 use Rattle.book_core.specs.Views.{BookView, history_in}
 use Rattle.book_core.proofs.Answering.{refused_no_fault, unmarked, error_is, fault_answers}
 use Rattle.book_core.proofs.Calling.{none_made, none_made_by}
@@ -19,7 +19,7 @@ use Rattle.book_core.proofs.book.Book.commit.Goals as goal
 pub returns-in_err-entry-clause-part : goal.returns-in_err-entry-clause-part
 returns-in_err-entry-clause-part g c =
     let is = error_is c.from_residual.result c.in_err-entry.field-0.0 c.from_residual.ensures.1 in
-    let other = refused_no_fault (rules_of (g.C.Commits.shown c.self.inside.core).schema (g.C.Commits.shown c.self.inside.core).limits) (g.C.Commits.shown c.self.inside.core).entries c.args.now c.args.author c.args.ask c.in_err-entry.field-0.0 c.in_err-entry.ensures.judged in
+    let other = refused_no_fault (rules_of c.self.inside.core.schema c.self.inside.core.limits) c.self.inside.core.entries c.args.now c.args.author c.args.ask c.in_err-entry.field-0.0 c.in_err-entry.ensures.judged in
     part_starved g.D.Disk.told g.D.Disk.faults _ _ _ _ _ c.self.invariant g.D.Disk.fuse c.args.author (λ b. set_stages (rules_in b.opened) (history_in b) c.args.now c.args.author c.args.ask) (λ b. 4) c.args.self.now c.self.view_is c.from_residual.result
     (ap (λ r. mark_after c.args.author r) is ∙ unmarked ℕ c.args.author c.in_err-entry.field-0.0 other) _ c.self.inside.ledger refl refl refl (settled_here g.D.Disk.told g.D.Disk.faults _ _ _ _ _ c.self.invariant c.args.self.now c.self.view_is c.requires.settled) _ refl (none_made_by 4 _ c.from_residual.result c.in_err-entry.field-0.0 is other)
 
