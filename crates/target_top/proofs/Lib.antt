@@ -1,3 +1,6 @@
 pub mod RunLaws
 pub mod Stages
 pub mod WordLists
+pub mod MemoryRuns
+pub mod WordLaws
+pub mod GoodScripts

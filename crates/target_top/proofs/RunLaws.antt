@@ -22,11 +22,11 @@ use Rattle.target_top.specs.SchemaFile.{fault_line, UnderText, UnderSchema}
 use Rattle.target_top.specs.ScriptRun.{script_ending, RunsLines}
 use Rattle.target_top.specs.laws.RunLaws.{NothingFailed, WroteAndEnded, CheckedAs, CompletesChecks, RanAs, CompletesScripts, AnswersWhole, WritesTheSame}
 
-one_more_is_more : (n m : ℕ) → m ≡ n → m ≡ n + 1 → ⊥
+pub one_more_is_more : (n m : ℕ) → m ≡ n → m ≡ n + 1 → ⊥
 one_more_is_more n m same more = omega (arith, same, more)
 
 -- a text was printed whole where the output didn't fail
-printed_whole : (text : List ℕ) (good ending : Ending) (old new : Output) (status : ℕ) → new.faults ≡ old.faults → status ≡ exit_status ending → PrintsText text good old new ending → WroteAndEnded text (exit_status good) old new status
+pub printed_whole : (text : List ℕ) (good ending : Ending) (old new : Output) (status : ℕ) → new.faults ≡ old.faults → status ≡ exit_status ending → PrintsText text good old new ending → WroteAndEnded text (exit_status good) old new status
 printed_whole text good ending old new status quiet is (inl written) = (written.whole, is ∙ ap (λ (e : Ending). exit_status e) written.ends)
 printed_whole text good ending old new status quiet is (inr broken) = absurd (one_more_is_more old.faults new.faults quiet (ap (λ (o : Output). o.faults) broken.prefix.2))
 

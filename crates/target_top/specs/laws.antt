@@ -1,1 +1,4 @@
+pub mod GoodScripts
+pub mod MemoryRuns
 pub mod RunLaws
+pub mod WordLaws

@@ -6,6 +6,7 @@ use crate::arguments::{checked_name, only_word, script_words};
 use base_kinds::Limits;
 
 /// What the words of a run ask for.
+#[derive(Drop)]
 pub enum Command<'a> {
     Check { schema: &'a str },
     Script { schema: &'a str, limits: Limits },

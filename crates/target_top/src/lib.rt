@@ -21,5 +21,7 @@ pub use ending::Ending;
 pub use files::{Files, MemFiles};
 pub use files_record::{FilesRecord, NamedText};
 pub use host::{Host, Kit};
-pub use laws::{runs_are_complete, runs_in_memory_are_determined};
+pub use laws::{
+    runs_are_complete, runs_in_memory_are_determined, words_decide, words_give_one_command,
+};
 pub use program::{RunEnd, run};

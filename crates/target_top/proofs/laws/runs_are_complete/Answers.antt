@@ -1,3 +1,5 @@
+use Rattle.target_top.proofs.GoodScripts.{good_scripts_complete}
+use Rattle.target_top.proofs.WordLaws.{help_completes, version_completes, refusals_complete}
 use Rattle.target_top.proofs.RunLaws.{checks_complete, scripts_complete}
 use Rattle.target_top.proofs.laws.runs_are_complete.Goals as goal
 
@@ -6,3 +8,15 @@ returns-clause-checks c = checks_complete
 
 pub returns-clause-scripts : goal.returns-clause-scripts
 returns-clause-scripts c = scripts_complete
+
+pub returns-clause-help : goal.returns-clause-help
+returns-clause-help c = help_completes
+
+pub returns-clause-version : goal.returns-clause-version
+returns-clause-version c = version_completes
+
+pub returns-clause-refusals : goal.returns-clause-refusals
+returns-clause-refusals c = refusals_complete
+
+pub returns-clause-good_scripts : goal.returns-clause-good_scripts
+returns-clause-good_scripts c = good_scripts_complete

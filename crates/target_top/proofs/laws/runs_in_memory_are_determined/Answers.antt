@@ -1,3 +1,4 @@
+use Rattle.target_top.proofs.MemoryRuns.{loses_no_octet, runs_alike}
 use Rattle.target_top.proofs.RunLaws.{whole_answered, same_written}
 use Rattle.target_top.proofs.laws.runs_in_memory_are_determined.Goals as goal
 
@@ -6,3 +7,9 @@ returns-clause-whole c = whole_answered
 
 pub returns-clause-same : goal.returns-clause-same
 returns-clause-same c = same_written
+
+pub returns-clause-none_lost : goal.returns-clause-none_lost
+returns-clause-none_lost c = loses_no_octet
+
+pub returns-clause-alike : goal.returns-clause-alike
+returns-clause-alike c = runs_alike

@@ -1,0 +1,36 @@
+-- Runs of scripts of which every line is one of a script.
+use Rattle.std.proofs.Common.{◌≡◌, ℕ, List, Result, Ok, Err, inl, inr, sym, ap, ◌∙◌, subst}
+use Rattle.edge_traits.specs.Output.{Wrote}
+use Rattle.base_kinds.specs.declared.entry.Limits.{Limits}
+use Rattle.base_kinds.specs.Schema.{SchemaNode}
+use Rattle.schema_text.specs.declared.cause.SchemaFault.{SchemaFault}
+use Rattle.schema_text.specs.Schemas.{schema_of}
+use Rattle.script_run.specs.ScriptStates.{fresh}
+use Rattle.script_run.specs.laws.ScriptLaws.{script_events}
+use Rattle.script_run.specs.laws.ScriptTexts.{events_text}
+use Rattle.script_run.proofs.ScriptTexts.{prints_events}
+use Rattle.target_top.specs.Ending.{exit_status}
+use Rattle.target_top.specs.Environment.{Environment}
+use Rattle.target_top.specs.ScriptRun.{script_ending}
+use Rattle.target_top.specs.laws.RunLaws.{RanAs}
+use Rattle.target_top.specs.laws.GoodScripts.{RanLines, CompletesGoodScripts}
+use Rattle.target_top.proofs.RunLaws.{scripts_complete}
+
+ran_lines : (schema : List SchemaNode) (limits : Limits) (before after : Environment) (status : ℕ) → RanAs (Ok schema) limits before after status → RanLines schema limits before after status
+ran_lines schema limits before after status ran = record {
+  script = ran.0;
+  read = ran.1;
+  wrote = λ lines short are.
+      let runs = ran.2 in
+      let prints = prints_events schema limits ran.0 lines runs.answers runs.is_whole short are runs.runs in (
+        subst (λ text. Wrote text before.output after.output) prints.0 runs.written.0,
+        runs.written.1 ∙ ap (λ whole. exit_status (script_ending whole)) prints.1,
+      );
+}
+
+pub good_scripts_complete : CompletesGoodScripts
+good_scripts_complete words name limits before after status is run quiet =
+    elim (scripts_complete words name limits before after status is run quiet) [
+      | inl starved ↦ inl starved
+      | inr ran ↦ inr (ran.0, ran.1, λ schema read. ran_lines schema limits before after status (subst (λ r. RanAs r limits before after status) read ran.2))
+    ]

@@ -1,0 +1,52 @@
+-- Runs over objects in memory: they lose no octet, and two that go well over fresh and equal objects write the same.
+use Rattle.std.specs.Prelude.{◌≡◌, ℕ, List, ◌++◌, Option, Some}
+use Rattle.edge_traits.specs.Input.{Input, unread_input}
+use Rattle.edge_traits.specs.Output.{Output, Wrote, unwritten_output}
+use Rattle.target_top.specs.declared.ending.Ending.TheVariants.{NoMemory}
+use Rattle.target_top.specs.Ending.{exit_status}
+use Rattle.target_top.specs.Environment.{Environment, unread_files, texts_of}
+use Rattle.target_top.specs.Run.{Run}
+use Rattle.target_top.specs.laws.RunLaws.{NothingFailed}
+use Rattle.target_top.specs.laws.WordLaws.{AreDecided}
+
+-- nothing was asked for, read or written as yet; the files hold one text under this name, or none, and the input these octets
+pub record IsFreshMemory
+    (name : List ℕ) (text : Option (List ℕ)) (octets : List ℕ) (environment : Environment)
+    : Type 0 where
+  pub files : environment.files ≡ record unread_files { held = Some (texts_of name text) }
+  pub input : environment.input ≡ record unread_input { left = Some octets }
+  pub output : environment.output ≡ unwritten_output
+
+-- what the input has given and what it has left, together, are these octets
+pub record IsInputOf (octets : List ℕ) (input : Input) : Type 0 where
+  pub rest : List ℕ
+  pub left : input.left ≡ Some rest
+  pub whole : input.given ++ rest ≡ octets
+
+-- a run loses no octet of an input in memory: what it read and what it left are what there was
+abbrev pub LosesNoOctet : Type 0
+LosesNoOctet =
+    (words : List (List ℕ)) (octets : List ℕ) (before after : Environment) (status : ℕ) →
+    AreDecided words → Run words before after status →
+    IsInputOf octets before.input → IsInputOf octets after.input
+
+-- the run ended with this status, nothing failed and memory was there
+pub record WentWell (before after : Environment) (status : ℕ) : Type 0 where
+  pub quiet : NothingFailed before after
+  pub memory : status ≡ exit_status NoMemory → ⊥
+
+-- both runs wrote this text, and nothing else, and ended alike
+pub record WroteAlike (one other : Output) (status status' : ℕ) : Type 0 where
+  pub text : List ℕ
+  pub first : Wrote text unwritten_output one
+  pub second : Wrote text unwritten_output other
+  pub statuses : status ≡ status'
+
+-- two runs with the same words over fresh and equal objects in memory, which both go well, write the same
+abbrev pub RunsAlike : Type 0
+RunsAlike =
+    (words : List (List ℕ)) (name : List ℕ) (text : Option (List ℕ)) (octets : List ℕ)
+    (a b c d : Environment) (status status' : ℕ) →
+    AreDecided words → IsFreshMemory name text octets a → IsFreshMemory name text octets c →
+    Run words a b status → Run words c d status' →
+    WentWell a b status → WentWell c d status' → WroteAlike b.output d.output status status'
