@@ -1,4 +1,4 @@
-use crate::{blocks, fields, frames, huffman};
+use crate::{blocks, fields, frames, huffman, messages, receiving};
 use base_lists::NoMemory;
 use std::alloc::Global;
 
@@ -8,9 +8,22 @@ pub enum Codec {
     Huffman,
     Fields,
     Blocks,
+    Messages,
+    SingleOctets,
+    SmallFrames,
+    DataFrames,
 }
 
-pub const CODECS: [Codec; 4] = [Codec::Frames, Codec::Huffman, Codec::Fields, Codec::Blocks];
+pub const CODECS: [Codec; 8] = [
+    Codec::Frames,
+    Codec::Huffman,
+    Codec::Fields,
+    Codec::Blocks,
+    Codec::Messages,
+    Codec::SingleOctets,
+    Codec::SmallFrames,
+    Codec::DataFrames,
+];
 
 /// What a codec did in all its rounds.
 #[derive(Clone, Copy, Debug)]
@@ -39,6 +52,10 @@ impl Codec {
             "huffman" => Some(Codec::Huffman),
             "fields" => Some(Codec::Fields),
             "blocks" => Some(Codec::Blocks),
+            "messages" => Some(Codec::Messages),
+            "single_octets" => Some(Codec::SingleOctets),
+            "small_frames" => Some(Codec::SmallFrames),
+            "data_frames" => Some(Codec::DataFrames),
             _ => None,
         }
     }
@@ -49,6 +66,10 @@ impl Codec {
             Codec::Huffman => "huffman",
             Codec::Fields => "fields",
             Codec::Blocks => "blocks",
+            Codec::Messages => "messages",
+            Codec::SingleOctets => "single_octets",
+            Codec::SmallFrames => "small_frames",
+            Codec::DataFrames => "data_frames",
         }
     }
 
@@ -58,6 +79,10 @@ impl Codec {
             Codec::Huffman => huffman::run(alloc, rounds),
             Codec::Fields => fields::run(alloc, rounds),
             Codec::Blocks => blocks::run(alloc, rounds),
+            Codec::Messages => messages::run(alloc, rounds),
+            Codec::SingleOctets => messages::run_single_octets(alloc, rounds),
+            Codec::SmallFrames => receiving::run_small_frames(alloc, rounds),
+            Codec::DataFrames => receiving::run_data_frames(alloc, rounds),
         }
     }
 }

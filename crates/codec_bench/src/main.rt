@@ -9,6 +9,8 @@ mod draws;
 mod fields;
 mod frames;
 mod huffman;
+mod messages;
+mod receiving;
 
 use codec::{CODECS, Codec, Fault};
 use std::alloc::Global;

@@ -55,7 +55,8 @@ abbrev pub of_path : Option (List ℕ) → CallHead
 of_path None = Refused NoMethod
 of_path (Some path) = of_method (method_at path)
 
--- Another method of HTTP than POST is answered with status 405 (RFC 9110 section 15.5.6), then another type of content
+-- Another method of HTTP than POST is answered with status 405 (RFC 9110 section 15.5.6; without the header `allow`, since no
+-- other method is to be tried), then another type of content
 -- with 415, and then a path of no method is refused.
 abbrev pub head_of : List Header → CallHead
 head_of headers =

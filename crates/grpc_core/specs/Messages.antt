@@ -26,7 +26,8 @@ of_length size there =
     else if nat_lt there size then Waiting
     else Whole size
 
--- What stands first in octets. The five octets before a message decide: its flag first, then its length.
+-- What stands first in octets. The five octets before a message decide: its flag first, then its length. No message
+-- encoding is supported, so a compressed message is refused whether or not its call names an encoding.
 abbrev pub standing : List ℕ → Standing
 standing (flag ∷ a ∷ b ∷ c ∷ d ∷ more) =
     if nat_eq flag 0 then of_length (stated a b c d) (length more) else Faulty Compressed

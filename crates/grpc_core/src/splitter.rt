@@ -62,7 +62,8 @@ impl Splitter {
             → Stops (self.old.rest ++ piece.now) out.old out.new fault) }
         ensures goes_on { OnOk result ((self.old.fault ≡ None) × (self.new.fault ≡ None)) }
         ensures keeps { IfErr result (λ fault. self.new.fault ≡ Some fault) }
-        // What it was found with stays.
+        // At its first fault it lets go what it held; after that nothing changes any more.
+        ensures empty { IfErr result (λ fault. self.old.fault ≡ None → self.new.rest ≡ []) }
         ensures for_ever { self.old.fault ≢ None → (self.new ≡ self.old) × (out.new ≡ out.old) }
         ensures held { length self.new.rest ≤ 4194308 }
     {

@@ -1,13 +1,12 @@
 -- Moments, one behind the other.
-use Rattle.std.proofs.Common.{◌≡◌, ℕ, List, [], ◌∷◌, ◌++◌, refl, sym, ap, ◌∙◌, subst, Option, Some, None, Result, Ok, Err}
+use Rattle.std.proofs.Common.{◌≡◌, ℕ, List, [], ◌∷◌, ◌++◌, refl, sym, ap, ◌∙◌, subst, Option, Some, None, Result, Ok}
 use Rattle.h2_frame.specs.Frames.{Frame}
 use Rattle.h2_events.specs.declared.event.RecvEvent.{RecvEvent}
-use Rattle.h2_events.specs.Events.{highest_from, highest_with}
+use Rattle.h2_events.specs.Events.{highest_from}
 use Rattle.h2_events.specs.Items.{Read, Event, Ended}
 use Rattle.h2_calls.specs.declared.peer.Peer.{Peer}
 use Rattle.h2_calls.specs.Outcomes.{Told}
-use Rattle.h2_calls.specs.Calls.{Moment, read, ended, Cause, came, ends, Leads, Calls, causes_of, frames_of, events_of, reads_of, AreRead}
-use Rattle.h2_calls.specs.Laws.{highest_after}
+use Rattle.h2_calls.specs.Calls.{Moment, read, ended, Cause, came, ends, Leads, Calls, causes_of, frames_of, events_of, reads_of}
 use Rattle.h2_calls.proofs.OutcomeLemmas.{one_outcome}
 use Rattle.h2_calls.proofs.LawLemmas.{tells_highest}
 

@@ -1,5 +1,5 @@
 -- Events of frames are sound: one lemma a definition of what frames mean.
-use Rattle.std.proofs.Common.{◌≡◌, ℕ, ◌==◌, ◌+◌, ◌*◌, ◌-◌, ◌^◌, ◌%◌, ◌<◌, ◌≤◌, List, [], ◌∷◌, Bool, true, false, refl, sym, ap, ◌∙◌, subst, cond, not, arith, nat_lt, nat_le, length, length-drop, take, drop, ◌&&◌, ◌||◌, inl, inr, All, Option, Some, None, Result, Ok, Err}
+use Rattle.std.proofs.Common.{◌≡◌, ℕ, ◌==◌, ◌+◌, ◌-◌, ◌^◌, ◌%◌, ◌<◌, ◌≤◌, List, [], ◌∷◌, Bool, true, false, refl, sym, ap, subst, cond, not, arith, nat_lt, nat_le, length, length-drop, take, drop, ◌&&◌, ◌||◌, inl, inr, All, Option, Some, None, Result, Ok, Err}
 use Rattle.std.specs.Prelude.{⊤, if◌then◌else◌}
 use Rattle.std.specs.List.{AllByRecursion}
 use Rattle.std.proofs.lemmas.List.Elements.{All-head, All-tail}
@@ -11,10 +11,9 @@ use Rattle.hpack_block.specs.declared.header.BlockFault.TheVariants as unread
 use Rattle.hpack_block.specs.Answers.{State, Answers, largest_list}
 use Rattle.hpack_block.specs.Tables.{size_of_all}
 use Rattle.h2_frame.specs.declared.frame.Head.{Head}
-use Rattle.h2_frame.specs.Frames.{Frame, Fits}
+use Rattle.h2_frame.specs.Frames.{Frame}
 use Rattle.h2_frame.specs.Kinds.{settings_kind, continuation_kind, ack_flag, end_stream_flag, end_headers_flag, padded_flag, priority_flag}
 use Rattle.h2_frame.specs.ErrorCodes.{protocol_error, flow_control_error, frame_size_error, stream_closed, refused_stream, enhance_your_calm}
-use Rattle.h2_events.specs.declared.event.RecvEvent.{RecvEvent}
 use Rattle.h2_events.specs.declared.event.RecvEvent.TheVariants as event
 use Rattle.h2_events.specs.Events.{largest_window, largest_frame, IsClientStream, CanFault, IsSound}
 use Rattle.h2_calls.specs.declared.streams.StreamState.{StreamState}
@@ -25,14 +24,14 @@ use Rattle.h2_calls.specs.declared.settings.Settings.{Settings}
 use Rattle.h2_calls.specs.declared.peer.HeaderBlock.{HeaderBlock}
 use Rattle.h2_calls.specs.declared.peer.Peer.{Peer}
 use Rattle.h2_calls.specs.Codes.{has, kind_of, largest_block, most_streams}
-use Rattle.h2_calls.specs.States.{is_idle, state_among, without, peer_ends, open_stream, opened_and_reset, reset}
+use Rattle.h2_calls.specs.States.{is_idle, state_among, peer_ends, open_stream, opened_and_reset, reset}
 use Rattle.h2_calls.specs.Outcomes.{Outcome, nothing, gives, stream_fault}
 use Rattle.h2_calls.specs.Payloads.{between, padded_content, content, number, with_setting, and_then, with_settings}
 use Rattle.h2_calls.specs.Requests.{is_well_formed}
 use Rattle.h2_calls.specs.Blocks.{refused, request, later_block, block_on, headers_mean, BlockMeans}
 use Rattle.h2_calls.specs.Meanings.{Meaning, said, block_ends, data_on, data_with, data_means, with_fragment, longer, headers_with, headers_begin, continuation_means, priority_means, reset_on, rst_stream_means, settings_told, settings_mean, ping_means, goaway_means, increment_on, increment_means, window_update_means, kind_means, next_means, meaning_of, Comes, Means}
 use Rattle.h2_calls.specs.Calls.{Moment, read, ended, Calls, frames_of, events_of}
-use Rattle.h2_calls.specs.Laws.{HasClientStream, IsSoundPeer, IsReadable, IsSoundIfAny, GivesSound}
+use Rattle.h2_calls.specs.Laws.{HasClientStream, IsSoundPeer, IsReadable, GivesSound}
 use Rattle.h2_calls.specs.States.{this_side_ends}
 
 record IsGood (outcome : Outcome) : Type 0 where

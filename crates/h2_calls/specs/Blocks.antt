@@ -26,7 +26,7 @@ request stream ends (Some headers) peer =
     then gives (event.Call stream headers ends) (open_stream stream ends peer)
     else refused stream protocol_error peer
 
--- A block on a stream that the peer opened: trailers, which end it, or a fault.
+-- A block on a stream that the peer opened: trailers, which end it, or a fault. What trailers hold isn't judged.
 abbrev pub later_block : ℕ → Bool → StreamState → Peer → Outcome
 later_block stream ends state.Closed peer = nothing peer
 later_block stream ends state.HalfClosedRemote peer = stream_fault stream stream_closed peer

@@ -17,7 +17,7 @@ abbrev pub TellsHighest : Peer → Outcome → Type 0
 TellsHighest peer (Ok told) = told.peer.highest ≡ highest_after peer.highest told.event
 TellsHighest peer (Err code) = ⊤
 
--- The states of all streams but this one are as before.
+-- The states of all streams but this one are as before, closed and idle ones alike counting as closed.
 abbrev pub KeepsOthers : ℕ → Peer → Outcome → Type 0
 KeepsOthers stream peer (Ok told) =
     (other : ℕ) → other ≢ stream

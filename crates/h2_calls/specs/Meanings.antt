@@ -27,7 +27,9 @@ pub data Meaning : Type 0 where
   said : Outcome → Meaning
   block_ends : HeaderBlock → Meaning
 
--- DATA (section 6.1). On a closed stream it counts against the connection's window alone.
+-- DATA (section 6.1). On a closed stream it counts against the connection's window alone, whoever closed it: 6.1 asks for
+-- STREAM_CLOSED there, which would reset a stream that is reset or ended already. On a stream that the peer has ended it is a
+-- stream error, whose octets aren't granted again to the connection (6.9): both are this project's profile.
 abbrev pub data_on : Head → List ℕ → StreamState → Peer → Outcome
 data_on head octets state.Closed peer = gives (event.Piece head.stream [] head.length true) peer
 data_on head octets state.HalfClosedRemote peer = stream_fault head.stream stream_closed peer
@@ -76,7 +78,8 @@ headers_begin frame peer =
 abbrev pub continuation_means : Frame → HeaderBlock → Peer → Meaning
 continuation_means frame block peer = with_fragment frame.head.flags block frame.payload peer
 
--- PRIORITY (section 6.3)
+-- PRIORITY (section 6.3). Of a wrong size it is a stream error also on an idle stream, as 6.3 says of every stream; the
+-- RST_STREAM that answers it then names a stream that 6.4 leaves out.
 abbrev pub priority_means : Frame → Peer → Outcome
 priority_means frame peer =
     if frame.head.stream == 0 then Err protocol_error

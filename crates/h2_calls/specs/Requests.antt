@@ -1,4 +1,6 @@
--- Header lists of requests (RFC 9113 sections 8.2 and 8.3).
+-- Header lists of requests, by those rules of RFC 9113 8.2 and 8.3 that decide a call: pseudo-headers (8.3.1), names in upper
+-- case (8.2.1) and headers of connections (8.2.2). In this project's profile the other octets that 8.2.1 forbids, `te`,
+-- `content-length` (8.1.1) and an empty `:path` aren't looked at, and a request by CONNECT (8.5) is malformed.
 use Rattle.std.specs.Prelude.{ℕ, List, [], ◌∷◌, Bool, true, false, not, ◌&&◌, ◌||◌, ◌==◌, nat_le, codes, bytes_eq, count_by, slice_index, if◌then◌else◌}
 use Rattle.hpack_block.specs.declared.header.Header.{Header}
 

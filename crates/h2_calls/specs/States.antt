@@ -15,9 +15,6 @@ state_among id (stream ∷ streams) = if stream.id == id then stream.state else 
 abbrev pub is_idle : Peer → ℕ → Bool
 is_idle peer id = (id % 2 == 0) || nat_lt peer.highest id
 
-abbrev pub state_of : Peer → ℕ → StreamState
-state_of peer id = if is_idle peer id then state.Idle else state_among id peer.streams
-
 abbrev pub without : ℕ → List Stream → List Stream
 without id streams = filter (λ (stream : Stream). not (stream.id == id)) streams
 

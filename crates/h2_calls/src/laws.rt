@@ -44,7 +44,8 @@ pub fn highest_of_events()
         → last.highest ≡ highest_from start.highest (events_of moments) }
 {}
 
-/// A frame changes the state of no stream but its own, also where it is a stream error.
+/// A frame changes the state of no other stream that is open or half closed, also where it is a stream error. (HEADERS close the
+/// idle streams below their own, RFC 9113 5.1.1, which here count as closed before.)
 pub fn others_stay()
     ensures { (peer : Known) (frame : Frame) (outcome : Outcome)
         → Means peer frame outcome → KeepsOthers frame.head.stream peer outcome }

@@ -1,10 +1,7 @@
 -- What is read off two orders, one behind the other.
-use Rattle.std.proofs.Common.{◌≡◌, ℕ, ◌==◌, List, [], ◌∷◌, ◌++◌, Bool, true, false, Contains, map, refl, sym, ap, ◌∙◌, subst, append_assoc, cond, inl}
-use Rattle.std.proofs.lemmas.List.{append-nil}
+use Rattle.std.proofs.Common.{◌≡◌, ℕ, ◌==◌, List, [], ◌∷◌, ◌++◌, Bool, true, false, Contains, map, refl, sym, ap, ◌∙◌, subst, cond, inl}
 use Rattle.h2_frame.specs.Frames.{Frame}
-use Rattle.h2_events.specs.declared.event.RecvEvent.{RecvEvent}
-use Rattle.h2_events.specs.declared.said.Said.{Said}
-use Rattle.h2_events.specs.Items.{Item, Meant, Accepted, Wrote, Read, Event, Ended, heard, written, said_on, is_last, as_read, events_read, ended_before, EachAfter, GoTogether}
+use Rattle.h2_events.specs.Items.{Item, Meant, Accepted, Wrote, Read, Event, Ended, heard, written, said_on, is_last, as_read, events_read, ended_before, GoTogether}
 
 cond_append : {A : Type 0} (b : Bool) (x : A) (xs ys : List A) → cond b (x ∷ (xs ++ ys)) (xs ++ ys) ≡ cond b (x ∷ xs) xs ++ ys
 cond_append true x xs ys = refl
@@ -59,13 +56,6 @@ pub said_on-wrote : (s : ℕ) (frames : List Frame) → said_on s (map Wrote fra
 said_on-wrote s [] = refl
 said_on-wrote s (frame ∷ frames) = said_on-wrote s frames
 
--- ---- conditions of each place
-
-pub each-append : (P : List Item → Item → Type 0) (before xs ys : List Item) → EachAfter P before xs → EachAfter P (before ++ xs) ys → EachAfter P before (xs ++ ys)
-each-append P before [] ys h k = subst (λ t. EachAfter P t ys) (append-nil before) k
-each-append P before (x ∷ xs) ys h k =
-    (h.0, each-append P (before ++ x ∷ []) xs ys h.1 (subst (λ t. EachAfter P t ys) (sym (append_assoc before (x ∷ []) xs)) k))
-
 -- ---- one order is two that go together
 
 with_end : (b : Bool) (on : ℕ) (more : List Read) → events_read (cond b (Ended on ∷ more) more) ≡ events_read more
@@ -82,4 +72,5 @@ pub one_goes_together : (is_fed : ℕ → Bool) (order : List Item) (reader : Li
 one_goes_together is_fed order reader one = record {
   events = ap events_read (sym one) ∙ events_as_read order;
   ends = λ number stream h. inl (subst (λ r. Contains (ended_before number r) stream) one h);
+  only = λ number stream h. subst (λ r. Contains (ended_before number r) stream) (sym one) h;
 }

@@ -1,5 +1,5 @@
 -- What events of a peer's frames can be, and the streams that they name.
-use Rattle.std.specs.Prelude.{◌≡◌, ◌⊎◌, ℕ, ◌^◌, ◌%◌, ◌<◌, ◌≤◌, ◌==◌, ⊤, List, [], ◌∷◌, Bool, false, ◌||◌, length, max, if◌then◌else◌}
+use Rattle.std.specs.Prelude.{◌≡◌, ◌⊎◌, ℕ, ◌^◌, ◌%◌, ◌<◌, ◌≤◌, ◌==◌, ⊤, List, [], ◌∷◌, Bool, false, length, max, if◌then◌else◌}
 use Rattle.hpack_block.specs.Tables.{size_of_all}
 use Rattle.hpack_block.specs.Answers.{largest_list}
 use Rattle.h2_frame.specs.ErrorCodes.{frame_size_error}
@@ -25,7 +25,7 @@ abbrev pub CanFault : ℕ → ℕ → Type 0
 CanFault stream code =
     IsClientStream stream ⊎ ((0 < stream) × (stream < 2 ^ 31) × (code ≡ frame_size_error))
 
--- an event that some frame can mean
+-- what holds of every event that a frame means
 abbrev pub IsSound : RecvEvent → Type 0
 IsSound (event.Settings size resizes) = size ≤ largest_window
 IsSound event.SettingsAck = ⊤
@@ -63,16 +63,8 @@ resets stream (event.Reset on) = on == stream
 resets stream (event.StreamFault on code) = on == stream
 resets stream _ = false
 
-abbrev pub any_resets : ℕ → List RecvEvent → Bool
-any_resets stream [] = false
-any_resets stream (event ∷ events) = resets stream event || any_resets stream events
-
 -- the peer opens a stream, and this side may say something on it
 abbrev pub opens : ℕ → RecvEvent → Bool
 opens stream (event.Call on headers ends) = on == stream
 opens stream (event.TooLong on) = on == stream
 opens stream _ = false
-
-abbrev pub any_opens : ℕ → List RecvEvent → Bool
-any_opens stream [] = false
-any_opens stream (event ∷ events) = opens stream event || any_opens stream events

@@ -1,14 +1,15 @@
 -- The order of what happens on a connection, and what is read off it.
-use Rattle.std.specs.Prelude.{◌≡◌, ◌⊎◌, ℕ, zero, suc, List, [], ◌∷◌, ◌++◌, Bool, true, false, not, ◌&&◌, ◌||◌, ◌==◌, IsTrue, Contains, if◌then◌else◌}
+use Rattle.std.specs.Prelude.{◌≡◌, ◌⊎◌, ℕ, zero, suc, List, [], ◌∷◌, Bool, true, false, not, ◌&&◌, ◌||◌, ◌==◌, IsTrue, Contains, if◌then◌else◌}
 use Rattle.h2_frame.specs.Frames.{Frame}
 use Rattle.h2_events.specs.declared.event.RecvEvent.{RecvEvent}
 use Rattle.h2_events.specs.declared.said.Piece.{Piece}
 use Rattle.h2_events.specs.declared.said.Piece.TheVariants as piece
 use Rattle.h2_events.specs.declared.said.Said.{Said}
 use Rattle.h2_events.specs.declared.said.Said.TheVariants.{Message, Finish, Status}
-use Rattle.h2_events.specs.Events.{any_resets, any_opens}
+use Rattle.h2_events.specs.Events.{resets, opens}
 
--- A frame was read that means this. Something was accepted to be said on a stream. A frame was written.
+-- A frame was read that means this. Something was accepted to be said on a stream: what comes last on it is accepted only where
+-- none of its octets wait. A frame was written.
 pub data Item : Type 0 where
   Meant : RecvEvent → Item
   Accepted : ℕ → Said → Item
@@ -75,39 +76,37 @@ ended_before (suc number) (Event event ∷ more) = ended_before number more
 
 -- ---- streams in an order
 
-abbrev pub was_reset : ℕ → List Item → Bool
-was_reset stream items = any_resets stream (heard items)
+-- Whether something may be said on a stream after an item, by whether it might before (RFC 9113 section 5.1: the stream is
+-- open, or half closed by the peer). Headers of the peer open it. A reset closes it, and so does what comes last on it.
+-- A stream error for the size of a PRIORITY may come on an idle stream: it closes nothing, and the stream may be opened
+-- behind it.
+abbrev pub can_say_after : ℕ → Bool → Item → Bool
+can_say_after stream before (Meant event) =
+    opens stream event || (before && not (resets stream event))
+can_say_after stream before (Accepted on said) = before && not (on == stream && is_last said)
+can_say_after stream before (Wrote frame) = before
 
-abbrev pub was_opened : ℕ → List Item → Bool
-was_opened stream items = any_opens stream (heard items)
+abbrev pub can_say_from : ℕ → Bool → List Item → Bool
+can_say_from stream before [] = before
+can_say_from stream before (item ∷ items) =
+    can_say_from stream (can_say_after stream before item) items
 
--- this side has ended the stream
-abbrev pub has_ended : ℕ → List Item → Bool
-has_ended stream items = any_last (said_on stream items)
-
--- something may still be said on the stream (RFC 9113 section 5.1: open, or half closed by the peer)
+-- something may be said on the stream behind the items of a connection so far
 abbrev pub can_say : ℕ → List Item → Bool
-can_say stream items =
-    was_opened stream items && not (was_reset stream items) && not (has_ended stream items)
+can_say stream items = can_say_from stream false items
 
 -- what a piece says
 abbrev pub said_by : Piece → Said
 said_by (piece.Message octets) = Message octets
 said_by (piece.Finish refusal) = Finish refusal
 
--- ---- conditions at each place, and two orders
-
--- the condition holds of each item and of what stands before it
-abbrev pub EachAfter : (List Item → Item → Type 0) → List Item → List Item → Type 0
-EachAfter P before [] = Unit {0}
-EachAfter P before (item ∷ items) = P before item × EachAfter P (before ++ item ∷ []) items
-
-abbrev pub Each : (List Item → Item → Type 0) → List Item → Type 0
-Each P items = EachAfter P [] items
+-- ---- two orders
 
 -- Two orders have the same events. A stream that this side had ended before a frame was read is ended before that frame
--- for who reads too, unless another thread serves the stream.
+-- for who reads too, unless another thread serves the stream. What is ended for who reads this side had ended before.
 pub record GoTogether (is_fed : ℕ → Bool) (order : List Item) (reader : List Read) : Type 0 where
   pub events : events_read reader ≡ heard order
   pub ends : (number stream : ℕ) → Contains (ended_before number (as_read order)) stream
       → Contains (ended_before number reader) stream ⊎ IsTrue (is_fed stream)
+  pub only : (number stream : ℕ) → Contains (ended_before number reader) stream
+      → Contains (ended_before number (as_read order)) stream

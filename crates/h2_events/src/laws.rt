@@ -1,9 +1,11 @@
 //! Laws of the definitions, which hold for every caller.
-ghost use Rattle.std.specs.Prelude.{◌≡◌, ℕ, ◌≤◌, List, [], ◌∷◌, ◌++◌, Bool, IsTrue, map};
+ghost use Rattle.std.specs.Prelude.{◌≡◌, ℕ, ◌≤◌, List, [], ◌∷◌, ◌++◌, Bool, true, false, IsTrue, map};
+ghost use Rattle.std.specs.List.{AllByRecursion};
 ghost use Rattle.h2_frame.specs.Frames.{Frame};
 ghost use Rattle.h2_events.specs.declared.event.RecvEvent.{RecvEvent as Heard};
-ghost use Rattle.h2_events.specs.Events.{highest_from, any_resets};
-ghost use Rattle.h2_events.specs.Items.{Item, Wrote, Read, heard, written, said_on, as_read, events_read, was_reset, GoTogether};
+ghost use Rattle.h2_events.specs.declared.said.Said.{Said as Spoken};
+ghost use Rattle.h2_events.specs.Events.{highest_from, resets, opens};
+ghost use Rattle.h2_events.specs.Items.{Item, Meant, Accepted, Wrote, Read, heard, written, said_on, is_last, as_read, events_read, can_say, can_say_from, GoTogether};
 
 /// What is read off one order and then another is what is read off both.
 pub fn orders_join()
@@ -20,10 +22,22 @@ pub fn orders_join()
     ensures unsaid { (stream : ℕ) (frames : List Frame) → said_on stream (map Wrote frames) ≡ [] }
 {}
 
-/// A stream that was reset stays so.
-pub fn resets_stay()
-    ensures { (stream : ℕ) (one other : List Item)
-        → IsTrue (was_reset stream one) → IsTrue (was_reset stream (one ++ other)) }
+/// Where something may be said.
+pub fn what_can_be_said()
+    ensures joined { (stream : ℕ) (before : Bool) (one other : List Item)
+        → can_say_from stream before (one ++ other)
+        ≡ can_say_from stream (can_say_from stream before one) other }
+    // A stream that is opened is so whatever came before, also a stream error on it while it was idle.
+    ensures opened { (stream : ℕ) (items : List Item) (event : Heard) → IsTrue (opens stream event)
+        → can_say stream (items ++ Meant event ∷ []) ≡ true }
+    ensures reset { (stream : ℕ) (items : List Item) (event : Heard) → IsTrue (resets stream event)
+        → can_say stream (items ++ Meant event ∷ []) ≡ false }
+    ensures ended { (stream : ℕ) (items : List Item) (said : Spoken) → IsTrue (is_last said)
+        → can_say stream (items ++ Accepted stream said ∷ []) ≡ false }
+    // Nothing but an opening lets this side say anything.
+    ensures closed { (stream : ℕ) (one other : List Item) → can_say stream one ≡ false
+        → AllByRecursion (λ event. opens stream event ≡ false) (heard other)
+        → can_say stream (one ++ other) ≡ false }
 {}
 
 /// The highest stream of events never falls, and that of more events follows from it.

@@ -9,6 +9,6 @@ mod port;
 mod said;
 
 pub use event::{RecvEvent, RecvEvents, RecvFault};
-pub use laws::{highest_of_more, one_goes_together, orders_join, resets_stay};
+pub use laws::{highest_of_more, one_goes_together, orders_join, what_can_be_said};
 pub use port::{Ready, Took, WirePort};
 pub use said::{Piece, Said};

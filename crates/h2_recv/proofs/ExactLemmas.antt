@@ -1,5 +1,5 @@
 -- Octets are read in one way at most.
-use Rattle.std.proofs.Common.{◌≡◌, ℕ, ◌+◌, ◌<◌, ◌≤◌, ◌⊎◌, List, [], ◌∷◌, ◌++◌, length, get_or, drop, refl, sym, ap, subst, ◌∙◌, arith, inl, inr, Option, Some, None, Result, Ok, Err}
+use Rattle.std.proofs.Common.{◌≡◌, ℕ, ◌+◌, ◌≤◌, ◌⊎◌, List, [], ◌∷◌, ◌++◌, length, get_or, refl, sym, ap, subst, ◌∙◌, arith, inl, inr, Option, Result, Ok, Err}
 use Rattle.std.proofs.lemmas.List.{append-nil, get_or_append_left}
 use Rattle.h2_frame.specs.Frames.{Frame, Spells, BeginsWith, LeadingFrames, IsPart, IsTooLong, stated_length}
 use Rattle.h2_frame.proofs.Reading.{states_least}
@@ -9,10 +9,11 @@ use Rattle.h2_events.specs.Events.{largest_frame}
 use Rattle.h2_calls.specs.declared.peer.Peer.{Peer}
 use Rattle.h2_calls.specs.Outcomes.{Told}
 use Rattle.h2_calls.specs.Meanings.{Means}
-use Rattle.h2_calls.specs.Calls.{Moment, read, ended, Calls, AreRead, IsFault, frames_of}
+use Rattle.h2_calls.specs.Calls.{Moment, read, ended, Calls, AreRead, IsFault, frames_of, causes_of}
+use Rattle.h2_calls.proofs.CallLemmas.{one_chain}
 use Rattle.h2_calls.proofs.OutcomeLemmas.{one_outcome}
 use Rattle.h2_recv.specs.declared.reader.Reader.{Reader}
-use Rattle.h2_recv.specs.Receiving.{share, Opens, Reaches, Reads, FaultStands, Faults, Astray}
+use Rattle.h2_recv.specs.Receiving.{Opens, Reaches, Reads, FaultStands, Faults, Astray, ReadsWithEnds}
 use Rattle.h2_recv.proofs.PieceLemmas.{spelled_length}
 
 -- no frame is read at this place
@@ -131,3 +132,36 @@ read_not_astray old new piece one two code p q = q.departs p.reaches.opened.goes
 
 pub fault_not_astray : (old : Reader) (piece : List ℕ) (one two : List Moment) (code other : ℕ) → Faults old piece one code → Astray old piece two other → ⊥
 fault_not_astray old piece one two code other p q = q.departs p.reaches.opened.goes_on
+
+-- ---- with ends by this side
+
+same_causes : (one two : List Moment) → causes_of one ≡ causes_of two → frames_of one ≡ frames_of two
+same_causes [] [] e = refl
+same_causes [] (read f n ∷ two) e = absurd cc
+same_causes [] (ended s ∷ two) e = absurd cc
+same_causes (read f n ∷ one) [] e = absurd cc
+same_causes (ended s ∷ one) [] e = absurd cc
+same_causes (read f n ∷ one) (read g m ∷ two) e =
+    let first : f ≡ g = cc in
+    let more : causes_of one ≡ causes_of two = cc in
+    ap (λ (k : Frame). k ∷ frames_of one) first ∙ ap (λ (fs : List Frame). g ∷ fs) (same_causes one two more)
+same_causes (read f n ∷ one) (ended s ∷ two) e = absurd cc
+same_causes (ended s ∷ one) (read g m ∷ two) e = absurd cc
+same_causes (ended s ∷ one) (ended t ∷ two) e =
+    let more : causes_of one ≡ causes_of two = cc in same_causes one two more
+
+leading_alike : (octets a b : List ℕ) (frames : List Frame) → LeadingFrames largest_frame octets frames a → LeadingFrames largest_frame octets frames b → a ≡ b
+leading_alike octets a b [] p q = sym p ∙ q
+leading_alike octets a b (f ∷ frames) p q =
+    let h = begun_alike octets p.0 q.0 f f p.1 q.1 in
+    leading_alike p.0 a b frames p.2 (subst (λ (o : List ℕ). LeadingFrames largest_frame o frames b) (sym h.1) q.2)
+
+pub one_with_ends : (old new other : Reader) (octets : List ℕ) (one two : List Moment) → ReadsWithEnds old octets one new → ReadsWithEnds old octets two other
+    → causes_of one ≡ causes_of two → (one ≡ two) × (new ≡ other)
+one_with_ends old new other octets one two p q e =
+    let o = opened_alike old.begun new.begun other.begun octets p.reaches.behind q.reaches.behind p.reaches.opened q.reaches.opened in
+    let run = one_chain old.peer new.peer other.peer one two p.reaches.calls q.reaches.calls e in
+    let rest = leading_alike (old.rest ++ p.reaches.behind) new.rest other.rest (frames_of one) p.reaches.leading
+    (subst (λ (fs : List Frame). LeadingFrames largest_frame (old.rest ++ p.reaches.behind) fs other.rest) (sym (same_causes one two e))
+    (subst (λ (k : List ℕ). LeadingFrames largest_frame (old.rest ++ k) (frames_of two) other.rest) (sym o.1) q.reaches.leading)) in
+    (run.0, same_readers new other rest run.1 o.0)

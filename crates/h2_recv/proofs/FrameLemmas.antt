@@ -1,11 +1,10 @@
-use Rattle.std.proofs.Common.{◌≡◌, ℕ, ◌+◌, ◌-◌, ◌*◌, ◌^◌, ◌<◌, ◌≤◌, ◌⊎◌, List, [], ◌∷◌, ◌++◌, Bool, true, false, nat_lt, length, get_or, take, drop, refl, sym, ap, subst, ◌∙◌, arith, inl, inr, length-append, Option, Result, Ok, Err}
+use Rattle.std.proofs.Common.{◌≡◌, ℕ, ◌+◌, ◌<◌, ◌≤◌, ◌⊎◌, List, [], ◌++◌, length, get_or, take, refl, sym, subst, ◌∙◌, arith, inl, inr, Err}
 use Rattle.std.specs.Prelude.{slice_range}
 use Rattle.std.proofs.lemmas.List.{append-nil, get_or-take, get_or_append_left, take_all}
 use Rattle.std.proofs.lemmas.Bool.{cases_lt}
 use Rattle.h2_frame.specs.declared.frame.Head.{Head}
-use Rattle.h2_frame.specs.Frames.{Frame, Spells, StandsFirst, BeginsWith, IsPart, frame_of, stated_length}
+use Rattle.h2_frame.specs.Frames.{Spells, StandsFirst, IsPart, frame_of, stated_length}
 use Rattle.h2_frame.proofs.Reading.{IsOctets, states_least, frame_no_part, stands}
-use Rattle.h2_events.specs.declared.event.RecvEvent.{RecvEvent}
 use Rattle.h2_events.specs.declared.event.RecvFault.{RecvFault}
 use Rattle.h2_events.specs.declared.event.RecvFault.TheVariants as fault
 use Rattle.h2_calls.specs.declared.peer.Peer.{Peer}

@@ -1,16 +1,16 @@
 -- A fault in one piece is a fault in what begins with it, and a second piece departs from the preface where both do.
-use Rattle.std.proofs.Common.{◌≡◌, ℕ, ◌+◌, ◌-◌, ◌<◌, ◌≤◌, min, ◌⊎◌, List, [], ◌∷◌, ◌++◌, length, take, drop, length-append, length-drop, length-take, refl, sym, ap, subst, ◌∙◌, append_assoc, inl, inr, arith, Option}
+use Rattle.std.proofs.Common.{◌≡◌, ℕ, ◌+◌, ◌-◌, ◌<◌, ◌≤◌, min, ◌⊎◌, List, [], ◌∷◌, ◌++◌, length, take, drop, length-append, refl, sym, ap, subst, ◌∙◌, append_assoc, inl, inr, arith}
 use Rattle.std.proofs.lemmas.Bool.{cases_lt}
-use Rattle.std.proofs.lemmas.List.{append-nil, take_all, drop_all, take-append-le, drop-append-le, take-take, drop-drop, drop-take}
-use Rattle.h2_frame.specs.Frames.{Frame, BeginsWith, LeadingFrames, IsPart, IsTooLong, stated_length}
+use Rattle.std.proofs.lemmas.List.{append-nil, drop_all, take-append-le, drop-append-le, take-take, drop-drop, drop-take}
+use Rattle.h2_frame.specs.Frames.{Frame, LeadingFrames, IsPart}
 use Rattle.h2_frame.proofs.Spelling.{not_part}
-use Rattle.h2_events.specs.declared.event.RecvEvent.{RecvEvent}
 use Rattle.h2_events.specs.Events.{largest_frame}
 use Rattle.h2_calls.specs.declared.peer.Peer.{Peer}
-use Rattle.h2_calls.specs.Calls.{Moment, read, ended, Calls, AreRead, frames_of}
+use Rattle.h2_calls.specs.Calls.{Moment, frames_of}
 use Rattle.h2_recv.specs.declared.reader.Reader.{Reader}
 use Rattle.h2_recv.specs.Receiving.{preface, share, GoesOn, Opens, Reaches, Reads, FaultStands, Faults, Astray}
 use Rattle.h2_recv.proofs.RunLemmas.{grown}
+use Rattle.h2_recv.proofs.PieceLemmas.{no_moments}
 use Rattle.h2_recv.proofs.ExactLemmas.{part_no_fault}
 
 -- octets behind a place where a fault stands
@@ -49,11 +49,6 @@ alone : (octets after : List ℕ) (frames : List Frame) → IsPart largest_frame
 alone octets after [] part p = (refl, p)
 alone octets after (f ∷ frames) part p =
     absurd (not_part largest_frame p.1.front p.0 f p.1.spells (subst (λ (o : List ℕ). IsPart largest_frame o) p.1.joined part))
-
-no_moments : (moments : List Moment) → AreRead moments → frames_of moments ≡ [] → moments ≡ []
-no_moments [] r e = refl
-no_moments (read f n ∷ moments) r e = absurd cc
-no_moments (ended s ∷ moments) r e = absurd r
 
 -- within the preface nothing comes behind it
 none_behind : (begun now : ℕ) (x behind : List ℕ) → length x < length preface - begun → Opens begun x now behind → behind ≡ []

@@ -1,23 +1,22 @@
 -- What comes in two pieces is what comes in one.
-use Rattle.std.proofs.Common.{◌≡◌, ℕ, ◌+◌, ◌-◌, ◌<◌, ◌≤◌, min, ◌⊎◌, List, [], ◌∷◌, ◌++◌, length, get_or, take, drop, length-append, length-drop, refl, sym, ap, subst, ◌∙◌, append_assoc, inl, inr, arith, Option, Some, None}
+use Rattle.std.proofs.Common.{◌≡◌, ℕ, ◌+◌, ◌-◌, ◌<◌, ◌≤◌, ◌⊎◌, List, [], ◌∷◌, ◌++◌, length, get_or, take, drop, length-append, refl, sym, ap, subst, ◌∙◌, append_assoc, inl, inr, arith}
 use Rattle.std.proofs.lemmas.Bool.{cases_lt}
 use Rattle.std.proofs.lemmas.List.{append-nil, get_or_append_left, take_all, drop_all, take-append-le, take-append-drop, drop-append-le, drop-take, take-take, drop-drop}
 use Rattle.std.proofs.Math.Seq.{drop-append_seam}
 use Rattle.h2_frame.specs.Frames.{Frame, Spells, BeginsWith, LeadingFrames, IsPart, stated_length}
 use Rattle.h2_frame.proofs.Reading.{states_least}
 use Rattle.h2_frame.proofs.Runs.{leading_more}
-use Rattle.h2_frame.proofs.Spelling.{alike, not_part}
+use Rattle.h2_frame.proofs.Spelling.{not_part}
 use Rattle.h2_calls.proofs.CallLemmas.{calls_joined, frames_joined}
-use Rattle.h2_calls.proofs.OutcomeLemmas.{one_outcome}
 use Rattle.h2_recv.proofs.FrameLemmas.{within_end}
-use Rattle.h2_events.specs.declared.event.RecvEvent.{RecvEvent}
 use Rattle.h2_calls.specs.declared.peer.Peer.{Peer}
 use Rattle.h2_events.specs.Events.{largest_frame}
-use Rattle.h2_calls.specs.Calls.{Moment, read, ended, Calls, AreRead, frames_of, events_of}
+use Rattle.h2_calls.specs.States.{this_side_ends}
+use Rattle.h2_calls.specs.Calls.{Moment, read, ended, AreRead, frames_of}
 use Rattle.h2_recv.specs.declared.reader.Reader.{Reader}
 use Rattle.h2_recv.specs.inner.Steps.{IsWithin}
 use Rattle.h2_recv.specs.Receiving.{next_end}
-use Rattle.h2_recv.specs.Receiving.{preface, share, GoesOn, Opens, Reaches, Reads, Faults, Stops}
+use Rattle.h2_recv.specs.Receiving.{preface, share, GoesOn, Opens, Reaches, Reads, FaultStands, Faults, Stops, ReachesWithEnds, ReadsWithEnds, FaultsWithEnds, reader_ended}
 
 read_on : (one two : List Moment) → AreRead one → AreRead two → AreRead (one ++ two)
 read_on [] two p q = q
@@ -152,16 +151,109 @@ part_no_frame octets after (f ∷ frames) part p =
     absurd (not_part largest_frame p.1.front p.0 f p.1.spells (subst (λ (o : List ℕ). IsPart largest_frame o) p.1.joined part))
 
 -- a piece inside the preface holds no frame, and one up to the next end holds one at most
-pub one_in_preface : (old new : Reader) (piece : List ℕ) (moments : List Moment) → length piece ≤ length preface - old.begun → IsPart largest_frame old.rest
-    → Reads old piece moments new → length (frames_of moments) ≤ 1
-one_in_preface old new piece moments le part p =
-    let none : p.reaches.behind ≡ [] = p.reaches.opened.behind_is ∙ drop_all (share old.begun piece) piece (omega arith) in
-    part_no_frame old.rest new.rest (frames_of moments) part
-    (subst (λ (o : List ℕ). LeadingFrames largest_frame o (frames_of moments) new.rest) (ap (λ (o : List ℕ). old.rest ++ o) none ∙ append-nil old.rest) p.reaches.leading)
+pub one_in_preface : (old : Reader) (piece after : List ℕ) (moments : List Moment) (begun : ℕ) (peer : Peer) → length piece ≤ length preface - old.begun → IsPart largest_frame old.rest
+    → Reaches old piece moments after begun peer → length (frames_of moments) ≤ 1
+one_in_preface old piece after moments begun peer le part p =
+    let none : p.behind ≡ [] = p.opened.behind_is ∙ drop_all (share old.begun piece) piece (omega arith) in
+    part_no_frame old.rest after (frames_of moments) part
+    (subst (λ (o : List ℕ). LeadingFrames largest_frame o (frames_of moments) after) (ap (λ (o : List ℕ). old.rest ++ o) none ∙ append-nil old.rest) p.leading)
 
-pub one_in_frame : (old new : Reader) (piece : List ℕ) (moments : List Moment) → length preface ≤ old.begun → length old.rest < next_end old.rest
-    → length old.rest + length piece ≤ next_end old.rest → Reads old piece moments new → length (frames_of moments) ≤ 1
-one_in_frame old new piece moments begun lt le p =
-    let e : p.reaches.behind ≡ piece = p.reaches.opened.behind_is ∙ ap (λ (k : ℕ). drop k piece) (let z : share old.begun piece ≡ 0 = omega arith in z) in
-    one_at_most (old.rest ++ piece) new.rest (frames_of moments) (within_end old.rest piece (omega (arith, length-append old.rest piece)))
-    (subst (λ (o : List ℕ). LeadingFrames largest_frame (old.rest ++ o) (frames_of moments) new.rest) e p.reaches.leading)
+-- past the preface all of a piece is octets of frames
+past_preface : (old : Reader) (piece after : List ℕ) (moments : List Moment) (begun : ℕ) (peer : Peer) → length preface ≤ old.begun
+    → Reaches old piece moments after begun peer → LeadingFrames largest_frame (old.rest ++ piece) (frames_of moments) after
+past_preface old piece after moments begun peer le p =
+    let e : p.behind ≡ piece = p.opened.behind_is ∙ ap (λ (k : ℕ). drop k piece) (let z : share old.begun piece ≡ 0 = omega arith in z) in
+    subst (λ (o : List ℕ). LeadingFrames largest_frame (old.rest ++ o) (frames_of moments) after) e p.leading
+
+pub one_in_frame : (old : Reader) (piece after : List ℕ) (moments : List Moment) (begun : ℕ) (peer : Peer) → length preface ≤ old.begun → length old.rest < next_end old.rest
+    → length old.rest + length piece ≤ next_end old.rest → Reaches old piece moments after begun peer → length (frames_of moments) ≤ 1
+one_in_frame old piece after moments begun peer past lt le p =
+    one_at_most (old.rest ++ piece) after (frames_of moments) (within_end old.rest piece (omega (arith, length-append old.rest piece)))
+    (past_preface old piece after moments begun peer past p)
+
+-- ---- a fault in a piece up to the next end
+
+no_fault_in_none : (peer : Peer) (octets : List ℕ) (code : ℕ) → octets ≡ [] → FaultStands peer octets code → ⊥
+no_fault_in_none peer octets code none (inl long) =
+    let zero : stated_length octets ≡ 0 = ap stated_length none in
+    omega (arith, long.0, zero)
+no_fault_in_none peer octets code none (inr q) =
+    let size : length q.2.front ≡ 9 + q.0.head.length = spelled_length q.2.front q.0 q.2.spells in
+    let both : length octets ≡ length q.2.front + length q.1 = ap length q.2.joined ∙ length-append q.2.front q.1 in
+    omega (arith, size, both, ap length none)
+
+none_before_fault : (peer : Peer) (octets after : List ℕ) (frames : List Frame) (code : ℕ) → IsWithin octets → LeadingFrames largest_frame octets frames after → FaultStands peer after code
+    → frames ≡ []
+none_before_fault peer octets after [] code within p stands = refl
+none_before_fault peer octets after (f ∷ []) code within p stands =
+    absurd (no_fault_in_none peer after code (sym p.2 ∙ within_first octets p.0 f within p.1) stands)
+none_before_fault peer octets after (f ∷ g ∷ frames) code within p stands =
+    absurd (omega (arith, one_at_most octets after (f ∷ g ∷ frames) within p))
+
+pub no_moments : (moments : List Moment) → AreRead moments → frames_of moments ≡ [] → moments ≡ []
+no_moments [] r e = refl
+no_moments (read f n ∷ moments) r e = absurd cc
+no_moments (ended s ∷ moments) r e = absurd r
+
+pub first_in_frame : (old : Reader) (piece : List ℕ) (moments : List Moment) (code : ℕ) → length preface ≤ old.begun → length old.rest < next_end old.rest
+    → length old.rest + length piece ≤ next_end old.rest → Faults old piece moments code → moments ≡ []
+first_in_frame old piece moments code past lt le p =
+    no_moments moments p.reaches.read
+    (none_before_fault p.peer (old.rest ++ piece) p.after (frames_of moments) code (within_end old.rest piece (omega (arith, length-append old.rest piece)))
+    (past_preface old piece p.after moments p.begun p.peer past p.reaches) p.stands)
+
+frames_none : (octets after : List ℕ) (frames : List Frame) → IsPart largest_frame octets → LeadingFrames largest_frame octets frames after → frames ≡ []
+frames_none octets after [] part p = refl
+frames_none octets after (f ∷ frames) part p =
+    absurd (not_part largest_frame p.1.front p.0 f p.1.spells (subst (λ (o : List ℕ). IsPart largest_frame o) p.1.joined part))
+
+pub first_in_preface : (old : Reader) (piece : List ℕ) (moments : List Moment) (code : ℕ) → length piece ≤ length preface - old.begun → IsPart largest_frame old.rest
+    → Faults old piece moments code → moments ≡ []
+first_in_preface old piece moments code le part p =
+    let r = p.reaches in
+    let none : r.behind ≡ [] = r.opened.behind_is ∙ drop_all (share old.begun piece) piece (omega arith) in
+    no_moments moments r.read
+    (frames_none old.rest p.after (frames_of moments) part
+    (subst (λ (o : List ℕ). LeadingFrames largest_frame o (frames_of moments) p.after) (ap (λ (o : List ℕ). old.rest ++ o) none ∙ append-nil old.rest) r.leading))
+
+-- ---- ends by this side between pieces
+
+ends_reach_on : (old middle : Reader) (x y after : List ℕ) (begun : ℕ) (peer : Peer) (one two : List Moment) → ReadsWithEnds old x one middle → ReachesWithEnds middle y two after begun peer
+    → ReachesWithEnds old (x ++ y) (one ++ two) after begun peer
+ends_reach_on old middle x y after begun peer one two p q = record {
+  behind = p.reaches.behind ++ q.behind;
+  opened = opens_on old.begun middle.begun begun x y p.reaches.behind q.behind p.reaches.opened q.opened;
+  leading = rw (frames_joined one two) (subst (λ (o : List ℕ). LeadingFrames largest_frame o (frames_of one ++ frames_of two) after) (append_assoc old.rest p.reaches.behind q.behind)
+      (leading_more largest_frame (old.rest ++ p.reaches.behind) q.behind (frames_of one) (frames_of two) middle.rest after p.reaches.leading q.leading));
+  calls = calls_joined old.peer middle.peer peer one two p.reaches.calls q.calls;
+}
+
+pub ends_read_on : (old middle new : Reader) (x y : List ℕ) (one two : List Moment) → ReadsWithEnds old x one middle → ReadsWithEnds middle y two new
+    → ReadsWithEnds old (x ++ y) (one ++ two) new
+ends_read_on old middle new x y one two p q = record { reaches = ends_reach_on old middle x y new.rest new.begun new.peer one two p q.reaches; part = q.part }
+
+pub ends_fault_on : (old middle : Reader) (x y : List ℕ) (one two : List Moment) (code : ℕ) → ReadsWithEnds old x one middle → FaultsWithEnds middle y two code
+    → FaultsWithEnds old (x ++ y) (one ++ two) code
+ends_fault_on old middle x y one two code p q =
+    record { after = q.after; begun = q.begun; peer = q.peer; reaches = ends_reach_on old middle x y q.after q.begun q.peer one two p q.reaches; stands = q.stands }
+
+with_ends : (old : Reader) (x after : List ℕ) (moments : List Moment) (begun : ℕ) (peer : Peer) → Reaches old x moments after begun peer → ReachesWithEnds old x moments after begun peer
+with_ends old x after moments begun peer p = record { behind = p.behind; opened = p.opened; leading = p.leading; calls = p.calls }
+
+pub read_with_ends : (old new : Reader) (x : List ℕ) (moments : List Moment) → Reads old x moments new → ReadsWithEnds old x moments new
+read_with_ends old new x moments p = record { reaches = with_ends old x new.rest moments new.begun new.peer p.reaches; part = p.part }
+
+pub fault_with_ends : (old : Reader) (x : List ℕ) (moments : List Moment) (code : ℕ) → Faults old x moments code → FaultsWithEnds old x moments code
+fault_with_ends old x moments code p =
+    record { after = p.after; begun = p.begun; peer = p.peer; reaches = with_ends old x p.after moments p.begun p.peer p.reaches; stands = p.stands }
+
+pub end_told : (old new : Reader) (x : List ℕ) (moments : List Moment) (s : ℕ) → ReadsWithEnds old x moments new → ReadsWithEnds old x (moments ++ ended s ∷ []) (reader_ended s new)
+end_told old new x moments s p = record {
+  reaches = record {
+    behind = p.reaches.behind;
+    opened = p.reaches.opened;
+    leading = subst (λ (fs : List Frame). LeadingFrames largest_frame (old.rest ++ p.reaches.behind) fs new.rest) (sym (frames_joined moments (ended s ∷ []) ∙ append-nil (frames_of moments))) p.reaches.leading;
+    calls = calls_joined old.peer new.peer (this_side_ends s new.peer) moments (ended s ∷ []) p.reaches.calls (this_side_ends s new.peer, refl, refl);
+  };
+  part = p.part;
+}

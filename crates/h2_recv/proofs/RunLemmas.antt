@@ -2,7 +2,7 @@ use Rattle.std.proofs.Common.{◌≡◌, ℕ, ◌+◌, ◌<◌, ◌≤◌, ◌�
 use Rattle.std.specs.Prelude.{option_to_list, slice_range}
 use Rattle.std.proofs.lemmas.List.{append-nil, take_all, take-append-drop}
 use Rattle.h2_frame.specs.declared.frame.Head.{Head}
-use Rattle.h2_frame.specs.Frames.{Frame, Spells, BeginsWith, LeadingFrames, StandsFirst, IsPart, IsTooLong, frame_of, stated_length}
+use Rattle.h2_frame.specs.Frames.{Frame, Spells, BeginsWith, LeadingFrames, StandsFirst, IsPart, frame_of, stated_length}
 use Rattle.h2_frame.specs.ErrorCodes.{frame_size_error}
 use Rattle.h2_frame.proofs.Reading.{begins}
 use Rattle.h2_events.specs.declared.event.RecvEvent.{RecvEvent}

@@ -1,5 +1,5 @@
 -- A receiver: the octets of a connection as they come, in any pieces.
-use Rattle.std.specs.Prelude.{◌≡◌, ℕ, ◌+◌, ◌-◌, ◌<◌, ◌≤◌, min, List, [], ◌∷◌, ◌++◌, ◌⊎◌, length, nat_lt, if◌then◌else◌, take, drop, codes, true, Option, Some, None, Result, Ok, Err}
+use Rattle.std.specs.Prelude.{◌≡◌, ℕ, ◌+◌, ◌-◌, min, List, [], ◌∷◌, ◌++◌, ◌⊎◌, length, nat_lt, if◌then◌else◌, take, drop, codes, true, Option, Some, None, Result, Ok, Err}
 use Rattle.h2_frame.specs.Frames.{Frame, BeginsWith, LeadingFrames, IsPart, IsTooLong, stated_length}
 use Rattle.h2_events.specs.declared.event.RecvEvent.{RecvEvent}
 use Rattle.h2_events.specs.declared.event.RecvFault.{RecvFault}
@@ -81,6 +81,35 @@ pub record Stops (old : Reader) (piece : List ℕ) (moments : List Moment) : Typ
   pub peer : Peer
   pub reaches : Reaches old piece moments after begun peer
 
+-- ---- ends of streams by this side among the frames
+
+-- With octets a receiver comes as far as `after`. Frames stood before it, and this side ended streams between them.
+pub record ReachesWithEnds (old : Reader) (octets : List ℕ) (moments : List Moment) (after : List ℕ)
+    (begun : ℕ) (peer : Peer) : Type 0 where
+  pub behind : List ℕ
+  pub opened : Opens old.begun octets begun behind
+  pub leading : LeadingFrames largest_frame (old.rest ++ behind) (frames_of moments) after
+  pub calls : Calls old.peer moments peer
+
+pub record ReadsWithEnds (old : Reader) (octets : List ℕ) (moments : List Moment) (new : Reader)
+    : Type 0 where
+  pub reaches : ReachesWithEnds old octets moments new.rest new.begun new.peer
+  pub part : IsPart largest_frame new.rest
+
+pub record FaultsWithEnds (old : Reader) (octets : List ℕ) (moments : List Moment) (code : ℕ)
+    : Type 0 where
+  pub after : List ℕ
+  pub begun : ℕ
+  pub peer : Peer
+  pub reaches : ReachesWithEnds old octets moments after begun peer
+  pub stands : FaultStands peer after code
+
+-- this side ends a stream
+abbrev pub reader_ended : ℕ → Reader → Reader
+reader_ended stream reader = record reader { peer = this_side_ends stream reader.peer }
+
+-- ---- the calls
+
 -- What a receiver makes of a piece. What it gives stands behind the events before.
 abbrev pub Fed : State → List ℕ → List RecvEvent → Result Unit RecvFault → State → List RecvEvent
     → Type 0
@@ -96,9 +125,8 @@ Fed (Ok old) piece before (Err fault.NoMemory) new events =
     (moments : List Moment) × Stops old piece moments × (new ≡ Err fault.NoMemory)
     × (events ≡ before ++ events_of moments)
 
--- this side ends a stream
 abbrev pub state_ended : ℕ → State → State
-state_ended stream (Ok reader) = Ok (record reader { peer = this_side_ends stream reader.peer })
+state_ended stream (Ok reader) = Ok (reader_ended stream reader)
 state_ended stream (Err why) = Err why
 
 -- The octets so far end where a frame ends: some frame was read, and nothing stands behind it.

@@ -1,10 +1,10 @@
 //! Laws of the definitions, which hold for every caller.
-ghost use Rattle.std.specs.Prelude.{◌≡◌, ℕ, List, ◌++◌};
+ghost use Rattle.std.specs.Prelude.{◌≡◌, ℕ, List, [], ◌∷◌, ◌++◌};
 ghost use Rattle.h2_frame.specs.Frames.{IsPart};
 ghost use Rattle.h2_events.specs.Events.{largest_frame};
-ghost use Rattle.h2_calls.specs.Calls.{Moment};
+ghost use Rattle.h2_calls.specs.Calls.{Moment, ended, causes_of};
 ghost use Rattle.h2_recv.specs.declared.reader.Reader.{Reader as Reading};
-ghost use Rattle.h2_recv.specs.Receiving.{Reads, Faults, Astray, Stops, new_reader};
+ghost use Rattle.h2_recv.specs.Receiving.{Reads, Faults, Astray, Stops, ReadsWithEnds, FaultsWithEnds, new_reader, reader_ended};
 
 /// What comes in two pieces is what comes in one.
 pub fn pieces_join()
@@ -27,7 +27,7 @@ pub fn pieces_join()
     ensures begins { IsPart largest_frame new_reader.rest }
 {}
 
-/// A piece is read in one way, or it is a fault in one way, or it departs from the preface: of these one at most.
+/// Of these one at most holds, and in one way: a piece is read, it is a fault, it departs from the preface.
 pub fn one_reading()
     ensures read { (old new other : Reading) (piece : List ℕ) (one two : List Moment)
         → Reads old piece one new → Reads old piece two other → (one ≡ two) × (new ≡ other) }
@@ -39,4 +39,25 @@ pub fn one_reading()
         → Reads old piece one new → Astray old piece two code → ⊥ }
     ensures no_other_fault { (old : Reading) (piece : List ℕ) (one two : List Moment) (code other : ℕ)
         → Faults old piece one code → Astray old piece two other → ⊥ }
+{}
+
+/// Pieces, and ends of streams that this side tells between them, are the frames of all octets and the ends in one order.
+pub fn ends_stand_between()
+    ensures read { (old new : Reading) (octets : List ℕ) (moments : List Moment)
+        → Reads old octets moments new → ReadsWithEnds old octets moments new }
+    ensures fault { (old : Reading) (octets : List ℕ) (moments : List Moment) (code : ℕ)
+        → Faults old octets moments code → FaultsWithEnds old octets moments code }
+    ensures told { (old new : Reading) (octets : List ℕ) (moments : List Moment) (stream : ℕ)
+        → ReadsWithEnds old octets moments new
+        → ReadsWithEnds old octets (moments ++ ended stream ∷ []) (reader_ended stream new) }
+    ensures joined { (old middle new : Reading) (x y : List ℕ) (one two : List Moment)
+        → ReadsWithEnds old x one middle → ReadsWithEnds middle y two new
+        → ReadsWithEnds old (x ++ y) (one ++ two) new }
+    ensures later_fault { (old middle : Reading) (x y : List ℕ) (one two : List Moment) (code : ℕ)
+        → ReadsWithEnds old x one middle → FaultsWithEnds middle y two code
+        → FaultsWithEnds old (x ++ y) (one ++ two) code }
+    // The octets, and the places of the ends between the frames, decide what is made of them.
+    ensures one { (old new other : Reading) (octets : List ℕ) (one two : List Moment)
+        → ReadsWithEnds old octets one new → ReadsWithEnds old octets two other
+        → causes_of one ≡ causes_of two → (one ≡ two) × (new ≡ other) }
 {}

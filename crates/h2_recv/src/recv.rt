@@ -1,9 +1,10 @@
 //! The receiver.
-ghost use Rattle.std.specs.Prelude.{◌≡◌, ◌≤◌, ◌<◌, ◌↔◌, ℕ, List, length, Ok, Err, OnOk, IsTrue};
+ghost use Rattle.std.specs.Prelude.{◌≡◌, ◌≤◌, ◌<◌, ◌↔◌, ℕ, List, [], length, Ok, Err, OnOk, IsTrue};
 ghost use Rattle.h2_frame.specs.Frames.{IsPart};
 ghost use Rattle.h2_calls.specs.Calls.{Moment, frames_of};
+ghost use Rattle.h2_calls.specs.declared.peer.Peer.{Peer as Known};
 ghost use Rattle.h2_recv.specs.declared.reader.Reader.{Reader as Reading};
-ghost use Rattle.h2_recv.specs.Receiving.{Fed, Reads, EndsFrame, new_reader, state_ended, wanted, missing, held, most_held};
+ghost use Rattle.h2_recv.specs.Receiving.{Fed, Reaches, Faults, EndsFrame, new_reader, state_ended, wanted, missing, held, most_held};
 ghost use Rattle.h2_recv.specs.inner.Steps.{HasRead, HasFailed, HasStopped};
 
 use crate::preface::{PREFACE_OCTETS, goes_on, share};
@@ -75,13 +76,18 @@ impl Recv {
         self.reader.peer.ended(stream);
     }
 
-    /// How many octets more may come until a frame is whole: a piece that is no longer holds one frame at most.
+    /// How many octets more may come until a frame is whole: a piece that is no longer holds one frame at most, and where it
+    /// ends in a fault no frame before that.
     pub fn wanted(&self) -> usize
         ensures is { result ≡ wanted self.now }
         ensures some { 0 < result }
-        ensures one { (old new : Reading) (piece : List ℕ) (moments : List Moment)
-            → self.now ≡ Ok old → length piece ≤ result → Reads old piece moments new
-            → length (frames_of moments) ≤ 1 }
+        ensures one { (old : Reading) (piece after : List ℕ) (moments : List Moment) (begun : ℕ)
+            (peer : Known) → self.now ≡ Ok old → length piece ≤ result
+            → Reaches old piece moments after begun peer → length (frames_of moments) ≤ 1 }
+        // A fault comes of the first frame.
+        ensures fault { (old : Reading) (piece : List ℕ) (moments : List Moment) (code : ℕ)
+            → self.now ≡ Ok old → length piece ≤ result → Faults old piece moments code
+            → moments ≡ [] }
     {
         if self.fault.is_some() {
             return 1;
@@ -101,7 +107,7 @@ impl Recv {
         self.reader.rest.len() + self.reader.peer.block_len()
     }
 
-    /// Whether the octets so far end where a frame ends, behind the preface.
+    /// Whether some frame was read, and the octets so far end where one ends, also inside a header block.
     pub fn whole(&self) -> bool
         ensures { IsTrue result ↔ EndsFrame self.now }
     {
@@ -129,9 +135,11 @@ impl Reader {
         requires part { IsPart 16384 self.now.rest }
         ensures is { result ≡ missing self.now }
         ensures some { 0 < result }
-        ensures one { (new : Reading) (piece : List ℕ) (moments : List Moment)
-            → length piece ≤ result → Reads self.now piece moments new
+        ensures one { (piece after : List ℕ) (moments : List Moment) (begun : ℕ) (peer : Known)
+            → length piece ≤ result → Reaches self.now piece moments after begun peer
             → length (frames_of moments) ≤ 1 }
+        ensures fault { (piece : List ℕ) (moments : List Moment) (code : ℕ)
+            → length piece ≤ result → Faults self.now piece moments code → moments ≡ [] }
     {
         if self.begun < PREFACE_OCTETS {
             PREFACE_OCTETS - self.begun

@@ -54,6 +54,16 @@ pub(crate) const TABLE: &[Row] = &[
         octets: &[0, 0, 1, 0, 0, 0, 0, 0, 7, 7],
         says: Says::Piece(7, 0, 1, true),
     },
+    // DATA on a closed stream without its octet of padding.
+    Row {
+        octets: &[0, 0, 0, 0, 8, 0, 0, 0, 7],
+        says: Says::Fault(6),
+    },
+    // DATA on a closed stream with more padding than octets.
+    Row {
+        octets: &[0, 0, 1, 0, 8, 0, 0, 0, 7, 1],
+        says: Says::Fault(1),
+    },
     // DATA on a stream that was skipped, likewise.
     Row {
         octets: &[0, 0, 1, 0, 0, 0, 0, 0, 9, 7],
@@ -121,6 +131,14 @@ pub(crate) const TABLE: &[Row] = &[
         octets: &[0, 0, 3, 1, 5, 0, 0, 0, 7, 0x83, 0x86, 0x84],
         says: Says::Nothing,
     },
+    // They are decoded: the next block finds the entry that they have added to the table.
+    Row {
+        octets: &[
+            0, 0, 5, 1, 5, 0, 0, 0, 7, 0x40, 1, 0x61, 1, 0x62, 0, 0, 4, 1, 5, 0, 0, 0, 0xd, 0x83,
+            0x86, 0x84, 0xbe,
+        ],
+        says: Says::Call(13, 4, true),
+    },
     // HEADERS on a stream that was skipped.
     Row {
         octets: &[0, 0, 3, 1, 5, 0, 0, 0, 9, 0x83, 0x86, 0x84],
@@ -151,9 +169,36 @@ pub(crate) const TABLE: &[Row] = &[
         octets: &[0, 0, 2, 1, 5, 0, 0, 0, 0xd, 0x83, 0x86],
         says: Says::StreamFault(13, 1),
     },
+    // No method.
+    Row {
+        octets: &[0, 0, 2, 1, 5, 0, 0, 0, 0xd, 0x86, 0x84],
+        says: Says::StreamFault(13, 1),
+    },
+    // No scheme.
+    Row {
+        octets: &[0, 0, 2, 1, 5, 0, 0, 0, 0xd, 0x83, 0x84],
+        says: Says::StreamFault(13, 1),
+    },
+    // A malformed request has opened its stream, and it is closed.
+    Row {
+        octets: &[
+            0, 0, 2, 1, 4, 0, 0, 0, 0xd, 0x83, 0x86, 0, 0, 1, 0, 0, 0, 0, 0, 0xd, 7,
+        ],
+        says: Says::Piece(13, 0, 1, true),
+    },
     // A method twice.
     Row {
         octets: &[0, 0, 4, 1, 5, 0, 0, 0, 0xd, 0x83, 0x86, 0x84, 0x82],
+        says: Says::StreamFault(13, 1),
+    },
+    // A scheme twice.
+    Row {
+        octets: &[0, 0, 4, 1, 5, 0, 0, 0, 0xd, 0x83, 0x86, 0x84, 0x87],
+        says: Says::StreamFault(13, 1),
+    },
+    // A path twice.
+    Row {
+        octets: &[0, 0, 4, 1, 5, 0, 0, 0, 0xd, 0x83, 0x86, 0x84, 0x85],
         says: Says::StreamFault(13, 1),
     },
     // Another pseudo-header.
@@ -182,11 +227,43 @@ pub(crate) const TABLE: &[Row] = &[
         ],
         says: Says::StreamFault(13, 1),
     },
-    // A header of HTTP/1.1 connections.
+    // A header of HTTP/1.1 connections: `upgrade`.
     Row {
         octets: &[
             0, 0, 0xd, 1, 5, 0, 0, 0, 0xd, 0x83, 0x86, 0x84, 0, 7, 0x75, 0x70, 0x67, 0x72, 0x61,
             0x64, 0x65, 0,
+        ],
+        says: Says::StreamFault(13, 1),
+    },
+    // `connection`.
+    Row {
+        octets: &[
+            0, 0, 0x10, 1, 5, 0, 0, 0, 0xd, 0x83, 0x86, 0x84, 0, 0xa, 0x63, 0x6f, 0x6e, 0x6e, 0x65,
+            0x63, 0x74, 0x69, 0x6f, 0x6e, 0,
+        ],
+        says: Says::StreamFault(13, 1),
+    },
+    // `proxy-connection`.
+    Row {
+        octets: &[
+            0, 0, 0x16, 1, 5, 0, 0, 0, 0xd, 0x83, 0x86, 0x84, 0, 0x10, 0x70, 0x72, 0x6f, 0x78,
+            0x79, 0x2d, 0x63, 0x6f, 0x6e, 0x6e, 0x65, 0x63, 0x74, 0x69, 0x6f, 0x6e, 0,
+        ],
+        says: Says::StreamFault(13, 1),
+    },
+    // `keep-alive`.
+    Row {
+        octets: &[
+            0, 0, 0x10, 1, 5, 0, 0, 0, 0xd, 0x83, 0x86, 0x84, 0, 0xa, 0x6b, 0x65, 0x65, 0x70, 0x2d,
+            0x61, 0x6c, 0x69, 0x76, 0x65, 0,
+        ],
+        says: Says::StreamFault(13, 1),
+    },
+    // `transfer-encoding`.
+    Row {
+        octets: &[
+            0, 0, 0x17, 1, 5, 0, 0, 0, 0xd, 0x83, 0x86, 0x84, 0, 0x11, 0x74, 0x72, 0x61, 0x6e,
+            0x73, 0x66, 0x65, 0x72, 0x2d, 0x65, 0x6e, 0x63, 0x6f, 0x64, 0x69, 0x6e, 0x67, 0,
         ],
         says: Says::StreamFault(13, 1),
     },
@@ -211,6 +288,13 @@ pub(crate) const TABLE: &[Row] = &[
     Row {
         octets: &[0, 0, 4, 2, 0, 0, 0, 0, 0xd, 0, 0, 0, 0],
         says: Says::StreamFault(13, 6),
+    },
+    // The stream may be opened behind that.
+    Row {
+        octets: &[
+            0, 0, 4, 2, 0, 0, 0, 0, 0xd, 0, 0, 0, 0, 0, 0, 3, 1, 5, 0, 0, 0, 0xd, 0x83, 0x86, 0x84,
+        ],
+        says: Says::Call(13, 3, true),
     },
     // PRIORITY.
     Row {
@@ -364,6 +448,11 @@ pub(crate) const TABLE: &[Row] = &[
     // WINDOW_UPDATE on an idle stream.
     Row {
         octets: &[0, 0, 4, 8, 0, 0, 0, 0, 0xd, 0, 0, 0, 1],
+        says: Says::Fault(1),
+    },
+    // WINDOW_UPDATE on an even stream.
+    Row {
+        octets: &[0, 0, 4, 8, 0, 0, 0, 0, 2, 0, 0, 0, 1],
         says: Says::Fault(1),
     },
     // An increment of 0 for the connection.

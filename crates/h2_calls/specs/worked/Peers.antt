@@ -1,11 +1,10 @@
 -- Peers, frames and headers that worked examples speak of.
-use Rattle.std.specs.Prelude.{ℕ, List, [], ◌∷◌, ◌++◌, Bool, true, false, codes, length, replicate, Option, Some, None, Ok}
+use Rattle.std.specs.Prelude.{ℕ, List, [], ◌∷◌, Bool, true, codes, length, replicate, Some, None, Ok}
 use Rattle.hpack_block.specs.declared.header.Header.{Header}
 use Rattle.hpack_block.specs.StaticTable.{pair}
 use Rattle.hpack_block.specs.Tables.{empty_table}
 use Rattle.h2_frame.specs.Frames.{Frame, frame_of}
 use Rattle.h2_calls.specs.declared.streams.StreamState.TheVariants as state
-use Rattle.h2_calls.specs.declared.streams.Stream.{Stream}
 use Rattle.h2_calls.specs.declared.peer.HeaderBlock.{HeaderBlock}
 use Rattle.h2_calls.specs.declared.peer.Peer.{Peer}
 

@@ -1,5 +1,5 @@
 -- Steps of a receiver. Only private functions cite these: each is proved to agree with Receiving.antt.
-use Rattle.std.specs.Prelude.{◌≡◌, ℕ, ◌+◌, ◌<◌, ◌≤◌, List, [], ◌++◌, ◌⊎◌, length, nat_lt, ⊤, Option, Some, None, Result, Ok, Err, if◌then◌else◌}
+use Rattle.std.specs.Prelude.{◌≡◌, ℕ, ◌+◌, ◌≤◌, List, [], ◌++◌, ◌⊎◌, length, ⊤, Option, None, Result, Ok, Err}
 use Rattle.h2_frame.specs.Frames.{Frame, Spells, LeadingFrames, IsPart, IsTooLong, stated_length}
 use Rattle.h2_frame.specs.ErrorCodes.{frame_size_error}
 use Rattle.h2_events.specs.declared.event.RecvEvent.{RecvEvent}

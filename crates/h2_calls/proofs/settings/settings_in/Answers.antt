@@ -1,4 +1,4 @@
-use Rattle.std.proofs.Common.{rules, ◌≡◌, sym, ◌∙◌, Ok}
+use Rattle.std.proofs.Common.{◌≡◌, sym, ◌∙◌, Ok}
 use Rattle.h2_calls.proofs.SettingsLemmas.{first_setting, one_more, behind_six}
 use Rattle.h2_calls.proofs.settings.settings_in.Goals as goal
 

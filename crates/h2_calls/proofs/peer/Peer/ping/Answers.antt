@@ -1,4 +1,4 @@
-use Rattle.std.proofs.Common.{rules, ◌≡◌, arith, ℕ, ◌∙◌, sym}
+use Rattle.std.proofs.Common.{rules, ◌≡◌, arith, sym}
 use Rattle.h2_calls.specs.Payloads.{number}
 use Rattle.h2_calls.proofs.FrameLemmas.{two_halves}
 use Rattle.h2_calls.proofs.peer.Peer.ping.Goals as goal

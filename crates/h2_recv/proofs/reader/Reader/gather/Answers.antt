@@ -1,4 +1,3 @@
-use Rattle.std.proofs.Common.{rules, ◌≡◌, ◌∙◌, sym, Err}
 use Rattle.std.proofs.lemmas.Result.{err_from_is_err_and}
 use Rattle.h2_recv.proofs.RunLemmas.{stepped, failed_step, part_then, same_fault}
 use Rattle.h2_recv.proofs.reader.Reader.gather.Goals as goal

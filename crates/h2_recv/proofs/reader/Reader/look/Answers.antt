@@ -1,8 +1,6 @@
-use Rattle.std.proofs.Common.{rules, ◌≡◌, ◌∙◌, ap, inr, Err, refl}
+use Rattle.std.proofs.Common.{ap, inr, Err, refl}
 use Rattle.std.proofs.lemmas.Result.{err_from_is_err_and}
 use Rattle.h2_events.specs.declared.event.RecvFault.{RecvFault}
-use Rattle.h2_recv.specs.declared.reader.Reader.{Reader}
-use Rattle.h2_recv.specs.inner.Steps.{Looks}
 use Rattle.h2_recv.proofs.FrameLemmas.{is_frame, failed}
 use Rattle.h2_recv.proofs.reader.Reader.look.Goals as goal
 

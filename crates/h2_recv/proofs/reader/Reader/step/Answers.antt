@@ -1,4 +1,4 @@
-use Rattle.std.proofs.Common.{rules, ◌≡◌, [], ap, refl, Ok, Err}
+use Rattle.std.proofs.Common.{◌≡◌, [], ap, refl, Err}
 use Rattle.std.proofs.lemmas.Result.{err_from_is_err_and}
 use Rattle.h2_events.specs.declared.event.RecvFault.{RecvFault}
 use Rattle.h2_recv.proofs.RunLemmas.{whole_step, whole_fails, same_fault}
