@@ -1,7 +1,7 @@
 -- What a call makes of a wire, from what it made of the connection and the sink.
-use Rattle.std.proofs.Common.{◌≡◌, ℕ, Bool, true, false, List, [], ◌∷◌, ◌++◌, Result, Ok, Err, refl, sym, ap, ◌∙◌, subst, append-nil}
+use Rattle.std.proofs.Common.{◌≡◌, Bool, true, false, List, [], ◌∷◌, ◌++◌, Result, Ok, Err, refl, sym, ap, ◌∙◌, subst}
 use Rattle.std.specs.Result.{IsErrAnd}
-use Rattle.edge_traits.specs.Output.{Output, Wrote, FailedWithin}
+use Rattle.edge_traits.specs.Output.{Output, FailedWithin}
 use Rattle.edge_traits.specs.declared.streams.Failed.{Failed}
 use Rattle.h2_frame.specs.Frames.{Frame}
 use Rattle.h2_windows.specs.Written.{octets_of, Writes}

@@ -3,7 +3,6 @@ use Rattle.std.proofs.Common.{◌≡◌, ℕ, zero, suc, Bool, true, false, List
 use Rattle.std.specs.Prelude.{nat_eq}
 use Rattle.std.specs.List.{AllByRecursion}
 use Rattle.h2_frame.specs.Frames.{Frame}
-use Rattle.h2_windows.specs.Control.{granted_again}
 use Rattle.h2_windows.specs.Pacing.{Passing, Within, window_after, is_data, is_data_on}
 use Rattle.h2_windows.specs.Shares.{window_of}
 use Rattle.h2_windows.specs.Sending.{sent, after_sending}

@@ -1,5 +1,5 @@
 -- The order that events make.
-use Rattle.std.proofs.Common.{◌≡◌, ℕ, zero, suc, Bool, true, false, List, [], ◌∷◌, ◌++◌, length, take, drop, map, ℤ, pos, ◌-ℤ◌, refl, sym, ap, ◌∙◌, append_assoc, append-nil}
+use Rattle.std.proofs.Common.{◌≡◌, ℕ, zero, suc, true, false, List, [], ◌∷◌, ◌++◌, length, take, drop, map, ℤ, pos, ◌-ℤ◌, refl, sym, ap, ◌∙◌, append_assoc, append-nil}
 use Rattle.std.specs.List.{filter, flat_map}
 use Rattle.std.proofs.lemmas.List.Elements.{filter-append}
 use Rattle.h2_frame.specs.Frames.{Frame}
@@ -11,7 +11,7 @@ use Rattle.h2_events.specs.declared.event.RecvEvent.TheVariants as event
 use Rattle.h2_events.specs.Items.{Item, heard, written}
 use Rattle.h2_events.specs.Items as item
 use Rattle.h2_events.proofs.Orders.{heard-append, written-append}
-use Rattle.h2_send.specs.Lines.{Line, first_line, told}
+use Rattle.h2_send.specs.Lines.{Line, told}
 use Rattle.h2_send.specs.Acting.{acted, replies}
 use Rattle.h2_send.specs.Wires.{line_after, order_after, is_control}
 
@@ -49,7 +49,7 @@ acted_answers e line =
     let frames = (sent l.initial l.window l.streams).frames in
     filter-append is_control (replies e) frames ∙ ap (λ fs. filter is_control (replies e) ++ fs) (sent_answers_nothing l.initial l.window l.streams) ∙ append-nil (filter is_control (replies e)) ∙ replies_answer e
 
-written_all : (frames : List Frame) → written (map item.Wrote frames) ≡ frames
+pub written_all : (frames : List Frame) → written (map item.Wrote frames) ≡ frames
 written_all [] = refl
 written_all (f ∷ frames) = ap (λ fs. f ∷ fs) (written_all frames)
 

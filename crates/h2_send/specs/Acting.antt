@@ -1,5 +1,5 @@
 -- What is written for an event.
-use Rattle.std.specs.Prelude.{ℕ, List, [], ◌∷◌, ◌++◌}
+use Rattle.std.specs.Prelude.{List, [], ◌∷◌, ◌++◌}
 use Rattle.h2_frame.specs.Frames.{Frame}
 use Rattle.h2_windows.specs.Control.{settings_ack, ping_ack, rst_stream, granted_again}
 use Rattle.h2_windows.specs.Sending.{Sent, sent}

@@ -4,8 +4,11 @@ ghost use Rattle.std.specs.List.{AllByRecursion, filter, flat_map};
 ghost use Rattle.h2_events.specs.declared.event.RecvEvent.{RecvEvent as Heard};
 ghost use Rattle.h2_windows.specs.declared.stream.Stream.{Stream};
 ghost use Rattle.h2_windows.specs.Pacing.{Passing, ArePaced, is_data, is_data_on};
+ghost use Rattle.h2_windows.specs.Fitting.{HaveFitHeads};
+ghost use Rattle.h2_events.specs.Events.{IsSound};
 ghost use Rattle.h2_windows.specs.Shares.{window_of};
 ghost use Rattle.h2_windows.specs.Sending.{after_sending};
+ghost use Rattle.h2_windows.specs.Streams.{AreRising};
 ghost use Rattle.h2_events.specs.Items.{Meant, Wrote, heard, written};
 ghost use Rattle.h2_send.specs.Lines.{Line, first_line, told};
 ghost use Rattle.h2_send.specs.Acting.{acted, replies};
@@ -47,4 +50,28 @@ pub fn order_of_events()
     // SETTINGS, PING, DATA and stream errors are answered, each once, in the order in which they were read.
     ensures answered { (events : List Heard)
         → filter is_control (written (order_of events)) ≡ flat_map replies events }
+{}
+
+/// What holds of every line that events make of the first one, without any condition: its streams stand by rising number,
+pub fn lines_of_events()
+    ensures rising { (events : List Heard) → AreRising (line_after first_line events).streams }
+    // octets wait only where their stream's or the connection's window is 0 or below,
+    ensures paced { (events : List Heard)
+        → ArePaced (line_after first_line events).initial (line_after first_line events).window
+        (line_after first_line events).streams }
+    // and what is written for the next event passes no stream's window, wherever the stream stands.
+    ensures within { (events : List Heard) (event : Heard) (before : List Stream) (s : Stream)
+        (after : List Stream)
+        → (told event (line_after first_line events)).streams ≡ before ++ s ∷ after
+        → (n : ℕ) × Passing (is_data_on s.id)
+        (window_of (told event (line_after first_line events)).initial s)
+        (window_of (told event (line_after first_line events)).initial (after_sending n s))
+        (acted event (line_after first_line events)).frames }
+{}
+
+/// What is written for events that frames can mean fits in its frames: each head states its payload's length, of 16,384
+/// octets at most, and a stream below 2^31. A receiver's events are such ones.
+pub fn frames_of_events_fit()
+    ensures { (events : List Heard) → AllByRecursion IsSound events
+        → HaveFitHeads (written (order_of events)) }
 {}

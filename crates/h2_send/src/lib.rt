@@ -11,5 +11,7 @@ mod wire;
 
 pub use condition::Condition;
 pub use fault::WireFaultOut;
-pub use laws::{order_of_events, paced_after_each_event, windows_kept};
+pub use laws::{
+    frames_of_events_fit, lines_of_events, order_of_events, paced_after_each_event, windows_kept,
+};
 pub use wire::Wire;

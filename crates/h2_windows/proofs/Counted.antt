@@ -1,12 +1,11 @@
 -- DATA that is sent stays within the connection's window.
-use Rattle.std.proofs.Common.{◌≡◌, ℕ, zero, suc, ◌+◌, ◌-◌, ◌≤◌, Bool, true, List, [], ◌∷◌, ◌++◌, length, take, drop, map, min, ℤ, pos, negsuc, ◌-ℤ◌, refl, sym, ap, ◌∙◌, subst, arith, length-drop, length-take}
+use Rattle.std.proofs.Common.{◌≡◌, ℕ, zero, suc, ◌+◌, ◌≤◌, Bool, List, [], ◌∷◌, ◌++◌, length, take, drop, map, ℤ, pos, ◌-ℤ◌, refl, sym, ap, ◌∙◌, subst, arith, length-drop, length-take}
 use Rattle.std.proofs.lemmas.Int.{ints}
-use Rattle.std.proofs.lemmas.Grind.{common_steps}
 use Rattle.h2_frame.specs.Frames.{Frame}
 use Rattle.h2_windows.specs.declared.stream.Stream.{Stream}
 use Rattle.h2_windows.specs.Windows.{room}
-use Rattle.h2_windows.specs.Shares.{share, window_of}
-use Rattle.h2_windows.specs.Sending.{Sent, sent, data_frame, data_frames, payloads_in, largest_payload}
+use Rattle.h2_windows.specs.Shares.{share}
+use Rattle.h2_windows.specs.Sending.{sent, data_frame, data_frames, payloads_in, largest_payload}
 use Rattle.h2_windows.specs.Pacing.{is_data, spent_by, Within, window_after, Passing}
 use Rattle.h2_windows.proofs.Paced.{room_spent}
 

@@ -6,3 +6,5 @@ pub mod Paced
 pub mod Counted
 pub mod StreamWindows
 pub mod Grants
+pub mod Rising
+pub mod Fitting

@@ -1,12 +1,12 @@
 -- After what the windows let through was sent, octets wait only where a window is 0 or below.
-use Rattle.std.proofs.Common.{◌≡◌, ◌⊎◌, inl, inr, ℕ, zero, suc, ◌+◌, ◌-◌, ◌≤◌, min, List, [], ◌∷◌, length, drop, ℤ, pos, negsuc, ◌+ℤ◌, ◌-ℤ◌, refl, sym, ap, ◌∙◌, subst, arith, length-drop}
+use Rattle.std.proofs.Common.{◌≡◌, ◌⊎◌, inl, inr, ℕ, ◌-◌, ◌≤◌, min, List, [], ◌∷◌, length, drop, ℤ, pos, negsuc, ◌+ℤ◌, ◌-ℤ◌, ap, ◌∙◌, arith, length-drop}
 use Rattle.std.proofs.lemmas.Int.{ints}
 use Rattle.std.proofs.lemmas.List.{nil_from_length}
 use Rattle.std.specs.List.{AllByRecursion}
 use Rattle.h2_windows.specs.declared.stream.Stream.{Stream}
 use Rattle.h2_windows.specs.Windows.{room}
 use Rattle.h2_windows.specs.Shares.{share, window_of}
-use Rattle.h2_windows.specs.Sending.{Sent, sent, after_sending}
+use Rattle.h2_windows.specs.Sending.{sent, after_sending}
 use Rattle.h2_windows.specs.Pacing.{IsPaced}
 
 pub room_spent : (w : ℤ) (n : ℕ) → n ≤ room w → room (w -ℤ pos n) ≡ room w - n

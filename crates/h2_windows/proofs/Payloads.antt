@@ -1,5 +1,5 @@
 -- Octets cut into payloads.
-use Rattle.std.proofs.Common.{◌≡◌, ◌≢◌, ℕ, zero, suc, ◌+◌, ◌-◌, ◌<◌, ◌≤◌, min, List, [], ◌∷◌, ◌++◌, length, take, drop, map, refl, sym, ap, ◌∙◌, subst, arith, length-drop}
+use Rattle.std.proofs.Common.{◌≡◌, ℕ, zero, suc, ◌<◌, ◌≤◌, min, List, [], ◌∷◌, ◌++◌, length, take, drop, map, refl, sym, ap, ◌∙◌, arith, length-drop}
 use Rattle.std.proofs.lemmas.Grind.{common_steps}
 use Rattle.h2_windows.specs.Written.{spelled, octets_of}
 use Rattle.h2_windows.specs.Sending.{payloads_in, payloads, data_frame, data_frames, largest_payload}

@@ -1,5 +1,5 @@
 -- DATA that is sent stays within each stream's window.
-use Rattle.std.proofs.Common.{◌≡◌, ℕ, zero, suc, ◌+◌, ◌-◌, ◌≤◌, Bool, true, false, List, [], ◌∷◌, ◌++◌, length, take, drop, map, ℤ, pos, ◌+ℤ◌, ◌-ℤ◌, refl, sym, ap, ◌∙◌, subst, arith, rules, length-drop, length-take}
+use Rattle.std.proofs.Common.{◌≡◌, ℕ, zero, suc, ◌+◌, ◌≤◌, true, false, List, [], ◌∷◌, ◌++◌, length, take, drop, map, ℤ, pos, ◌+ℤ◌, ◌-ℤ◌, refl, sym, ap, ◌∙◌, subst, arith, rules, length-drop, length-take}
 use Rattle.std.specs.Prelude.{nat_eq}
 use Rattle.std.specs.List.{AllByRecursion}
 use Rattle.std.proofs.lemmas.Int.{ints}
@@ -7,8 +7,8 @@ use Rattle.h2_frame.specs.Frames.{Frame}
 use Rattle.h2_windows.specs.declared.stream.Stream.{Stream}
 use Rattle.h2_windows.specs.Windows.{room}
 use Rattle.h2_windows.specs.Shares.{share, window_of}
-use Rattle.h2_windows.specs.Sending.{Sent, sent, data_frame, data_frames, payloads_in, largest_payload, after_sending}
-use Rattle.h2_windows.specs.Pacing.{is_data_on, spent_by, Within, window_after, Passing}
+use Rattle.h2_windows.specs.Sending.{sent, data_frame, data_frames, payloads_in, largest_payload, after_sending}
+use Rattle.h2_windows.specs.Pacing.{is_data_on, Within, window_after, Passing}
 use Rattle.h2_windows.proofs.Paced.{room_spent}
 use Rattle.h2_windows.proofs.Counted.{Within-append, window_after-append}
 

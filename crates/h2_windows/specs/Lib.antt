@@ -1,5 +1,6 @@
 pub mod Bounds
 pub mod Control
+pub mod Fitting
 pub mod Pacing
 pub mod Sending
 pub mod Shares

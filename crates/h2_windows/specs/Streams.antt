@@ -1,6 +1,6 @@
 -- The streams of a connection that are open and that this side has not ended, by rising number.
-use Rattle.std.specs.Prelude.{ℕ, Bool, not, nat_eq, nat_lt, if◌then◌else◌, List, [], map, pos, ◌+ℤ◌, false}
-use Rattle.std.specs.List.{filter, list_any, insert, position_or_len}
+use Rattle.std.specs.Prelude.{ℕ, ◌<◌, Bool, not, nat_eq, nat_lt, if◌then◌else◌, List, [], ◌∷◌, map, pos, ◌+ℤ◌, false}
+use Rattle.std.specs.List.{AllByRecursion, filter, list_any, insert, position_or_len}
 use Rattle.h2_windows.specs.declared.stream.Stream.{Stream}
 
 abbrev pub is_stream : ℕ → Stream → Bool
@@ -26,3 +26,12 @@ granted_to id n s = if is_stream id s then record s { credit = s.credit +ℤ pos
 
 abbrev pub granted : ℕ → ℕ → List Stream → List Stream
 granted id n streams = map (granted_to id n) streams
+
+-- all of them have higher numbers
+abbrev pub AreAbove : ℕ → List Stream → Type 0
+AreAbove id streams = AllByRecursion (λ s. id < s.id) streams
+
+-- by rising number, so that each number is there once at most
+abbrev pub AreRising : List Stream → Type 0
+AreRising [] = Unit {0}
+AreRising (s ∷ streams) = AreAbove s.id streams × AreRising streams

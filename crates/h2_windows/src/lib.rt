@@ -16,7 +16,9 @@ pub use control::{
     put_goaway, put_grants, put_greeting, put_ping_ack, put_rst_stream, put_settings_ack,
 };
 pub use frames::{put_data, put_frame};
-pub use laws::{paced_after_sending, within_the_connection, within_the_stream};
+pub use laws::{
+    frames_fit, paced_after_sending, streams_stay_rising, within_the_connection, within_the_stream,
+};
 pub use pending::Pending;
 pub use sending::send_allowed;
 pub use stream::Stream;

@@ -1,5 +1,5 @@
 -- Events, worked out.
-use Rattle.std.specs.Prelude.{◌≡◌, refl, ℕ, ◌+◌, List, [], ◌∷◌, ◌++◌, map, replicate, length, pos, ℤ, negsuc, false, true, ◌-◌}
+use Rattle.std.specs.Prelude.{◌≡◌, refl, ℕ, List, [], ◌∷◌, map, replicate, pos, ℤ, negsuc, false, true}
 use Rattle.h2_frame.specs.Frames.{Frame}
 use Rattle.h2_send.specs.Lines.{Line, overflows}
 use Rattle.h2_windows.specs.Control.{settings_ack}

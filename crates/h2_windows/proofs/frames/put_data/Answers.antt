@@ -1,4 +1,4 @@
-use Rattle.std.proofs.Common.{◌≡◌, ◌++◌, ◌<◌, sym, append_assoc, length, ◌∙◌, arith, rules, refl}
+use Rattle.std.proofs.Common.{◌++◌, ◌<◌, sym, append_assoc, length, ◌∙◌, arith, rules, refl}
 use Rattle.h2_windows.specs.Written.{octets_of}
 use Rattle.h2_windows.specs.Sending.{data_frames}
 use Rattle.std.proofs.lemmas.Result.{err_from_is_err_and}

@@ -1,4 +1,4 @@
-use Rattle.std.proofs.Common.{◌≡◌, refl, ◌++◌, ◌<◌, ap, sym, append_assoc, length, ◌∙◌, arith, ◌-ℤ◌, pos}
+use Rattle.std.proofs.Common.{refl, ◌++◌, ◌<◌, ap, sym, append_assoc, length, ◌∙◌, arith, ◌-ℤ◌, pos}
 use Rattle.h2_windows.specs.Sending.{Sent}
 use Rattle.std.proofs.lemmas.Result.{err_from_is_err_and}
 use Rattle.h2_windows.proofs.Fronts.{failed_on, failed_next, wrote_both}

@@ -1,4 +1,3 @@
-use Rattle.std.proofs.Common.{arith, rules}
 use Rattle.h2_windows.specs.Streams.{granted_to}
 use Rattle.h2_windows.proofs.Mapped.{set_mapped}
 use Rattle.h2_windows.proofs.streams.grant.Goals as goal

@@ -1,6 +1,5 @@
-use Rattle.std.proofs.Common.{◌<◌, length, sym, ap, ◌∙◌, rules, arith}
+use Rattle.std.proofs.Common.{length, sym, ap, ◌∙◌, rules, arith}
 use Rattle.std.proofs.lemmas.List.Sums.{position_or_len_is}
-use Rattle.h2_windows.specs.declared.stream.Stream.{Stream}
 use Rattle.h2_windows.specs.Streams.{is_stream, fresh}
 use Rattle.h2_windows.proofs.streams.place_of.Goals as goal
 
