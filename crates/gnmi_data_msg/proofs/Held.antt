@@ -1,5 +1,5 @@
 -- What a run holds, fields that are no members left in it or not.
-use Rattle.std.proofs.Common.{◌≡◌, ℕ, ◌+◌, ◌-◌, ◌<◌, true, List, length, get_or, drop, Option, Some, None, refl, sym, ap, ◌∙◌, subst, arith}
+use Rattle.std.proofs.Common.{◌≡◌, ℕ, ◌+◌, true, List, length, drop, None, refl, sym, ap, subst, arith}
 use Rattle.std.specs.Prelude.{filter}
 use Rattle.std.specs.List.{last_or, concat}
 use Rattle.std.proofs.lemmas.List.{get_or-drop, length-drop}

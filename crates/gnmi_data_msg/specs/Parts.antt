@@ -1,12 +1,12 @@
 -- What messages are made of (protobuf.dev, "Encoding"): fields, strings, and messages under one number. `None` stands where
 -- the octets are no such message.
-use Rattle.std.specs.Prelude.{ℕ, zero, suc, List, [], ◌∷◌, length, Bool, Option, Some, None, unwrap_or, if◌then◌else◌, Result, Ok, Err, ◌≡◌}
+use Rattle.std.specs.Prelude.{ℕ, List, [], ◌∷◌, Bool, Option, Some, None, unwrap_or, if◌then◌else◌, Result, Ok, Err, ◌≡◌}
 use Rattle.std.specs.List.{list_all}
 use Rattle.std.specs.Str.{is_utf8}
 use Rattle.base_lists.specs.Options.{◌>>=◌}
 use Rattle.pb_wire.specs.declared.field.Field.{Field}
-use Rattle.pb_wire.specs.inner.Reading.{field_at}
 use Rattle.pb_wire.specs.Values.{occurrences, last_octets}
+use Rattle.pb_message.specs.Fields.{all_fields, is_message}
 use Rattle.gnmi_data_msg.specs.declared.fault.MsgFault.{MsgFault}
 use Rattle.gnmi_data_msg.specs.declared.fault.MsgFault.TheVariants as faults
 
@@ -16,19 +16,10 @@ IsReadAs (Ok a) defined = defined ≡ Some a
 IsReadAs (Err faults.BadMessage) defined = defined ≡ None
 IsReadAs (Err faults.NoMemory) defined = Unit {0}
 
--- the octets that are the last of a message of `total` octets, as so many fields at most
-unfoldable pub fields_from : ℕ → ℕ → List ℕ → Option (List Field)
-fields_from total steps [] = Some []
-fields_from total zero (octet ∷ octets) = None
-fields_from total (suc steps) (octet ∷ octets) = do
-  first ← field_at total (octet ∷ octets)
-  others ← fields_from total steps first.1
-  Some (first.0 ∷ others)
-
--- The fields of a message, which no message has in two ways: `fields_are_the_message` says that they are those of pb_wire's
--- definition, which these steps only compute.
+-- The fields of a message. `fields_of_messages` (pb_message) says that they are those of IsMessage (pb_wire), and that there are
+-- none exactly where the octets are no message.
 unfoldable pub fields_in : List ℕ → Option (List Field)
-fields_in octets = fields_from (length octets) (length octets) octets
+fields_in octets = if is_message octets then Some (all_fields octets) else None
 
 -- what each item gives, in order, where each gives something
 abbrev pub each : {A B : Type 0} → (A → Option B) → List A → Option (List B)

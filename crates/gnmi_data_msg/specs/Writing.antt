@@ -20,18 +20,18 @@ text_field number (octet ∷ octets) = octets_field number (octet ∷ octets)
 abbrev pub message_fields : {A : Type 0} → (A → List ℕ) → ℕ → List A → List ℕ
 message_fields octets_of number items = flat_map (λ item. octets_field number (octets_of item)) items
 
-abbrev pub entry_octets : List ℕ × List ℕ → List ℕ
-entry_octets entry = text_field map_key entry.0 ++ text_field map_value entry.1
+abbrev pub entry_message : List ℕ × List ℕ → List ℕ
+entry_message entry = text_field map_key entry.0 ++ text_field map_value entry.1
 
-abbrev pub elem_octets : Elem → List ℕ
-elem_octets elem = text_field elem_name elem.name ++ message_fields entry_octets elem_key elem.keys
+abbrev pub elem_message : Elem → List ℕ
+elem_message elem = text_field elem_name elem.name ++ message_fields entry_message elem_key elem.keys
 
-abbrev pub path_octets : List Elem → List ℕ
-path_octets path = message_fields elem_octets path_elem path
+abbrev pub path_message : List Elem → List ℕ
+path_message path = message_fields elem_message path_elem path
 
 -- a path that has a target alone, as the prefix of a notification
-abbrev pub target_octets : List ℕ → List ℕ
-target_octets target = text_field path_target target
+abbrev pub target_message : List ℕ → List ℕ
+target_message target = text_field path_target target
 
 -- a single number, which isn't written where it is 0
 abbrev pub number_field : ℕ → ℕ → List ℕ
@@ -39,8 +39,8 @@ number_field number zero = []
 number_field number (suc n) = varint_field number (suc n)
 
 -- a Decimal64
-abbrev pub decimal_octets : ℤ → ℕ → List ℕ
-decimal_octets digits places =
+abbrev pub decimal_message : ℤ → ℕ → List ℕ
+decimal_message digits places =
     number_field decimal_digits (cast_unsigned w64 digits) ++ number_field decimal_precision places
 
 abbrev pub bit_of : Bool → ℕ
@@ -48,19 +48,19 @@ bit_of false = 0
 bit_of true = 1
 
 -- a TypedValue with the scalar of a leaf, which is written whatever it is; a list is none
-abbrev pub scalar_octets : Value → List ℕ
-scalar_octets (v.Bool b) = varint_field bool_val (bit_of b)
-scalar_octets (v.Int number) = varint_field int_val (cast_unsigned w64 number)
-scalar_octets (v.Uint number) = varint_field uint_val number
-scalar_octets (v.Dec digits places) = octets_field decimal_val (decimal_octets digits places)
-scalar_octets (v.Text text) = octets_field string_val text
-scalar_octets (v.Bin octets) = octets_field bytes_val octets
-scalar_octets (v.Enum text) = octets_field string_val text
-scalar_octets (v.List' n values) = []
+abbrev pub scalar_message : Value → List ℕ
+scalar_message (v.Bool b) = varint_field bool_val (bit_of b)
+scalar_message (v.Int number) = varint_field int_val (cast_unsigned w64 number)
+scalar_message (v.Uint number) = varint_field uint_val number
+scalar_message (v.Dec digits places) = octets_field decimal_val (decimal_message digits places)
+scalar_message (v.Text text) = octets_field string_val text
+scalar_message (v.Bin octets) = octets_field bytes_val octets
+scalar_message (v.Enum text) = octets_field string_val text
+scalar_message (v.List' n values) = []
 
--- a TypedValue with the value of a leaf or a leaf-list (gNMI 2.3.4)
-abbrev pub value_octets : Value → List ℕ
-value_octets value =
+-- a TypedValue with the value of a leaf or a leaf-list (gNMI 2.3.3)
+abbrev pub value_message : Value → List ℕ
+value_message value =
     if is_list value
-    then octets_field leaflist_val (message_fields scalar_octets array_element (values_in value))
-    else scalar_octets value
+    then octets_field leaflist_val (message_fields scalar_message array_element (values_in value))
+    else scalar_message value

@@ -15,9 +15,9 @@ mod typed_reading;
 mod typed_writing;
 
 pub use fault::MsgFault;
-pub use laws::paths_read_back;
+pub use laws::{paths_read_back, values_read_back};
 pub use parts::{Message, are_texts, fields_in, messages_in, single_text, text_of};
 pub use path_reading::read_path;
-pub use path_writing::{Written, put_messages, put_text, write_path};
+pub use path_writing::{Written, put_message, put_messages, put_text, write_path};
 pub use typed_reading::read_typed;
-pub use typed_writing::{put_number, value_octets};
+pub use typed_writing::{put_number, value_message};

@@ -6,10 +6,9 @@ use Rattle.std.proofs.lemmas.List.{length-append, length-take, length-drop, take
 use Rattle.base_lists.specs.SevenBits.{IsMarked}
 use Rattle.pb_wire.specs.declared.field.Field.{Field}
 use Rattle.pb_wire.specs.Message.{IsField, AreFields, IsMessage, IsNextField}
-use Rattle.pb_wire.specs.inner.Reading.{field_at}
-use Rattle.pb_wire.proofs.FieldLemmas.{field_again, field_takes}
-use Rattle.pb_wire.proofs.MessageLemmas.{AreFields-first, AreFields-nil, field_at-nil}
-use Rattle.pb_wire.proofs.NextLemmas.{read_is}
+use Rattle.pb_wire.proofs.MessageLemmas.{AreFields-nil}
+use Rattle.pb_message.specs.Fronts.{front_field}
+use Rattle.pb_message.proofs.Fronts.{front_again, front_takes, front_nil, first_front, front_next}
 use Rattle.pb_message.specs.Fields.{after_field, read_most, read_from, fields_at, all_fields, is_message}
 
 -- a field has octets
@@ -23,11 +22,11 @@ field_some place front field is =
 
 -- so fewer are left behind it
 left_fewer : (total : ℕ) (octets : List ℕ) (field : Field) (rest : List ℕ) → length octets ≤ total
-    → field_at total octets ≡ Some (field, rest) → length rest < length octets
+    → front_field total octets ≡ Some (field, rest) → length rest < length octets
 left_fewer total octets field rest le read =
     let place : ℕ = total - length octets in
     let all : place + length octets ≡ total = omega arith in
-    let t = field_takes total place octets field rest all read in
+    let t = front_takes total place octets field rest all read in
     let some : 1 ≤ length t.front = field_some place t.front field t.is in
     let sum : length octets ≡ length t.front + length rest = ap length t.parts ∙ length-append t.front rest in
     omega (arith, some, sum)
@@ -37,7 +36,7 @@ Read = List Field × List ℕ
 
 read_alike : (m n total : ℕ) (octets : List ℕ) → length octets ≤ total
     → ((rest : List ℕ) → length rest < length octets → read_most m total rest ≡ read_most n total rest)
-    → (read : Option (Field × List ℕ)) → field_at total octets ≡ read
+    → (read : Option (Field × List ℕ)) → front_field total octets ≡ read
     → after_field (read_most m total) octets read ≡ after_field (read_most n total) octets read
 read_alike m n total octets le same None e = refl
 read_alike m n total octets le same (Some x) e =
@@ -48,14 +47,14 @@ pub enough : (m n total : ℕ) (octets : List ℕ) → length octets ≤ total �
     → read_most m total octets ≡ read_most n total octets
 enough zero zero total octets le l1 l2 = refl
 enough zero (suc n) total [] le l1 l2 =
-    sym (ap (after_field (read_most n total) []) (field_at-nil total))
+    sym (ap (after_field (read_most n total) []) (front_nil total))
 enough zero (suc n) total (o ∷ os) le l1 l2 = absurd (omega arith)
 enough (suc m) zero total [] le l1 l2 =
-    ap (after_field (read_most m total) []) (field_at-nil total)
+    ap (after_field (read_most m total) []) (front_nil total)
 enough (suc m) zero total (o ∷ os) le l1 l2 = absurd (omega arith)
 enough (suc m) (suc n) total octets le l1 l2 =
     read_alike m n total octets le (λ rest fewer. enough m n total rest (omega arith) (omega arith) (omega arith))
-    (field_at total octets) refl
+    (front_field total octets) refl
 
 drop_on : {A : Type 0} (m n : ℕ) (xs : List A) → drop m (drop n xs) ≡ drop (n + m) xs
 drop_on m zero xs = let e : m ≡ 0 + m = omega arith in ap (λ (k : ℕ). drop k xs) e
@@ -72,7 +71,7 @@ drop_on m (suc n) (x ∷ xs) =
 
 -- what stands at a place is what is read there
 read_there : (octets : List ℕ) (place : ℕ) (field : Field) (next : ℕ) → IsNextField octets place field next
-    → field_at (length octets) (drop place octets) ≡ Some (field, drop next octets)
+    → front_field (length octets) (drop place octets) ≡ Some (field, drop next octets)
 read_there octets place field next is =
     let later : place < next = is.later in
     let within : next ≤ length octets = is.within in
@@ -83,8 +82,8 @@ read_there octets place field next is =
     ∙ ap (λ (s : List ℕ). front ++ s) (drop_on (next - place) place octets ∙ ap (λ (n : ℕ). drop n octets) whole) in
     let sum : place + length (front ++ drop next octets) ≡ length octets =
     omega (arith, ap length parts, length-drop place octets) in
-    ap (field_at (length octets)) parts
-    ∙ field_again (length octets) place front (drop next octets) field sum is.is_field
+    ap (front_field (length octets)) parts
+    ∙ front_again (length octets) place front (drop next octets) field sum is.is_field
 
 -- one field, and those behind it
 abbrev pub begun : Field → Read → Read
@@ -102,7 +101,7 @@ first_read octets place field next is =
     let fewer : length there ≤ length here = omega (arith, length-drop place octets, length-drop next octets, is.later) in
     let one_more : read_most (length here) total here ≡ read_most (suc (length here)) total here =
     enough (length here) (suc (length here)) total here le1 (omega arith) (omega arith) in
-    let first : after_field (read_most (length here) total) here (field_at total here) ≡ begun field (read_most (length here) total there) =
+    let first : after_field (read_most (length here) total) here (front_field total here) ≡ begun field (read_most (length here) total there) =
     ap (after_field (read_most (length here) total) here) (read_there octets place field next is) in
     let same : read_most (length here) total there ≡ read_most (length there) total there =
     enough (length here) (length there) total there le2 fewer (omega arith) in
@@ -118,14 +117,14 @@ none_read octets place le none =
     let le1 : length here ≤ total = omega (arith, length-drop place octets) in
     let one_more : read_most (length here) total here ≡ read_most (suc (length here)) total here =
     enough (length here) (suc (length here)) total here le1 (omega arith) (omega arith) in
-    one_more ∙ ap (after_field (read_most (length here) total) here) (nothing (field_at total here) refl)
+    one_more ∙ ap (after_field (read_most (length here) total) here) (nothing (front_field total here) refl)
   where
-    nothing : (read : Option (Field × List ℕ)) → field_at (length octets) (drop place octets) ≡ read → read ≡ None
+    nothing : (read : Option (Field × List ℕ)) → front_field (length octets) (drop place octets) ≡ read → read ≡ None
     nothing None e = refl
     nothing (Some x) e =
         let le1 : length (drop place octets) ≤ length octets = omega (arith, length-drop place octets) in
         let fewer : length x.1 < length (drop place octets) = left_fewer (length octets) (drop place octets) x.0 x.1 le1 e in
-        absurd (none x.0 (length octets - length x.1) (read_is octets place x.0 x.1 le fewer e))
+        absurd (none x.0 (length octets - length x.1) (front_next octets place x.0 x.1 le fewer e))
 
 -- ---- IsMessage
 
@@ -134,10 +133,10 @@ fields_are_read : (most total place : ℕ) (octets : List ℕ) (fields : List Fi
 fields_are_read zero total place [] fields all le are = ap (λ (fs : List Field). (fs, [])) (sym (AreFields-nil place fields are))
 fields_are_read zero total place (o ∷ os) fields all le are = absurd (omega arith)
 fields_are_read (suc most) total place octets [] all le are =
-    ap (λ (s : List ℕ). after_field (read_most most total) s (field_at total s)) are
-    ∙ ap (after_field (read_most most total) []) (field_at-nil total)
+    ap (λ (s : List ℕ). after_field (read_most most total) s (front_field total s)) are
+    ∙ ap (after_field (read_most most total) []) (front_nil total)
 fields_are_read (suc most) total place octets (field ∷ fields) all le are =
-    let first = AreFields-first total place octets field fields all are in
+    let first = first_front total place octets field fields all are in
     let le1 : length octets ≤ total = omega arith in
     let fewer : length first.0 < length octets = left_fewer total octets field first.0 le1 first.1 in
     let at : total - length first.0 + length first.0 ≡ total = omega arith in
@@ -148,12 +147,12 @@ fields_are_read (suc most) total place octets (field ∷ fields) all le are =
 first_is_field : (most total place : ℕ) (octets : List ℕ) → place + length octets ≡ total
     → ((next : ℕ) (rest : List ℕ) → next + length rest ≡ total → (read_most most total rest).1 ≡ []
     → AreFields next rest (read_most most total rest).0)
-    → (read : Option (Field × List ℕ)) → field_at total octets ≡ read
+    → (read : Option (Field × List ℕ)) → front_field total octets ≡ read
     → (after_field (read_most most total) octets read).1 ≡ []
     → AreFields place octets (after_field (read_most most total) octets read).0
 first_is_field most total place octets all others None is e = e
 first_is_field most total place octets all others (Some x) is e =
-    let t = field_takes total place octets x.0 x.1 all is in
+    let t = front_takes total place octets x.0 x.1 all is in
     let sum : length octets ≡ length t.front + length x.1 = ap length t.parts ∙ length-append t.front x.1 in
     (t.front, x.1, t.parts, t.is, others (place + length t.front) x.1 (omega (arith, sum)) e)
 
@@ -162,7 +161,7 @@ read_are_fields : (most total place : ℕ) (octets : List ℕ) → place + lengt
 read_are_fields zero total place octets all e = e
 read_are_fields (suc most) total place octets all e =
     first_is_field most total place octets all (λ next rest sum none. read_are_fields most total next rest sum none)
-    (field_at total octets) refl e
+    (front_field total octets) refl e
 
 pub message_read : (octets : List ℕ) (fields : List Field) → IsMessage octets fields → read_from octets 0 ≡ (fields, [])
 unfolding read_from

@@ -1,3 +1,4 @@
+pub mod Fronts
 pub mod FieldSteps
 pub mod MemberSteps
 pub mod Repeated

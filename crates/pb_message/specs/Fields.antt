@@ -3,7 +3,7 @@
 -- messages pass the test.
 use Rattle.std.specs.Prelude.{ℕ, zero, suc, List, [], ◌∷◌, length, drop, Bool, nat_eq, Option, Some, None}
 use Rattle.pb_wire.specs.declared.field.Field.{Field}
-use Rattle.pb_wire.specs.inner.Reading.{field_at}
+use Rattle.pb_message.specs.Fronts.{front_field}
 
 -- the field at the front with those after it, or none and all the octets
 abbrev pub after_field : (List ℕ → List Field × List ℕ) → List ℕ → Option (Field × List ℕ)
@@ -15,7 +15,7 @@ after_field others octets (Some read) = (read.0 ∷ (others read.1).0, (others r
 -- and what is left
 abbrev pub read_most : ℕ → ℕ → List ℕ → List Field × List ℕ
 read_most zero total octets = ([], octets)
-read_most (suc most) total octets = after_field (read_most most total) octets (field_at total octets)
+read_most (suc most) total octets = after_field (read_most most total) octets (front_field total octets)
 
 unfoldable pub read_from : List ℕ → ℕ → List Field × List ℕ
 read_from octets place =

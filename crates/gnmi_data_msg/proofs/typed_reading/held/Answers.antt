@@ -1,5 +1,4 @@
-use Rattle.std.proofs.Common.{List, sym, ap, ◌∙◌}
-use Rattle.pb_wire.specs.declared.field.Field.{Field}
+use Rattle.std.proofs.Common.{sym, ap, ◌∙◌}
 use Rattle.gnmi_data_msg.specs.TypedValues.{scalar_in, given_in}
 use Rattle.gnmi_data_msg.proofs.Held.{scalar-members, given-members}
 use Rattle.gnmi_data_msg.proofs.typed_reading.held.Goals as goal

@@ -1,0 +1,4 @@
+pub mod Numbers
+pub mod Commits
+pub mod Writing
+pub mod ReadBack
