@@ -1,44 +1,20 @@
 -- The beats of groups, as they are found.
-use Rattle.std.proofs.Common.{◌≡◌, ℕ, zero, suc, ◌+◌, ◌<◌, List, [], ◌∷◌, ◌++◌, length, take, drop, get_or, set, length-set, Bool, true, false, refl, sym, ap, ◌∙◌, arith, true≢false, add-one, not, filter, ◌&&◌, ◌||◌, if◌then◌else◌}
-use Rattle.std.specs.List.{list_any}
+use Rattle.std.proofs.Common.{◌≡◌, ℕ, zero, suc, ◌+◌, ◌<◌, List, [], ◌∷◌, ◌++◌, length, take, drop, get_or, set, length-set, refl, sym, ap, ◌∙◌, arith, add-one, slice_get}
+use Rattle.std.proofs.lemmas.Option.{get_or_from_slice_get}
 use Rattle.std.proofs.lemmas.List.{take_more_set, drop_more, drop-set-lt}
-use Rattle.base_kinds.specs.Legal.{is_empty}
-use Rattle.base_kinds.specs.declared.operation.Row.{Row}
-use Rattle.sub_plan.specs.declared.plan.Line.{Line}
-use Rattle.sub_plan.specs.Groups.{group_of, is_group, group_rows}
 use Rattle.stream_laws.specs.declared.kinds.Beat.{Beat}
 use Rattle.stream_laws.specs.declared.kinds.GroupState.{GroupState}
-use Rattle.stream_laws.specs.Beats.{TurnInput, beat, beats_from, moved_on, groups_from}
+use Rattle.stream_laws.specs.Beats.{TurnInput, differs, has_rows, beat, beat_by, beats_from, moved_on, groups_from}
+use Rattle.stream_core.specs.declared.walk.Found.{Found}
 use Rattle.stream_core.specs.inner.Kept.{moved_all}
+use Rattle.stream_core.specs.inner.Walks.{found_all}
+use Rattle.stream_core.proofs.Walking.{walks_find}
 
-pub or_first : (first a b : Bool) → first ≡ a → first ≡ true → first ≡ (a || b)
-or_first first true b is holds = is
-or_first first false b is holds = absurd (true≢false (sym holds ∙ is))
-
-pub or_second : (first second a b : Bool) → first ≡ a → first ≡ false → second ≡ b → second ≡ (a || b)
-or_second first second true b is fails rest = absurd (true≢false (sym is ∙ fails))
-or_second first second false b is fails rest = rest
-
-some_kept : (keep : Row → Bool) (rows : List Row) → list_any keep rows ≡ not (is_empty (filter keep rows))
-some_kept keep [] = refl
-some_kept keep (row ∷ rows) = by_test (keep row) (some_kept keep rows)
-  where
-    by_test : (kept : Bool) → list_any keep rows ≡ not (is_empty (filter keep rows)) → (kept || list_any keep rows) ≡ not (is_empty (if kept then row ∷ filter keep rows else filter keep rows))
-    by_test true rest = refl
-    by_test false rest = rest
-
--- some row is in the group
-abbrev pub some_of : List Line → ℕ → List Row → Bool
-some_of lines number rows = list_any (λ row. is_group (group_of lines row.path) number) rows
-
-pub some_in : (lines : List Line) (number : ℕ) (sent rows : List Row) → (list_any (λ row. is_group (group_of lines row.path) number) sent || list_any (λ row. is_group (group_of lines row.path) number) rows) ≡ not (is_empty (group_rows lines number sent) && is_empty (group_rows lines number rows))
-some_in lines number sent rows =
-    let keep : Row → Bool = λ row. is_group (group_of lines row.path) number in
-    ap (λ a. a || list_any keep rows) (some_kept keep sent) ∙ ap (λ b. not (is_empty (group_rows lines number sent)) || b) (some_kept keep rows) ∙ sending_after (is_empty (group_rows lines number sent)) (is_empty (group_rows lines number rows))
-  where
-    sending_after : (a b : Bool) → (not a || not b) ≡ not (a && b)
-    sending_after true b = refl
-    sending_after false b = refl
+-- the beat by what the walks found of the group
+pub beat_found : (turn : TurnInput) (n : ℕ) (before found : List Found) (any : Found) (state : GroupState) → n < length before → found ≡ found_all turn.lines turn.sent turn.rows before → beat_by state turn.time (get_or found n any).differs (get_or found n any).some ≡ beat turn n state
+beat_found turn n before found any state inside is =
+    ap (λ one. beat_by state turn.time one.differs one.some)
+    (get_or_from_slice_get found n (record { differs = differs turn n; some = has_rows turn n }) any (ap (λ xs. slice_get xs n) is ∙ walks_find turn n before inside))
 
 -- one group more
 one_more : (turn_input : TurnInput) (from place : ℕ) (states : List GroupState) (n : ℕ) (state : GroupState) → from + n ≡ place → n < length states → beats_from turn_input from (take (suc n) states) ≡ beats_from turn_input from (take n states) ++ beat turn_input place (get_or states n state) ∷ []

@@ -1,5 +1,5 @@
 -- The search for a path among rows.
-use Rattle.std.proofs.Common.{◌≡◌, ℕ, zero, suc, ◌+◌, ◌<◌, ◌≤◌, List, [], ◌∷◌, length, get_or, refl, sym, ap, ◌∙◌, arith, inl, inr, Option, Some, None, if◌then◌else◌}
+use Rattle.std.proofs.Common.{◌≡◌, ℕ, zero, suc, ◌+◌, ◌<◌, ◌≤◌, List, [], ◌∷◌, length, get_or, refl, sym, ap, ◌∙◌, arith, inl, inr, Some, None, if◌then◌else◌}
 use Rattle.std.specs.List.Sorted.{IsStrictlySortedBy}
 use Rattle.std.specs.Ordering.{is_eq}
 use Rattle.std.specs.declared.cmp.Ordering.{Ordering}
@@ -8,13 +8,12 @@ use Rattle.std.proofs.lemmas.Bool.{cases_lt}
 use Rattle.std.proofs.lemmas.List.{get_or_default}
 use Rattle.std.proofs.lemmas.Map.Keys.{Less-from_sorted}
 use Rattle.base_kinds.specs.declared.path.Elem.{Elem}
-use Rattle.base_kinds.specs.declared.value.Value.{Value}
 use Rattle.base_kinds.specs.declared.operation.Row.{Row}
 use Rattle.base_kinds.specs.Paths.{path_cmp}
 use Rattle.base_kinds.specs.Rising.{row_cmp, IsRising, value_at}
 use Rattle.history_laws.proofs.PathOrder.{path_total, exact_paths}
-use Rattle.history_laws.proofs.Setting.{AllAbove, above_more, turned}
-use Rattle.history_laws.proofs.Values.{none_above, own_path}
+use Rattle.history_laws.proofs.Setting.{above_more, turned}
+use Rattle.history_laws.proofs.Values.{none_above}
 use Rattle.stream_core.specs.inner.Gaps.{IsBetween}
 
 pub whole : (path : List Elem) (rows : List Row) → IsBetween path rows 0 (length rows)

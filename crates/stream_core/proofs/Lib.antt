@@ -2,3 +2,4 @@ pub mod Beating
 pub mod Found
 pub mod Joining
 pub mod Turned
+pub mod Walking

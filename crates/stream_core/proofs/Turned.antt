@@ -1,7 +1,6 @@
 -- A stream after a turn, by the parts that the turn found.
-use Rattle.std.proofs.Common.{◌≡◌, ℕ, suc, List, [], ◌∷◌, length, Bool, true, false, refl, sym, ap, ◌∙◌, subst, max, filter, map, not, ◌&&◌, Option, Some, None, if◌then◌else◌}
+use Rattle.std.proofs.Common.{◌≡◌, ℕ, suc, List, [], ◌∷◌, length, Bool, true, false, refl, sym, ap, ◌∙◌, subst, max, filter, map, not, ◌&&◌, Some, None, if◌then◌else◌}
 use Rattle.std.specs.List.{list_any}
-use Rattle.base_kinds.specs.declared.path.Elem.{Elem}
 use Rattle.base_kinds.specs.declared.operation.Row.{Row}
 use Rattle.base_kinds.specs.declared.request.Note.{Note}
 use Rattle.base_kinds.specs.declared.entry.View.{View}
@@ -14,13 +13,12 @@ use Rattle.stream_laws.specs.declared.kinds.Beat.{Beat}
 use Rattle.stream_laws.specs.declared.kinds.GroupState.{GroupState}
 use Rattle.stream_laws.specs.declared.kinds.Mark.{Mark}
 use Rattle.stream_laws.specs.Differences.{is_gone}
-use Rattle.stream_laws.specs.Beats.{TurnInput, beats, beats_from, some_due, is_due, beat_numbered, groups_after}
+use Rattle.stream_laws.specs.Beats.{TurnInput, beats_from, some_due, is_due, beat_numbered, groups_after}
 use Rattle.stream_laws.specs.Notes.{note_of, sent_after, is_sent, deletes, updates}
-use Rattle.stream_laws.specs.Runs.{Sending, sending_after}
 use Rattle.stream_laws.specs.Streams.{StreamView, turn_input_of, stream_after, mark_after}
-use Rattle.stream_core.specs.inner.Kept.{IsKept, moved_all}
-use Rattle.stream_laws.proofs.Steps.{stays, rising_after, note_at}
-use Rattle.stream_core.proofs.Beating.{moved_from, beats_length}
+use Rattle.stream_core.specs.inner.Kept.{moved_all}
+use Rattle.stream_laws.proofs.Steps.{stays, note_at}
+use Rattle.stream_core.proofs.Beating.{moved_from}
 use Rattle.stream_laws.proofs.Kept.{rising_filter}
 use Rattle.history_laws.proofs.Setting.{rising_sets}
 

@@ -2,3 +2,4 @@ pub mod Due
 pub mod Gaps
 pub mod Kept
 pub mod Merging
+pub mod Walks

@@ -1,15 +1,13 @@
 // Which groups are due at a turn. None of these takes memory.
-ghost use Rattle.std.specs.Prelude.{◌≡◌, [], ◌&&◌, ◌||◌, not, length};
-ghost use Rattle.std.specs.List.{list_any};
-ghost use Rattle.base_kinds.specs.Legal.{is_empty};
+ghost use Rattle.std.specs.Prelude.{◌≡◌, length};
 ghost use Rattle.base_kinds.specs.Rising.{IsRising};
-ghost use Rattle.sub_plan.specs.Groups.{group_of, is_group, group_rows};
 ghost use Rattle.stream_laws.specs.Differences.{same_value, is_gone, is_new_or_changed};
 ghost use Rattle.stream_core.specs.inner.Due.{input_of};
-ghost use Rattle.stream_laws.specs.Beats.{has_interval_passed, has_heartbeat_passed, sends_all, sends_changes, beat_by, beat, beats_from};
+ghost use Rattle.stream_laws.specs.Beats.{has_interval_passed, has_heartbeat_passed, sends_all, sends_changes, beat_by, beats_from};
 
-use crate::search::{group_of, value_of};
-use base_kinds::{Path, Row, Same, Value};
+use crate::search::value_of;
+use crate::walk::{Found, find_rows};
+use base_kinds::{Row, Same, Value};
 use stream_laws::{Beat, GroupState};
 use sub_plan::{GroupSort, Line};
 
@@ -18,15 +16,6 @@ fn same_value(a: &Value, b: &Value) -> bool
     ensures { result ≡ same_value a.now b.now }
 {
     a.same(b)
-}
-
-pub fn is_in(lines: &[Line], number: usize, path: &Path) -> bool
-    ensures { result ≡ is_group (group_of lines.now path.now) number }
-{
-    match group_of(lines, path) {
-        Some(group) => group as usize == number,
-        None => false,
-    }
 }
 
 pub fn is_gone(rows: &[Row], row: &Row) -> bool
@@ -44,31 +33,6 @@ pub fn is_new_or_changed(rows: &[Row], row: &Row) -> bool
         Some(old) => !same_value(old, &row.value),
         None => true,
     }
-}
-
-fn some_gone(lines: &[Line], number: usize, sent: &[Row], rows: &[Row]) -> bool
-    requires { IsRising rows.now }
-    ensures { result ≡ list_any (is_gone rows.now) (group_rows lines.now number sent.now) }
-{
-    sent.iter()
-        .filter(|row| is_in(lines, number, &row.path))
-        .any(|row| is_gone(rows, row))
-}
-
-fn some_new_or_changed(lines: &[Line], number: usize, sent: &[Row], rows: &[Row]) -> bool
-    requires { IsRising sent.now }
-    ensures { result ≡
-        list_any (is_new_or_changed sent.now) (group_rows lines.now number rows.now) }
-{
-    rows.iter()
-        .filter(|row| is_in(lines, number, &row.path))
-        .any(|row| is_new_or_changed(sent, row))
-}
-
-fn some_own(lines: &[Line], number: usize, rows: &[Row]) -> bool
-    ensures { result ≡ list_any (λ row. is_group (group_of lines.now row.path) number) rows.now }
-{
-    rows.iter().any(|row| is_in(lines, number, &row.path))
 }
 
 pub fn has_interval_passed(state: &GroupState, time: u64) -> bool
@@ -119,40 +83,6 @@ fn beat_of(state: &GroupState, time: u64, differ: bool, some: bool) -> Beat
     }
 }
 
-fn differs(lines: &[Line], number: usize, sent: &[Row], rows: &[Row]) -> bool
-    requires sent { IsRising sent.now }
-    requires rows { IsRising rows.now }
-    ensures { result ≡ (list_any (is_gone rows.now) (group_rows lines.now number sent.now)
-        || list_any (is_new_or_changed sent.now) (group_rows lines.now number rows.now)) }
-{
-    some_gone(lines, number, sent, rows) || some_new_or_changed(lines, number, sent, rows)
-}
-
-fn has_rows(lines: &[Line], number: usize, sent: &[Row], rows: &[Row]) -> bool
-    ensures { result ≡ not (is_empty (group_rows lines.now number sent.now)
-        && is_empty (group_rows lines.now number rows.now)) }
-{
-    some_own(lines, number, sent) || some_own(lines, number, rows)
-}
-
-fn group_beat(
-    lines: &[Line],
-    number: usize,
-    state: &GroupState,
-    sent: &[Row],
-    rows: &[Row],
-    time: u64,
-) -> Beat
-    requires sent { IsRising sent.now }
-    requires rows { IsRising rows.now }
-    ensures { let turn = input_of lines.now [] sent.now rows.now time in
-        result ≡ beat turn number state.now }
-{
-    let differ = differs(lines, number, sent, rows);
-    let some = has_rows(lines, number, sent, rows);
-    beat_of(state, time, differ, some)
-}
-
 /// Writes the beat of each group.
 pub fn find_beats(
     lines: &[Line],
@@ -160,15 +90,20 @@ pub fn find_beats(
     sent: &[Row],
     rows: &[Row],
     time: u64,
+    found: &mut [Found],
     beats: &mut [Beat],
 )
     requires sent { IsRising sent.now }
     requires rows { IsRising rows.now }
     requires room { length beats.old ≡ length states.now }
-    ensures { let turn = input_of lines.now states.now sent.now rows.now time in
+    requires found { length found.old ≡ length states.now }
+    ensures room { length found.new ≡ length states.now }
+    ensures beats { let turn = input_of lines.now states.now sent.now rows.now time in
         beats.new ≡ beats_from turn 0 states.now }
 {
+    find_rows(lines, sent, rows, found);
     for (number, state) in states.iter().enumerate() {
-        beats[number] = group_beat(lines, number, state, sent, rows, time);
+        let one = found[number];
+        beats[number] = beat_of(state, time, one.differs, one.some);
     }
 }

@@ -8,5 +8,6 @@ mod notes;
 mod search;
 mod states;
 mod stream;
+mod walk;
 
 pub use stream::Stream;

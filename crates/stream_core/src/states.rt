@@ -5,6 +5,7 @@ ghost use Rattle.stream_laws.specs.Runs.{started};
 ghost use Rattle.stream_core.specs.inner.Kept.{moved_all};
 
 use crate::beats::has_interval_passed;
+use crate::walk::Found;
 use base_kinds::NoMemory;
 use std::alloc::Global;
 use stream_laws::{Beat, GroupState};
@@ -32,6 +33,19 @@ pub fn quiet_beats(alloc: Global, groups: &[Group]) -> Result<Vec<Beat>, NoMemor
         beats.push(Beat::Quiet)?;
     }
     Ok(beats)
+}
+
+pub fn no_findings(alloc: Global, groups: &[Group]) -> Result<Vec<Found>, NoMemory>
+    ensures { IfOk result (λ found. length found.items ≡ length groups.now) }
+{
+    let mut found = Vec::with_capacity(alloc, groups.len())?;
+    for _group in groups {
+        found.push(Found {
+            differs: false,
+            some: false,
+        })?;
+    }
+    Ok(found)
 }
 
 fn moved_on(state: &GroupState, beat: Beat, time: u64) -> GroupState

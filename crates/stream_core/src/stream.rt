@@ -13,7 +13,8 @@ ghost use Rattle.stream_core.specs.inner.Kept.{moved_all};
 
 use crate::beats::find_beats;
 use crate::notes::{deletes_of, is_due, sent_after, updates_of};
-use crate::states::{move_on, quiet_beats, started_all};
+use crate::states::{move_on, no_findings, quiet_beats, started_all};
+use crate::walk::Found;
 use base_kinds::{Copied, LATEST_READING, NoMemory, Note, Row, Seq, View};
 use std::alloc::Global;
 use std::marker::Model;
@@ -25,6 +26,8 @@ use sub_plan::{Line, Lines, Plan};
 pub struct Stream {
     lines: Lines,
     states: Vec<GroupState>,
+    /// Room for what a turn finds of each group.
+    found: Vec<Found>,
     /// Room for the beats of a turn.
     beats: Vec<Beat>,
     sent: Vec<Row>,
@@ -52,7 +55,8 @@ impl Model for Stream {
       mark = stream.mark;
     } };
 
-    ghost invariant = { λ stream. IsKept stream.states.items stream.beats.items stream.sent.items };
+    ghost invariant = { λ stream.
+        IsKept stream.states.items stream.found.items stream.beats.items stream.sent.items };
 }
 
 fn clamped_reading(now: u64) -> u64
@@ -93,16 +97,19 @@ fn beat_all(
     sent: &[Row],
     rows: &[Row],
     time: u64,
+    found: &mut Vec<Found>,
     beats: &mut Vec<Beat>,
 )
     requires sent { IsRising sent.now }
     requires rows { IsRising rows.now }
     requires room { length beats.old.items ≡ length states.now }
+    requires finding { length found.old.items ≡ length states.now }
     ensures room { length beats.new.items ≡ length states.now }
+    ensures finding { length found.new.items ≡ length states.now }
     ensures found { let turn = input_of lines.now states.now sent.now rows.now time in
         beats.new.items ≡ beats_from turn 0 states.now }
 {
-    find_beats(lines, states, sent, rows, time, beats);
+    find_beats(lines, states, sent, rows, time, found, beats);
 }
 
 fn move_all(states: &mut Vec<GroupState>, beats: &[Beat], time: u64)
@@ -159,10 +166,12 @@ impl Stream {
         let time = clamped_reading(now);
         let note = first_note(alloc, plan.updates_only, &view)?;
         let states = started_all(alloc, plan.groups.items(), time)?;
+        let found = no_findings(alloc, plan.groups.items())?;
         let beats = quiet_beats(alloc, plan.groups.items())?;
         let stream = Stream {
             lines: plan.lines,
             states,
+            found,
             beats,
             sent: view.rows.into_vec(),
             time,
@@ -192,6 +201,7 @@ impl Stream {
             &self.sent,
             rows,
             time,
+            &mut self.found,
             &mut self.beats,
         );
         if !some_due(&self.beats) {

@@ -5,3 +5,5 @@ pub mod Groups
 pub mod Runs
 pub mod Marks
 pub mod Following
+pub mod Order
+pub mod Polls

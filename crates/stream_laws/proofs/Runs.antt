@@ -26,7 +26,7 @@ use Rattle.gnmi_kinds.specs.declared.reply.SubReply.TheVariants as replies
 use Rattle.stream_laws.specs.Beats.{TurnInput, beat, beats, beat_numbered, is_due, some_due, moved_on, groups_from}
 use Rattle.stream_laws.specs.Notes.{note_of, sent_after, rows_after_note, fold_notes}
 use Rattle.stream_laws.specs.Runs.{Turn, Sending, started, turn_input, sending_after, sending_after_all, first_sending, first_messages, note_messages, turn_messages, later_messages, messages_of, Moment, turn_at, IsStreamRun}
-use Rattle.stream_laws.specs.Folds.{notes_in, fold_of, is_due_then, last_sending, last_moment, tree_at, first_sending_at, FoldsToStates}
+use Rattle.stream_laws.specs.Folds.{notes_in, fold_of, is_due_then, is_due_last, last_sending, last_moment, tree_at, first_sending_at, FoldsToStates}
 use Rattle.stream_laws.proofs.Kept.{or_else, rising_filter, value_at_rising}
 use Rattle.stream_laws.proofs.Steps.{note_at, note_leads, stays, rising_after, value_after_turn}
 use Rattle.stream_laws.proofs.Groups.{rising_own, value_at_own, own_after, changes_follow}
@@ -135,10 +135,10 @@ own_part lines number tree rising =
     by_group path true is = ap (λ b. if b then value_at path tree else None) (covered_in lines number path is)
     by_group path false is = refl
 
-rising_at : (lines : List Line) (h : List Entry) (moment : Moment) → IsRising (turn_at lines h moment).view.rows
+pub rising_at : (lines : List Line) (h : List Entry) (moment : Moment) → IsRising (turn_at lines h moment).view.rows
 rising_at lines h moment = rising_filter (λ (row : Row). is_covered (patterns_of lines) row.path) (tree_at h moment) (rising_world (take moment.position h))
 
-rising_all : (lines : List Line) (h : List Entry) (moments : List Moment) → TurnsRise (map (turn_at lines h) moments)
+pub rising_all : (lines : List Line) (h : List Entry) (moments : List Moment) → TurnsRise (map (turn_at lines h) moments)
 rising_all lines h [] = tt
 rising_all lines h (moment ∷ moments) = (rising_at lines h moment, rising_all lines h moments)
 
@@ -225,6 +225,11 @@ all_covered lines rows rising nothing =
     by_test path true is = refl
     by_test path false is = sym (nothing path is)
 
+-- a group that is due at the last turn has its last sending there
+last_is : (lines : List Line) (h : List Entry) (due : Bool) (sending : Sending) (number : ℕ) (last current : Moment) (later : List Moment) → is_due_last lines h due sending number later ≡ true → last_sending lines h sending number (if due then current else last) later ≡ last_moment current later
+last_is lines h due sending number last current [] is = ap (λ b. if b then current else last) is
+last_is lines h due sending number last current (moment ∷ moments) is = last_is lines h (is_due_then lines sending number (turn_at lines h moment)) (sending_after lines sending (turn_at lines h moment)) number (if due then current else last) moment moments is
+
 pub runs_fold : (plan : Plan) (first : Moment) (later : List Moment) (messages : List SubReply) (h : List Entry) → IsStreamRun plan first later messages h → FoldsToStates plan first later messages h
 runs_fold plan first later messages h run =
     let lines = plan.lines in
@@ -236,6 +241,10 @@ runs_fold plan first later messages h run =
     λ number moment. own_part lines number (tree_at h moment) (rising_world (take moment.position h)) in
     record {
       each = λ number. ap (group_rows lines number) folds ∙ sendings_hold lines h (first_sending plan.groups begins) number first later (rising_at lines h first) refl ∙ of_tree number (last_sending lines h (first_sending_at plan h first) number first later);
+      due = λ number last.
+          ap (group_rows lines number) folds ∙ sendings_hold lines h (first_sending plan.groups begins) number first later (rising_at lines h first) refl
+          ∙ of_tree number (last_sending lines h (first_sending_at plan h first) number first later)
+          ∙ ap (λ moment. group_rows lines number (tree_at h moment)) (last_is lines h true (first_sending_at plan h first) number first first later last);
       changes = λ number group there sort.
           ap (group_rows lines number) folds
           ∙ changes_hold lines h (first_sending plan.groups begins) number first later (rising_at lines h first) (record { state = started first.time group; there = started_there first.time number plan.groups group there; sort = sort }) refl

@@ -1,11 +1,13 @@
--- What follows of a stream's messages: at each mark they fold to its paths' part of one state (gNMI 3.5.1.4).
-use Rattle.std.specs.Prelude.{◌≡◌, ℕ, List, [], ◌∷◌, ◌++◌, Bool, true, false, Some, None, slice_get, take, if◌then◌else◌}
+-- What follows of a stream's messages (gNMI 3.5.1.4). At each mark they fold, for each group, to its part of the state of its
+-- own last sending. That is the mark's state for all groups at the sync, and behind it for those that were due and for the
+-- group of changes.
+use Rattle.std.specs.Prelude.{◌≡◌, ℕ, ◌≤◌, List, [], ◌∷◌, ◌++◌, Bool, true, false, Some, None, slice_get, map, take, length, if◌then◌else◌}
 use Rattle.std.specs.List.{list_any}
 use Rattle.base_kinds.specs.declared.operation.Row.{Row}
 use Rattle.base_kinds.specs.declared.request.Note.{Note}
 use Rattle.base_kinds.specs.declared.entry.Entry.{Entry}
 use Rattle.base_kinds.specs.declared.entry.View.{View}
-use Rattle.base_kinds.specs.History.{stamp_of, world_of}
+use Rattle.base_kinds.specs.History.{IsHistory, stamp_of, world_of}
 use Rattle.base_kinds.specs.Parts.{part}
 use Rattle.base_kinds.specs.Rising.{IsRising}
 use Rattle.sub_plan.specs.declared.plan.Group.{Group}
@@ -15,9 +17,9 @@ use Rattle.sub_plan.specs.declared.plan.Plan.{Plan}
 use Rattle.sub_plan.specs.Groups.{group_rows, patterns_of}
 use Rattle.gnmi_kinds.specs.declared.reply.SubReply.{SubReply}
 use Rattle.gnmi_kinds.specs.declared.reply.SubReply.TheVariants as replies
-use Rattle.stream_laws.specs.Beats.{TurnInput, beats, beat_or_quiet, is_due}
+use Rattle.stream_laws.specs.Beats.{TurnInput, beats, beat_or_quiet, is_due, some_due}
 use Rattle.stream_laws.specs.Notes.{note_of, sent_after, rows_after_note, fold_notes}
-use Rattle.stream_laws.specs.Runs.{Turn, Sending, turn_input, sending_after, sending_after_all, first_sending, turn_messages, messages_of, Moment, turn_at, IsStreamRun}
+use Rattle.stream_laws.specs.Runs.{Turn, Sending, turn_input, sending_after, sending_after_all, first_sending, first_messages, turn_messages, messages_of, Moment, turn_at, IsStreamRun}
 
 -- the notification of a turn leads from the rows that were sent to those that are sent after it
 abbrev pub NoteLeads : Type 0
@@ -65,14 +67,26 @@ tree_at h moment = (world_of (take moment.position h)).tree
 abbrev pub first_sending_at : Plan → List Entry → Moment → Sending
 first_sending_at plan h first = first_sending plan.groups (turn_at plan.lines h first)
 
--- The part of the messages' fold that is a group's is the group's part of the state of its last sending, and that of the group
--- of changes is its part of the state of the last turn. Nothing else is in the fold.
+-- the group is due at the last of these turns, or, where there are none, at the one before them
+abbrev pub is_due_last : List Line → List Entry → Bool → Sending → ℕ → List Moment → Bool
+is_due_last lines h due sending number [] = due
+is_due_last lines h due sending number (moment ∷ moments) =
+    is_due_last lines h (is_due_then lines sending number (turn_at lines h moment))
+    (sending_after lines sending (turn_at lines h moment)) number moments
+
+-- The part of the messages' fold that is a group's is the group's part of the state of its own last sending (`each`). That is
+-- the state of the last turn where the group was due there, as all groups are at the first turn (`due`), and for the group of
+-- changes whether it was due or not (`changes`); for another group it may be an older one. Nothing else is in the fold.
 pub record FoldsToStates (plan : Plan) (first : Moment) (later : List Moment)
     (messages : List SubReply) (h : List Entry) : Type 0 where
   pub each : (number : ℕ) →
       group_rows plan.lines number (fold_of plan (turn_at plan.lines h first).view messages) ≡
       group_rows plan.lines number
       (tree_at h (last_sending plan.lines h (first_sending_at plan h first) number first later))
+  pub due : (number : ℕ) →
+      is_due_last plan.lines h true (first_sending_at plan h first) number later ≡ true →
+      group_rows plan.lines number (fold_of plan (turn_at plan.lines h first).view messages) ≡
+      group_rows plan.lines number (tree_at h (last_moment first later))
   pub changes : (number : ℕ) (group : Group) → slice_get plan.groups number ≡ Some group →
       group.sort ≡ Change →
       group_rows plan.lines number (fold_of plan (turn_at plan.lines h first).view messages) ≡
@@ -111,24 +125,43 @@ abbrev pub last_turn : Turn → List Turn → Turn
 last_turn last [] = last
 last_turn last (turn ∷ turns) = last_turn turn turns
 
--- Messages up to a mark are those of a run of fewer turns, and the mark's stamp is that of the last.
+-- the last of these turns says something, or, where there are none, the one before them
+abbrev pub ends_with_message : List Line → Bool → Sending → List Turn → Bool
+ends_with_message lines says sending [] = says
+ends_with_message lines says sending (turn ∷ turns) =
+    ends_with_message lines (some_due (turn_input lines sending turn))
+    (sending_after lines sending turn) turns
+
+-- Messages up to a mark are those of the first turns of the run, perhaps of all, of which the last made the mark, and the
+-- mark's stamp is that turn's. At the sync it is the first turn.
 pub record IsMarked (plan : Plan) (first : Turn) (later : List Turn)
     (front : List SubReply) : Type 0 where
   pub turns : ℕ
+  pub inside : turns ≤ length later
   pub whole : front ≡ messages_of plan first (take turns later)
+  pub made :
+      ends_with_message plan.lines true (first_sending plan.groups first) (take turns later) ≡ true
+  pub sync : front ≡ first_messages plan.updates_only first.view → turns ≡ 0
   pub stamp : last_stamp first.view.stamp front ≡ (last_turn first (take turns later)).view.stamp
 
--- messages end with a mark exactly where there is a sync among them
+-- messages among which there is a sync end with a mark, wherever they are cut off
 abbrev pub MarksNameTurns : Type 0
 MarksNameTurns =
     (plan : Plan) (first : Turn) (later : List Turn) (front rest : List SubReply) →
     messages_of plan first later ≡ front ++ rest → list_any is_sync front ≡ true →
     IsMarked plan first later front
 
--- Messages of a run up to a mark fold to the states of the turns that they tell of, and the mark's stamp names the last.
+-- Messages of a run up to a mark are a run of its first turns, the last of which made the mark, so that no turn is at a state
+-- before that of an earlier one (`run`, `made`; at the sync it is the first turn, `sync`). They fold to the states of those
+-- turns, and the mark's stamp is that of the last one's state. In a history no other state has this stamp (StampsNamePositions).
 pub record IsMarkedState (plan : Plan) (first : Moment) (later : List Moment)
     (front : List SubReply) (h : List Entry) : Type 0 where
   pub turns : ℕ
+  pub inside : turns ≤ length later
+  pub run : IsStreamRun plan first (take turns later) front h
+  pub made : ends_with_message plan.lines true (first_sending_at plan h first)
+      (map (turn_at plan.lines h) (take turns later)) ≡ true
+  pub sync : front ≡ first_messages plan.updates_only (turn_at plan.lines h first).view → turns ≡ 0
   pub folds : FoldsToStates plan first (take turns later) front h
   pub stamp : last_stamp (turn_at plan.lines h first).view.stamp front ≡
       stamp_of (take (last_moment first (take turns later)).position h)
@@ -138,3 +171,26 @@ MarksNameStates =
     (plan : Plan) (first : Moment) (later : List Moment) (messages front rest : List SubReply)
     (h : List Entry) → IsStreamRun plan first later messages h → messages ≡ front ++ rest →
     list_any is_sync front ≡ true → IsMarkedState plan first later front h
+
+-- Of two marks of one stream the second was made by the turn of the first or a later one, at no older state;
+-- these are how many later turns there are up to each.
+pub record MarksRise (plan : Plan) (first : Moment) (later : List Moment)
+    (front longer : List SubReply) (h : List Entry) (one two : ℕ) : Type 0 where
+  pub turns : one ≤ two
+  pub positions : (last_moment first (take one later)).position ≤
+      (last_moment first (take two later)).position
+  pub stamps : IsHistory h → last_stamp (turn_at plan.lines h first).view.stamp front ≤
+      last_stamp (turn_at plan.lines h first).view.stamp longer
+
+abbrev pub MarksDontFall : Type 0
+MarksDontFall =
+    (plan : Plan) (first : Moment) (later : List Moment) (front more : List SubReply)
+    (h : List Entry) (mark : IsMarkedState plan first later front h)
+    (next : IsMarkedState plan first later (front ++ more) h) →
+    MarksRise plan first later front (front ++ more) h mark.turns next.turns
+
+-- positions of a history with equal stamps are the same
+abbrev pub StampsNamePositions : Type 0
+StampsNamePositions =
+    (h : List Entry) (one two : ℕ) → IsHistory h → one ≤ length h → two ≤ length h →
+    stamp_of (take one h) ≡ stamp_of (take two h) → one ≡ two

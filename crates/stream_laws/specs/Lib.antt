@@ -2,7 +2,9 @@ pub mod Beats
 pub mod Differences
 pub mod Folds
 pub mod Follows
+pub mod Groups
 pub mod Notes
+pub mod Polls
 pub mod Runs
 pub mod Streams
 pub mod worked

@@ -1,11 +1,12 @@
 -- The messages of one stream (gNMI 3.5.1.4 and 3.5.2.3): a first notification of all rows and a sync, and then one
 -- notification for each turn at which a group is due.
-use Rattle.std.specs.Prelude.{◌≡◌, ℕ, ◌≤◌, List, [], ◌∷◌, ◌++◌, Bool, Option, Some, None, map, take, length, if◌then◌else◌}
+use Rattle.std.specs.Prelude.{◌≡◌, ℕ, ◌≤◌, List, [], ◌∷◌, ◌++◌, Bool, Option, Some, None, map, max, take, length, if◌then◌else◌}
 use Rattle.base_kinds.specs.declared.operation.Row.{Row}
 use Rattle.base_kinds.specs.declared.request.Note.{Note}
 use Rattle.base_kinds.specs.declared.entry.Entry.{Entry}
 use Rattle.base_kinds.specs.declared.entry.View.{View}
 use Rattle.base_kinds.specs.Events.{view_of}
+use Rattle.base_kinds.specs.Step.{clamped_reading}
 use Rattle.sub_plan.specs.declared.plan.Group.{Group}
 use Rattle.sub_plan.specs.declared.plan.Line.{Line}
 use Rattle.sub_plan.specs.declared.plan.Plan.{Plan}
@@ -88,8 +89,11 @@ messages_of plan first later =
 
 -- ---- turns over a history
 
--- a turn's time, and the position of the history that it is made at: how many entries there are
+-- What the clock showed at a turn and the turn's time, in nanoseconds, and the position of the history that it is made at: how
+-- many entries there are. A run says of a reading only which time it leads to; that it is the one that a turn was called with
+-- is said where a run goes on (Follows.antt).
 pub record Moment : Type 0 where
+  pub reading : ℕ
   pub time : ℕ
   pub position : ℕ
 
@@ -100,16 +104,19 @@ view_at lines h position = view_of (take position h) (patterns_of lines)
 abbrev pub turn_at : List Line → List Entry → Moment → Turn
 turn_at lines h moment = record { time = moment.time; view = view_at lines h moment.position }
 
--- neither times nor positions fall, and no position is above this number
+-- Times are the readings, but for one that is before the last time, which counts as that. Positions don't fall, and none is
+-- above this number.
 abbrev pub GoOn : ℕ → ℕ → ℕ → List Moment → Type 0
 GoOn most time position [] = Unit {0}
 GoOn most time position (moment ∷ moments) =
-    (time ≤ moment.time) × (position ≤ moment.position) × (moment.position ≤ most)
-    × GoOn most moment.time moment.position moments
+    (moment.time ≡ max (clamped_reading moment.reading) time) × (position ≤ moment.position)
+    × (moment.position ≤ most) × GoOn most moment.time moment.position moments
 
--- the messages are those of a stream of the plan, with turns at these moments of the history
+-- The messages are those of a stream of the plan, with turns at these moments of the history, of which neither times nor
+-- positions fall.
 pub record IsStreamRun (plan : Plan) (first : Moment) (later : List Moment)
     (messages : List SubReply) (h : List Entry) : Type 0 where
+  pub time : first.time ≡ clamped_reading first.reading
   pub inside : first.position ≤ length h
   pub go_on : GoOn (length h) first.time first.position later
   pub whole : messages ≡

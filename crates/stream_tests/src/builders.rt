@@ -12,7 +12,7 @@ pub fn path_of(rt: &impl Abort, alloc: Global, text: &str) -> Path {
     read_path_text(alloc, text.as_bytes()).expect(rt, "a path")
 }
 
-fn line_of(rt: &impl Abort, alloc: Global, sub: Sub) -> SubLine {
+pub fn line_of(rt: &impl Abort, alloc: Global, sub: Sub) -> SubLine {
     let (path, mode, interval, heartbeat, suppress) = sub;
     SubLine {
         path: path_of(rt, alloc, path),
@@ -35,6 +35,17 @@ pub fn ask_of(
     for sub in subs.iter().copied() {
         lines.push(line_of(rt, alloc, sub)).expect(rt, "memory");
     }
+    ask_of_lines(rt, alloc, prefix, mode, lines)
+}
+
+/// The list of these lines, behind this prefix.
+pub fn ask_of_lines(
+    rt: &impl Abort,
+    alloc: Global,
+    prefix: &str,
+    mode: ListMode,
+    lines: SubLines,
+) -> SubAsk {
     SubAsk {
         prefix: GnmiPath {
             path: path_of(rt, alloc, prefix),
@@ -50,7 +61,7 @@ pub fn ask_of(
     }
 }
 
-fn row_of(rt: &impl Abort, alloc: Global, path: &str, number: u64) -> Row {
+pub fn row_of(rt: &impl Abort, alloc: Global, path: &str, number: u64) -> Row {
     let path = path_of(rt, alloc, path);
     Row {
         path,

@@ -4,6 +4,10 @@
 #[cfg(test)]
 mod builders;
 #[cfg(test)]
+mod histories;
+#[cfg(test)]
 mod plans;
+#[cfg(test)]
+mod reference;
 #[cfg(test)]
 mod streams;

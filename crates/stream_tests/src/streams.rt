@@ -13,11 +13,11 @@ use tree_check::are_rising;
 /// and the updates a `+`.
 type Step = (u64, u64, &'static [(&'static str, u64)], &'static str);
 
-fn put(rt: &impl Abort, octets: &[u8], out: &mut Bytes) {
+pub fn put(rt: &impl Abort, octets: &[u8], out: &mut Bytes) {
     out.extend_from_slice(octets).expect(rt, "memory");
 }
 
-fn put_number(rt: &impl Abort, alloc: Global, number: u64, out: &mut Bytes) {
+pub fn put_number(rt: &impl Abort, alloc: Global, number: u64, out: &mut Bytes) {
     let text = format!(in alloc; "{number}").expect(rt, "memory");
     put(rt, text.as_bytes(), out);
 }
@@ -42,7 +42,7 @@ fn put_note(rt: &impl Abort, alloc: Global, note: &Note, out: &mut Bytes) {
     }
 }
 
-fn text_of(rt: &impl Abort, alloc: Global, note: &Option<Note>) -> Bytes {
+pub fn text_of(rt: &impl Abort, alloc: Global, note: &Option<Note>) -> Bytes {
     let mut text = Bytes::empty(alloc);
     match note {
         Some(note) => put_note(rt, alloc, note, &mut text),
@@ -52,7 +52,17 @@ fn text_of(rt: &impl Abort, alloc: Global, note: &Option<Note>) -> Bytes {
 }
 
 fn plan(rt: &impl Abort, alloc: Global, subs: &'static [Sub], updates_only: bool) -> Plan {
-    let mut ask = ask_of(rt, alloc, "/", ListMode::Stream, subs);
+    plan_in(rt, alloc, ListMode::Stream, subs, updates_only)
+}
+
+fn plan_in(
+    rt: &impl Abort,
+    alloc: Global,
+    mode: ListMode,
+    subs: &'static [Sub],
+    updates_only: bool,
+) -> Plan {
+    let mut ask = ask_of(rt, alloc, "/", mode, subs);
     ask.updates_only = updates_only;
     plan_of(alloc, &ask).expect(rt, "a plan")
 }
@@ -156,4 +166,66 @@ fn samples_without_a_change_wait_for_the_heartbeat(rt: HostRuntime) {
     let alloc = rt.alloc();
     let plan = plan(&rt, alloc, SUPPRESSED, false);
     follow(&rt, alloc, plan, BEFORE_HEARTBEATS, HEARTBEATS);
+}
+
+/// Rows that are deleted and changed between two turns. The name "e0" is the number 100, and the texts are their letters'
+/// places in the alphabet.
+const WORKED: Step = (
+    1_000,
+    1_000,
+    &[
+        ("/interfaces/interface[name=e0]/config/mtu", 1_500),
+        ("/interfaces/interface[name=e0]/name", 100),
+        ("/system/config/hostname", 1),
+    ],
+    "1000 +/interfaces/interface[name=e0]/config/mtu=1500 +/interfaces/interface[name=e0]/name=100 +/system/config/hostname=1",
+);
+
+const WORKED_LATER: &[Step] = &[
+    (
+        1_000_001_000,
+        1_003,
+        &[("/system/config/hostname", 2), ("/system/config/motd", 13)],
+        "1003 -/interfaces/interface[name=e0]/config/mtu -/interfaces/interface[name=e0]/name +/system/config/hostname=2 +/system/config/motd=13",
+    ),
+    // A trial began and ended again.
+    (
+        1_000_001_000,
+        1_000_001_001,
+        &[("/system/config/hostname", 2), ("/system/config/motd", 13)],
+        "quiet",
+    ),
+];
+
+#[test]
+fn what_was_deleted_and_changed_comes_in_one_notification(rt: HostRuntime) {
+    let alloc = rt.alloc();
+    let told = plan(&rt, alloc, TWO, false);
+    follow(&rt, alloc, told, WORKED, WORKED_LATER);
+    let silent = plan(&rt, alloc, TWO, true);
+    follow(
+        &rt,
+        alloc,
+        silent,
+        (WORKED.0, WORKED.1, WORKED.2, "quiet"),
+        WORKED_LATER,
+    );
+}
+
+const CHANGES: &[Sub] = &[("/system", SubMode::Change, 0, 0, false)];
+
+const POLLED: Step = (
+    1_000,
+    1_000,
+    &[("/system/config/hostname", 1)],
+    "1000 +/system/config/hostname=1",
+);
+
+#[test]
+fn each_poll_begins_anew(rt: HostRuntime) {
+    let alloc = rt.alloc();
+    for _ in 0..2 {
+        let plan = plan_in(&rt, alloc, ListMode::Poll, CHANGES, false);
+        follow(&rt, alloc, plan, POLLED, &[]);
+    }
 }

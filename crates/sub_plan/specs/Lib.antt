@@ -1,3 +1,4 @@
 pub mod Groups
 pub mod Plans
+pub mod Profile
 pub mod worked

@@ -43,6 +43,7 @@ is_known_encoding encodings.Proto = true
 is_known_encoding encodings.JsonIetf = true
 is_known_encoding encodings.Other = false
 
+-- The reader of the request sets `unsupported` by Profile.antt, for what of it has no field here.
 abbrev pub is_unsupported : SubAsk → Bool
 is_unsupported ask =
     ask.unsupported || not (is_known_origin ask.prefix.origin) || ask.prefix.old_element

@@ -32,11 +32,12 @@ pub fn patterns(alloc: Global, plan: &Plan) -> Result<Paths, NoMemory>
     Ok(patterns)
 }
 
-/// The plan of a Subscribe list. Refused are, in this order: what this target doesn't support (`Unsupported`: an origin
-/// other than the empty one and `openconfig`, an encoding other than JSON, JSON_IETF and PROTO, and what the message's
-/// reader found); a list of no or more than 64 subscriptions, of an unknown mode, or with an interval or a heartbeat from 1 to
-/// 99,999,999 ns (`BadSubscribe`); a path of more than 32 elements with the prefix, an element without a name, and a
-/// target's name of more than 1,024 octets (`BadPath`).
+/// The plan of a Subscribe list. Refused are, in this order: what this target doesn't support (`Unsupported`: an origin of
+/// the prefix other than the empty one and `openconfig`, texts in the prefix's deprecated field `element`, an encoding other
+/// than JSON, JSON_IETF and PROTO, and what the request's reader found, specs/Profile.antt); a list of no or more than 64
+/// subscriptions, or of an unknown mode, or with a subscription of an unknown mode, or with an interval or a heartbeat from 1
+/// to 99,999,999 ns (`BadSubscribe`); a path of more than 32 elements with the prefix, an element without a name, and a
+/// target's name of more than 1,024 octets (`BadPath`). Want of memory refuses any list (`NoMemory`).
 pub fn plan_of(alloc: Global, ask: &SubAsk) -> Result<Plan, Refusal>
     ensures { IsUnlessMemory Refusal.NoMemory result (plan_of ask.now) }
 {

@@ -1,5 +1,5 @@
 -- Rows by the beats of their groups, as one turn's steps find them.
-use Rattle.std.specs.Prelude.{List, [], Bool, not, ◌&&◌, filter, map, ℕ}
+use Rattle.std.specs.Prelude.{List, Bool, not, ◌&&◌, filter, map, ℕ}
 use Rattle.base_kinds.specs.declared.path.Elem.{Elem}
 use Rattle.base_kinds.specs.declared.operation.Row.{Row}
 use Rattle.base_kinds.specs.Tree.{set_rows}

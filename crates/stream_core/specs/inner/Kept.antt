@@ -5,10 +5,13 @@ use Rattle.base_kinds.specs.Rising.{IsRising}
 use Rattle.stream_laws.specs.declared.kinds.Beat.{Beat}
 use Rattle.stream_laws.specs.declared.kinds.GroupState.{GroupState}
 use Rattle.stream_laws.specs.Beats.{moved_on}
+use Rattle.stream_core.specs.declared.walk.Found.{Found}
 
--- the rows that were sent rise, and there is room for the beat of each group
-pub record IsKept (states : List GroupState) (beats : List Beat) (sent : List Row) : Type 0 where
+-- the rows that were sent rise, and there is room for what is found of each group and for its beat
+pub record IsKept (states : List GroupState) (findings : List Found) (beats : List Beat)
+    (sent : List Row) : Type 0 where
   pub rising : IsRising sent
+  pub found : length findings ≡ length states
   pub room : length beats ≡ length states
 
 -- each group moves on by its beat

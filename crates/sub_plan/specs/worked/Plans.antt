@@ -1,5 +1,5 @@
 -- Plans of lists that are worked out by hand.
-use Rattle.std.specs.Prelude.{◌≡◌, ℕ, List, [], ◌∷◌, Bool, true, false, codes, refl, Err}
+use Rattle.std.specs.Prelude.{◌≡◌, ℕ, List, [], ◌∷◌, Bool, true, false, codes, refl, Err, Some, None}
 use Rattle.base_kinds.specs.declared.path.Elem.{Elem}
 use Rattle.base_kinds.specs.declared.request.SubLine.{SubLine}
 use Rattle.base_kinds.specs.declared.request.SubMode.TheVariants as modes
@@ -8,6 +8,9 @@ use Rattle.base_kinds.specs.declared.request.ListMode.TheVariants as lists
 use Rattle.base_kinds.specs.declared.refusal.Refusal.TheVariants.{BadPath, Unsupported, BadSubscribe}
 use Rattle.gnmi_kinds.specs.declared.ask.SubAsk.{SubAsk}
 use Rattle.gnmi_kinds.specs.declared.ask.Encoding.TheVariants as encodings
+use Rattle.gnmi_kinds.specs.declared.path.GnmiPath.{GnmiPath}
+use Rattle.sub_plan.specs.Groups.{group_of}
+use Rattle.sub_plan.specs.Profile.{is_outside_profile}
 use Rattle.sub_plan.specs.Plans.{plan_of, lines_of, groups_of, change_group, line_of}
 use Rattle.sub_plan.specs.declared.plan.GroupSort.TheVariants.{Sample}
 
@@ -80,3 +83,35 @@ no_lines = refl
 
 no_encoding : plan_of (record (asked lists.Other []) { encoding = encodings.Other }) ≡ Err Unsupported
 no_encoding = refl
+
+-- where two lines cover a row the first one has it, and what no line covers is in no group
+in_the_first : group_of (lines_of four) (plain (codes "system") ∷ plain (codes "clock") ∷ plain (codes "zone") ∷ []) ≡ Some 0
+in_the_first = refl
+
+in_the_second : group_of (lines_of four) (plain (codes "system") ∷ plain (codes "config") ∷ []) ≡ Some 1
+in_the_second = refl
+
+in_none : group_of (lines_of four) (plain (codes "interfaces") ∷ []) ≡ None
+in_none = refl
+
+-- what isn't supported is found before what is wrong with the list, and that before the paths
+all_three : plan_of (record (asked lists.Other (change (plain [] ∷ []) 0 ∷ [])) { unsupported = true }) ≡ Err Unsupported
+all_three = refl
+
+two_of_them : plan_of (asked lists.Other (change (plain [] ∷ []) 0 ∷ [])) ≡ Err BadSubscribe
+two_of_them = refl
+
+abbrev path_of : List ℕ → Bool → GnmiPath
+path_of origin old = record { path = clock; origin = origin; target = []; old_element = old }
+
+inside_profile : is_outside_profile (record { paths = path_of [] false ∷ path_of (codes "openconfig") false ∷ []; models = 0; other_extension = false }) ≡ false
+inside_profile = refl
+
+other_schema : is_outside_profile (record { paths = path_of [] false ∷ path_of (codes "cli") false ∷ []; models = 0; other_extension = false }) ≡ true
+other_schema = refl
+
+old_texts : is_outside_profile (record { paths = path_of [] true ∷ []; models = 0; other_extension = false }) ≡ true
+old_texts = refl
+
+named_model : is_outside_profile (record { paths = []; models = 1; other_extension = false }) ≡ true
+named_model = refl

@@ -1,4 +1,4 @@
-use Rattle.std.proofs.Common.{filter, not}
+use Rattle.std.proofs.Common.{not}
 use Rattle.base_kinds.specs.declared.operation.Row.{Row}
 use Rattle.sub_plan.specs.Groups.{group_of}
 use Rattle.stream_laws.specs.Beats.{beat_numbered, is_due}

@@ -1,5 +1,5 @@
-use Rattle.std.proofs.Common.{◌≡◌, sym, ◌∙◌, ap, Some}
-use Rattle.stream_core.proofs.Joining.{less_taken, greater_taken, both_taken, nothing_left, rest_rises}
+use Rattle.std.proofs.Common.{sym, ◌∙◌, ap, Some}
+use Rattle.stream_core.proofs.Joining.{less_taken, greater_taken, both_taken, rest_rises}
 use Rattle.stream_core.proofs.notes.take_next.Goals as goal
 
 pub returns-in-Some-Less-clause-taken : goal.returns-in-Some-Less-clause-taken

@@ -1,4 +1,4 @@
-use Rattle.std.proofs.Common.{◌≡◌, ◌≤◌, ◌<◌, ◌+◌, ◌-◌, ◌/◌, length, arith, sym, ap, subst, ◌∙◌, Some}
+use Rattle.std.proofs.Common.{◌≡◌, ◌+◌, ◌-◌, ◌/◌, arith, sym, ap, subst, ◌∙◌, Some}
 use Rattle.base_kinds.specs.declared.operation.Row.{Row}
 use Rattle.stream_core.specs.inner.Gaps.{IsBetween}
 use Rattle.stream_core.proofs.Found.{behind_middle, found_there, nothing_between}

@@ -1,4 +1,4 @@
-use Rattle.std.proofs.Common.{◌≡◌, length, sym, ap, ◌∙◌, refl, rules}
+use Rattle.std.proofs.Common.{ap, ◌∙◌, rules}
 use Rattle.stream_laws.specs.Streams.{stream_after}
 use Rattle.stream_core.proofs.Turned.{IsTurn, IsNoted, quiet_after, due_after, after_rises}
 use Rattle.stream_core.proofs.stream.Stream.turn.Goals as goal
@@ -27,6 +27,7 @@ is_made c = record {
 pub invariant_of-self-2 : goal.invariant_of-self-2
 invariant_of-self-2 c = record {
   rising = after_rises c.self.inside.lines c.beat_all.new.beats.items c.self.inside.sent.items c.args.view c.in_ok-note.note c.in_ok-note.sent.items c.self.invariant.rising (is_made c);
+  found = search rules;
   room = search rules;
 }
 

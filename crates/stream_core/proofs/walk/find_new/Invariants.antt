@@ -1,0 +1,10 @@
+use Rattle.std.proofs.Common.{◌≡◌, length, take}
+use Rattle.stream_core.specs.inner.Walks.{found_new}
+use Rattle.stream_core.proofs.walk.find_new.Given as goal
+
+-- what was found so far
+abbrev pub invariant-loop-row : goal.invariant-loop-row
+invariant-loop-row l = record {
+  room : length l.found ≡ length l.fn.found;
+  found : l.found ≡ found_new l.lines l.sent l.fn.found (take l.row-index l.rows);
+}
