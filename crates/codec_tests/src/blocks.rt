@@ -62,43 +62,47 @@ fn refuses_what_is_no_block(rt: HostRuntime) {
 }
 
 // A literal that isn't added, with an empty name, a value of so many octets, and this as its length.
-fn long_block(alloc: Global, length: &[u8], count: usize) -> Result<Bytes, NoMemory> {
+fn long_block(rt: &impl Abort, alloc: Global, length: &[u8], count: usize) -> Bytes {
     let mut block = Bytes::empty(alloc);
-    block.extend_from_slice(b"\x00\x00")?;
-    block.extend_from_slice(length)?;
+    block.extend_from_slice(b"\x00\x00").expect(rt, "memory");
+    block.extend_from_slice(length).expect(rt, "memory");
     for _ in 0..count {
-        block.push(b'v')?;
+        block.push(b'v').expect(rt, "memory");
     }
-    Ok(block)
+    block
+}
+
+fn is_too_long(decoder: &mut Decoder, alloc: Global, block: &[u8]) -> bool {
+    matches!(decoder.block(alloc, block), Err(BlockFault::TooLong))
+}
+
+/// Whether the block says the one header `a` with the value `b`.
+fn says_a_b(decoder: &mut Decoder, alloc: Global, block: &[u8]) -> bool {
+    let Ok(headers) = decoder.block(alloc, block) else {
+        return false;
+    };
+    headers.len() == 1
+        && headers.get(0).is_some_and(|header| {
+            header.name.items() == b"a".as_slice() && header.value.items() == b"b".as_slice()
+        })
 }
 
 #[test]
-fn takes_a_list_of_16_384_and_goes_on_after_a_longer_one(rt: HostRuntime) -> Result<(), Fail> {
+fn takes_a_list_of_16_384_and_goes_on_after_a_longer_one(rt: HostRuntime) {
     let alloc = rt.alloc();
     let mut decoder = Decoder::make(alloc);
     // 16,352 and 32 are 16,384.
     // 16,352 is 127 + 97 + 126 * 128.
-    let block = long_block(alloc, b"\x7f\xe1\x7e", 16_352)?;
-    let headers = decoder.block(alloc, block.items());
-    assert!(rt; headers.is_ok());
-    let long = long_block(alloc, b"\x7f\xe2\x7e", 16_353)?;
-    assert!(rt; matches!(decoder.block(alloc, long.items()), Err(BlockFault::TooLong)));
+    let mut block = long_block(&rt, alloc, b"\x7f\xe1\x7e", 16_352);
+    assert!(rt; decoder.block(alloc, block.items()).is_ok());
+    block = long_block(&rt, alloc, b"\x7f\xe2\x7e", 16_353);
+    assert!(rt; is_too_long(&mut decoder, alloc, block.items()));
     // What a block adds past its limit stands in the table.
-    let mut block = long;
-    block.extend_from_slice(b"\x40\x01a\x01b")?;
-    assert!(rt;
-        matches!(
-            decoder.block(alloc, block.items()),
-            Err(BlockFault::TooLong)
-        )
-    );
-    let headers = decoder.block(alloc, b"\xbe").expect(&rt, "an index");
-    assert_eq!(rt; headers.len(), 1);
-    for header in headers.items() {
-        assert_eq!(rt; header.name.items(), b"a".as_slice());
-        assert_eq!(rt; header.value.items(), b"b".as_slice());
-    }
-    Ok(())
+    block
+        .extend_from_slice(b"\x40\x01a\x01b")
+        .expect(&rt, "memory");
+    assert!(rt; is_too_long(&mut decoder, alloc, block.items()));
+    assert!(rt; says_a_b(&mut decoder, alloc, b"\xbe"));
 }
 
 fn written(alloc: Global, name: &[u8], value: &[u8]) -> Result<Bytes, NoMemory>

@@ -9,7 +9,7 @@ use std::alloc::Global;
 use std::test::*;
 
 /// Messages of an independent library's vectors, which it reads.
-const READ: [&[u8]; 61] = [
+const READ: &[&[u8]] = &[
     b"\x18\xdc\x0b\x18\xf8\x0a",
     b"\x0a\x01\x61\x10\x05",
     b"\x10\x05\x0a\x01\x61",
@@ -74,7 +74,7 @@ const READ: [&[u8]; 61] = [
 ];
 
 /// Messages that the library, or the rule on groups, refuses.
-const REFUSED: [&[u8]; 19] = [
+const REFUSED: &[&[u8]] = &[
     b"\x08",
     b"\x0b\x0c",
     b"\x0b",
@@ -102,10 +102,10 @@ fn is_bad(alloc: Global, octets: &[u8]) -> bool {
 
 #[test]
 fn outside_messages_are_read_or_refused(rt: HostRuntime) {
-    for octets in READ {
+    for octets in READ.iter().copied() {
         assert!(rt; fields_of(rt.alloc(), octets).is_ok());
     }
-    for octets in REFUSED {
+    for octets in REFUSED.iter().copied() {
         assert!(rt; is_bad(rt.alloc(), octets));
     }
 }
@@ -201,28 +201,35 @@ fn fields_of_each_kind_are_listed_with_their_places(rt: HostRuntime) {
 }
 
 #[test]
-fn the_last_scalar_wins_and_octets_are_joined(rt: HostRuntime) {
+fn the_last_scalar_wins(rt: HostRuntime) {
     let twice = b"\x18\xdc\x0b\x18\xf8\x0a";
-    match fields_of(rt.alloc(), twice) {
-        Ok(fields) => {
-            assert_eq!(rt; fields.len(), 2);
-            assert_eq!(rt; last_varint(fields.items(), 3), Some(1400));
-            assert_eq!(rt; last_varint(fields.items(), 4), None);
-        }
-        Err(_) => panic!(rt; "two varints are read"),
-    }
-    let parts = b"\x0a\x02ab\x12\x01x\x0a\x00\x0a\x01c";
-    let mut out: Bytes = Seq::empty(rt.alloc());
-    match fields_of(rt.alloc(), parts) {
-        Ok(fields) => {
-            assert!(rt; matches!(joined(parts, fields.items(), 1, &mut out), Ok(true)));
-            assert!(rt; matches!(joined(parts, fields.items(), 3, &mut out), Ok(false)));
-            assert_eq!(rt; out.items(), b"abc".as_slice());
-            for field in fields.items() {
-                assert_eq!(rt; varint_of(field, 1), None);
-            }
-        }
-        Err(_) => panic!(rt; "the parts are read"),
+    let fields = fields_of(rt.alloc(), twice).expect(&rt, "two varints");
+    assert_eq!(rt; fields.len(), 2);
+    assert_eq!(rt; last_varint(fields.items(), 3), Some(1400));
+    assert_eq!(rt; last_varint(fields.items(), 4), None);
+}
+
+/// Parts under 1, 2, 1 and 1.
+const PARTS: &[u8] = b"\x0a\x02ab\x12\x01x\x0a\x00\x0a\x01c";
+
+/// Whether the parts under a number, one behind another, are these octets, if there are any.
+fn is_joined(alloc: Global, number: u32, octets: Option<&[u8]>) -> bool {
+    let mut out: Bytes = Seq::empty(alloc);
+    let Ok(fields) = fields_of(alloc, PARTS) else {
+        return false;
+    };
+    let found = joined(PARTS, fields.items(), number, &mut out);
+    matches!(found, Ok(is_there) if is_there == octets.is_some())
+        && out.items() == octets.unwrap_or_default()
+}
+
+#[test]
+fn octets_are_joined(rt: HostRuntime) {
+    assert!(rt; is_joined(rt.alloc(), 1, Some(b"abc")));
+    assert!(rt; is_joined(rt.alloc(), 3, None));
+    let fields = fields_of(rt.alloc(), PARTS).expect(&rt, "the parts");
+    for field in fields.items() {
+        assert_eq!(rt; varint_of(field, 1), None);
     }
 }
 
