@@ -92,7 +92,6 @@ piece_law head octets false peer = record { highest = refl; others = λ other n.
 data_on_law : (head : Head) (octets : List ℕ) (now : StreamState) (peer : Peer) → is_idle peer head.stream ≡ false → IsLawful head.stream peer (data_on head octets now peer)
 data_on_law head octets state.Closed peer e = record { highest = refl; others = λ other n. refl }
 data_on_law head octets state.HalfClosedRemote peer e = stream_fault_law head.stream stream_closed peer (λ _. opened_already peer head.stream e)
-data_on_law head octets state.Idle peer e = piece_law head octets (has end_stream_flag head.flags) peer
 data_on_law head octets state.Open peer e = piece_law head octets (has end_stream_flag head.flags) peer
 data_on_law head octets state.HalfClosedLocal peer e = piece_law head octets (has end_stream_flag head.flags) peer
 
@@ -125,7 +124,6 @@ trailers_law stream false peer e = stream_fault_law stream protocol_error peer (
 later_law : (stream : ℕ) (ends : Bool) (now : StreamState) (peer : Peer) → is_idle peer stream ≡ false → IsLawful stream peer (later_block stream ends now peer)
 later_law stream ends state.Closed peer e = nothing_law stream peer
 later_law stream ends state.HalfClosedRemote peer e = stream_fault_law stream stream_closed peer (λ _. opened_already peer stream e)
-later_law stream ends state.Idle peer e = trailers_law stream ends peer e
 later_law stream ends state.Open peer e = trailers_law stream ends peer e
 later_law stream ends state.HalfClosedLocal peer e = trailers_law stream ends peer e
 
@@ -191,7 +189,6 @@ priority_law frame peer =
 
 reset_law : (stream : ℕ) (now : StreamState) (peer : Peer) → IsLawful stream peer (reset_on stream now peer)
 reset_law stream state.Closed peer = nothing_law stream peer
-reset_law stream state.Idle peer = record { highest = refl; others = λ other n. others_without stream other peer.streams n }
 reset_law stream state.Open peer = record { highest = refl; others = λ other n. others_without stream other peer.streams n }
 reset_law stream state.HalfClosedLocal peer = record { highest = refl; others = λ other n. others_without stream other peer.streams n }
 reset_law stream state.HalfClosedRemote peer = record { highest = refl; others = λ other n. others_without stream other peer.streams n }
@@ -236,7 +233,6 @@ goaway_law frame peer =
 increment_on_law : (stream by : ℕ) (now : StreamState) (peer : Peer) → IsLawful stream peer (increment_on stream by now peer)
 increment_on_law stream by state.Open peer = record { highest = refl; others = λ other n. refl }
 increment_on_law stream by state.HalfClosedRemote peer = record { highest = refl; others = λ other n. refl }
-increment_on_law stream by state.Idle peer = nothing_law stream peer
 increment_on_law stream by state.Closed peer = nothing_law stream peer
 increment_on_law stream by state.HalfClosedLocal peer = nothing_law stream peer
 

@@ -127,7 +127,6 @@ data_on_good : (head : Head) (octets : List ℕ) (now : StreamState) (peer : Pee
     → IsGood (data_on head octets now peer)
 data_on_good head octets state.Closed peer p client le most = let none : 0 ≤ head.length = grind arith in record { sound = ((client, none, most), p) }
 data_on_good head octets state.HalfClosedRemote peer p client le most = faulted head.stream stream_closed peer p (inl client)
-data_on_good head octets state.Idle peer p client le most = piece_good head octets (has end_stream_flag head.flags) peer p client le most
 data_on_good head octets state.Open peer p client le most = piece_good head octets (has end_stream_flag head.flags) peer p client le most
 data_on_good head octets state.HalfClosedLocal peer p client le most = piece_good head octets (has end_stream_flag head.flags) peer p client le most
 
@@ -168,7 +167,6 @@ trailers_good stream false peer p client = faulted stream protocol_error peer p 
 later_good : (stream : ℕ) (ends : Bool) (now : StreamState) (peer : Peer) → IsSoundPeer peer → IsClientStream stream → IsGood (later_block stream ends now peer)
 later_good stream ends state.Closed peer p client = quiet peer p
 later_good stream ends state.HalfClosedRemote peer p client = faulted stream stream_closed peer p (inl client)
-later_good stream ends state.Idle peer p client = trailers_good stream ends peer p client
 later_good stream ends state.Open peer p client = trailers_good stream ends peer p client
 later_good stream ends state.HalfClosedLocal peer p client = trailers_good stream ends peer p client
 
@@ -230,7 +228,6 @@ priority_good frame peer p f =
 
 reset_on_good : (stream : ℕ) (now : StreamState) (peer : Peer) → IsSoundPeer peer → IsClientStream stream → IsGood (reset_on stream now peer)
 reset_on_good stream state.Closed peer p client = quiet peer p
-reset_on_good stream state.Idle peer p client = record { sound = (client, kept peer (reset stream peer) refl refl p) }
 reset_on_good stream state.Open peer p client = record { sound = (client, kept peer (reset stream peer) refl refl p) }
 reset_on_good stream state.HalfClosedLocal peer p client = record { sound = (client, kept peer (reset stream peer) refl refl p) }
 reset_on_good stream state.HalfClosedRemote peer p client = record { sound = (client, kept peer (reset stream peer) refl refl p) }
@@ -343,7 +340,6 @@ window_good stream by peer p client e lt = record { sound = ((inr client, some_o
 increment_on_good : (stream by : ℕ) (now : StreamState) (peer : Peer) → IsSoundPeer peer → IsClientStream stream → (by == 0) ≡ false → by < 2 ^ 31 → IsGood (increment_on stream by now peer)
 increment_on_good stream by state.Open peer p client e lt = window_good stream by peer p client e lt
 increment_on_good stream by state.HalfClosedRemote peer p client e lt = window_good stream by peer p client e lt
-increment_on_good stream by state.Idle peer p client e lt = quiet peer p
 increment_on_good stream by state.Closed peer p client e lt = quiet peer p
 increment_on_good stream by state.HalfClosedLocal peer p client e lt = quiet peer p
 

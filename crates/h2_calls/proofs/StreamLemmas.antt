@@ -50,5 +50,4 @@ pub others_ended : (s other : ℕ) (now : StreamState) (xs : List Stream) → ot
 others_ended s other state.Open xs n = others_with_state s other state.HalfClosedRemote xs n
 others_ended s other state.HalfClosedLocal xs n = others_without s other xs n
 others_ended s other state.HalfClosedRemote xs n = refl
-others_ended s other state.Idle xs n = refl
 others_ended s other state.Closed xs n = refl

@@ -5,10 +5,10 @@ use base_lists::NoMemory;
 use std::alloc::Global;
 use std::marker::Model;
 
-/// The states of a stream (RFC 9113 section 5.1). Local is this side, remote the peer.
+/// The states of a stream that isn't idle (RFC 9113 section 5.1). Local is this side, remote the peer. A stream is idle where
+/// its number is even or above the highest that the peer has opened, so that no state is kept of it.
 #[derive(Clone, Copy, Debug, PartialEq, Eq)]
 pub enum StreamState {
-    Idle,
     Open,
     HalfClosedLocal,
     HalfClosedRemote,
@@ -56,7 +56,7 @@ impl Streams {
         self.stored.len()
     }
 
-    /// The state of a stream that was opened.
+    /// The state of a stream that isn't idle.
     pub fn state(&self, id: u32) -> StreamState
         ensures { result ≡ state_among id self.now }
     {
