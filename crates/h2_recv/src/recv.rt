@@ -4,7 +4,7 @@ ghost use Rattle.h2_frame.specs.Frames.{IsPart};
 ghost use Rattle.h2_calls.specs.Calls.{Moment, frames_of};
 ghost use Rattle.h2_calls.specs.declared.peer.Peer.{Peer as Known};
 ghost use Rattle.h2_recv.specs.declared.reader.Reader.{Reader as Reading};
-ghost use Rattle.h2_recv.specs.Receiving.{Fed, Reaches, Faults, EndsFrame, new_reader, state_ended, wanted, missing, held, most_held};
+ghost use Rattle.h2_recv.specs.Receiving.{Fed, Reaches, Faults, EndsFrame, new_reader, state_ended, wanted, missing, held, reader_held, most_held};
 ghost use Rattle.h2_recv.specs.inner.Steps.{HasRead, HasFailed, HasStopped};
 
 use crate::preface::{PREFACE_OCTETS, goes_on, share};
@@ -15,6 +15,9 @@ use h2_events::{RecvEvents, RecvFault};
 use h2_frame::PROTOCOL_ERROR;
 use std::alloc::Global;
 use std::marker::Model;
+
+// A frame of 16,384 octets that lacks one, and a header block of 65,536.
+const MOST_HELD: usize = 81_928;
 
 /// Reads what a client sends, in any pieces.
 #[derive(Debug, Drop)]
@@ -54,13 +57,17 @@ impl Recv {
         piece: &[u8],
         out: &mut RecvEvents,
     ) -> Result<(), RecvFault>
-        ensures { Fed self.old piece.now out.old result self.new out.new }
+        ensures fed { Fed self.old piece.now out.old result self.new out.new }
+        ensures held { held self.new ≤ most_held }
     {
         if let Some(fault) = self.fault {
             return Err(fault);
         }
         match self.reader.read(alloc, piece, out) {
-            Ok(()) => Ok(()),
+            Ok(()) => {
+                prove!(self.reader.held() <= MOST_HELD);
+                Ok(())
+            }
             Err(fault) => {
                 self.fault = Some(fault);
                 self.reader = Reader::unread(alloc);
@@ -71,9 +78,11 @@ impl Recv {
 
     /// This side has ended a stream: it has written END_STREAM on it.
     pub fn ended(&mut self, stream: u32)
-        ensures { self.new ≡ state_ended stream self.old }
+        ensures ended { self.new ≡ state_ended stream self.old }
+        ensures held { held self.new ≤ most_held }
     {
         self.reader.peer.ended(stream);
+        prove!(self.reader.held() <= MOST_HELD);
     }
 
     /// How many octets more may come until a frame is whole: a piece that is no longer holds one frame at most, and where it
@@ -96,7 +105,6 @@ impl Recv {
     }
 
     /// How many octets of frames are kept: those of a frame that isn't whole, and of a header block. None after a fault.
-    #[tactic(auto, using(crate::proofs::PieceLemmas::part_length))]
     pub fn held(&self) -> usize
         ensures value { result ≡ held self.now }
         ensures bounded { result ≤ most_held }
@@ -104,7 +112,7 @@ impl Recv {
         if self.fault.is_some() {
             return 0;
         }
-        self.reader.rest.len() + self.reader.peer.block_len()
+        self.reader.held()
     }
 
     /// Whether some frame was read, and the octets so far end where one ends, also inside a header block.
@@ -128,6 +136,16 @@ impl Reader {
             rest: Unread::empty(alloc),
             peer: Peer::make(alloc),
         }
+    }
+
+    // How many octets are kept.
+    #[tactic(auto, using(crate::proofs::PieceLemmas::part_length))]
+    fn held(&self) -> usize
+        requires part { IsPart 16384 self.now.rest }
+        ensures value { result ≡ reader_held self.now }
+        ensures bounded { result ≤ most_held }
+    {
+        self.rest.len() + self.peer.block_len()
     }
 
     fn wanted(&self) -> usize
