@@ -1,5 +1,5 @@
 -- Octets are read in one way at most.
-use Rattle.std.proofs.Common.{◌≡◌, ℕ, ◌+◌, ◌≤◌, ◌⊎◌, List, [], ◌∷◌, ◌++◌, length, get_or, refl, sym, ap, subst, ◌∙◌, arith, inl, inr, Option, Result, Ok, Err}
+use Rattle.std.proofs.Common.{◌≡◌, ℕ, ◌+◌, ◌<◌, ◌≤◌, ◌⊎◌, List, [], ◌∷◌, ◌++◌, length, get_or, refl, sym, ap, subst, ◌∙◌, arith, inl, inr, Option, Result, Ok, Err}
 use Rattle.std.proofs.lemmas.List.{append-nil, get_or_append_left}
 use Rattle.h2_frame.specs.Frames.{Frame, Spells, BeginsWith, LeadingFrames, IsPart, IsTooLong, stated_length}
 use Rattle.h2_frame.proofs.Reading.{states_least}
@@ -8,12 +8,13 @@ use Rattle.h2_events.specs.declared.event.RecvEvent.{RecvEvent}
 use Rattle.h2_events.specs.Events.{largest_frame}
 use Rattle.h2_calls.specs.declared.peer.Peer.{Peer}
 use Rattle.h2_calls.specs.Outcomes.{Told}
+use Rattle.h2_calls.specs.States.{this_side_ends}
 use Rattle.h2_calls.specs.Meanings.{Means}
 use Rattle.h2_calls.specs.Calls.{Moment, read, ended, Calls, AreRead, IsFault, frames_of, causes_of}
 use Rattle.h2_calls.proofs.CallLemmas.{one_chain}
 use Rattle.h2_calls.proofs.OutcomeLemmas.{one_outcome}
 use Rattle.h2_recv.specs.declared.reader.Reader.{Reader}
-use Rattle.h2_recv.specs.Receiving.{Opens, Reaches, Reads, FaultStands, Faults, Astray, ReadsWithEnds}
+use Rattle.h2_recv.specs.Receiving.{Opens, Reaches, Reads, FaultStands, Faults, Astray, ReachesWithEnds, ReadsWithEnds, FaultsWithEnds, EndAt, ends_from, ends_of}
 use Rattle.h2_recv.proofs.PieceLemmas.{spelled_length}
 
 -- no frame is read at this place
@@ -165,3 +166,75 @@ one_with_ends old new other octets one two p q e =
     (subst (λ (fs : List Frame). LeadingFrames largest_frame (old.rest ++ p.reaches.behind) fs other.rest) (sym (same_causes one two e))
     (subst (λ (k : List ℕ). LeadingFrames largest_frame (old.rest ++ k) (frames_of two) other.rest) (sym o.1) q.reaches.leading)) in
     (run.0, same_readers new other rest run.1 o.0)
+
+-- ---- with ends by this side, told at the same places
+
+same_first : (a b : EndAt) (xs ys : List EndAt) → ◌≡◌ {A = List EndAt} (a ∷ xs) (b ∷ ys) → (a ≡ b) × (xs ≡ ys)
+same_first a b xs ys e = (cc, cc)
+
+-- what is told behind a frame isn't told before it
+told_later : (n m s : ℕ) (moments : List Moment) (ends : List EndAt) → n < m → ends_from m moments ≡ record { frames = n; stream = s } ∷ ends → ⊥
+told_later n m s [] ends lt e = absurd cc
+told_later n m s (read f v ∷ moments) ends lt e = told_later n (m + 1) s moments ends (omega (arith, lt)) e
+told_later n m s (ended t ∷ moments) ends lt e =
+    let h = same_first (record { frames = m; stream = t }) (record { frames = n; stream = s }) (ends_from m moments) ends e in
+    let k : m ≡ n = ap (λ (x : EndAt). x.frames) h.0 in omega (arith, lt, k)
+
+one_run_with_ends : (n : ℕ) (peer last other : Peer) (octets a b : List ℕ) (one two : List Moment)
+    → LeadingFrames largest_frame octets (frames_of one) a → Calls peer one last → Stuck last a
+    → LeadingFrames largest_frame octets (frames_of two) b → Calls peer two other → Stuck other b
+    → ends_from n one ≡ ends_from n two → (one ≡ two) × (a ≡ b) × (last ≡ other)
+one_run_with_ends n peer last other octets a b [] [] p c s q d u v = (refl, sym p ∙ q, sym c ∙ d)
+one_run_with_ends n peer last other octets a b [] (read g e ∷ two) p c s q d u v = absurd (stuck_first peer last octets a g e two b other p c s q d)
+one_run_with_ends n peer last other octets a b (read f e ∷ one) [] p c s q d u v = absurd (stuck_first peer other octets b f e one a last q d u p c)
+one_run_with_ends n peer last other octets a b [] (ended t ∷ two) p c s q d u v = absurd cc
+one_run_with_ends n peer last other octets a b (ended t ∷ one) [] p c s q d u v = absurd cc
+one_run_with_ends n peer last other octets a b (read f e ∷ one) (ended t ∷ two) p c s q d u v =
+    absurd (told_later n (n + 1) t one (ends_from n two) (omega arith) v)
+one_run_with_ends n peer last other octets a b (ended t ∷ one) (read f e ∷ two) p c s q d u v =
+    absurd (told_later n (n + 1) t two (ends_from n one) (omega arith) (sym v))
+one_run_with_ends n peer last other octets a b (read f e ∷ one) (read g h ∷ two) p c s q d u v =
+    let first = begun_alike octets p.0 q.0 f g p.1 q.1 in
+    let told = same_told (record { event = e; peer = c.0 }) (record { event = h; peer = d.0 })
+    (one_outcome peer f (Ok (record { event = e; peer = c.0 })) (Ok (record { event = h; peer = d.0 })) c.1
+    (subst (λ (k : Frame). Means peer k (Ok (record { event = h; peer = d.0 }))) (sym first.0) d.1)) in
+    let more = one_run_with_ends (n + 1) c.0 last other p.0 a b one two p.2 c.2 s
+    (subst (λ (o : List ℕ). LeadingFrames largest_frame o (frames_of two) b) (sym first.1) q.2)
+    (subst (λ (k : Peer). Calls k two other) (sym told.1) d.2) u v in
+    (ap (λ (k : Frame). read k e ∷ one) first.0 ∙ ap (λ (k : Option RecvEvent). read g k ∷ one) told.0 ∙ ap (λ (k : List Moment). read g h ∷ k) more.0, more.1, more.2)
+one_run_with_ends n peer last other octets a b (ended r ∷ one) (ended t ∷ two) p c s q d u v =
+    let h = same_first (record { frames = n; stream = r }) (record { frames = n; stream = t }) (ends_from n one) (ends_from n two) v in
+    let same : r ≡ t = ap (λ (x : EndAt). x.stream) h.0 in
+    let next : c.0 ≡ d.0 = sym c.1 ∙ subst (λ (k : ℕ). this_side_ends k peer ≡ d.0) (sym same) d.1 in
+    let more = one_run_with_ends n c.0 last other octets a b one two p c.2 s q (subst (λ (k : Peer). Calls k two other) (sym next) d.2) u h.1 in
+    (ap (λ (k : ℕ). ended k ∷ one) same ∙ ap (λ (k : List Moment). ended t ∷ k) more.0, more.1, more.2)
+
+one_reach_with_ends : (old : Reader) (octets a b : List ℕ) (one two : List Moment) (now then : ℕ) (last other : Peer)
+    → ReachesWithEnds old octets one a now last → Stuck last a → ReachesWithEnds old octets two b then other → Stuck other b
+    → ends_of one ≡ ends_of two → (one ≡ two) × (a ≡ b) × (last ≡ other) × (now ≡ then)
+one_reach_with_ends old octets a b one two now then last other p s q u e =
+    let o = opened_alike old.begun now then octets p.behind q.behind p.opened q.opened in
+    let run = one_run_with_ends 0 old.peer last other (old.rest ++ p.behind) a b one two p.leading p.calls s
+    (subst (λ (k : List ℕ). LeadingFrames largest_frame (old.rest ++ k) (frames_of two) b) (sym o.1) q.leading) q.calls u e in
+    (run.0, run.1, run.2, o.0)
+
+pub one_reading_with_ends : (old new other : Reader) (octets : List ℕ) (one two : List Moment) → ReadsWithEnds old octets one new → ReadsWithEnds old octets two other
+    → ends_of one ≡ ends_of two → (one ≡ two) × (new ≡ other)
+one_reading_with_ends old new other octets one two p q e =
+    let h = one_reach_with_ends old octets new.rest other.rest one two new.begun other.begun new.peer other.peer p.reaches (inl p.part) q.reaches (inl q.part) e in
+    (h.0, same_readers new other h.1 h.2 h.3)
+
+pub one_fault_with_ends : (old : Reader) (octets : List ℕ) (one two : List Moment) (code other : ℕ) → FaultsWithEnds old octets one code → FaultsWithEnds old octets two other
+    → ends_of one ≡ ends_of two → (one ≡ two) × (code ≡ other)
+one_fault_with_ends old octets one two code other p q e =
+    let h = one_reach_with_ends old octets p.after q.after one two p.begun q.begun p.peer q.peer p.reaches (inr (code, p.stands)) q.reaches (inr (other, q.stands)) e in (
+      h.0,
+      one_code p.peer p.after code other p.stands
+          (subst (λ (k : Peer). FaultStands k p.after other) (sym h.2) (subst (λ (o : List ℕ). FaultStands q.peer o other) (sym h.1) q.stands)),
+    )
+
+pub read_no_fault_with_ends : (old new : Reader) (octets : List ℕ) (one two : List Moment) (code : ℕ) → ReadsWithEnds old octets one new → FaultsWithEnds old octets two code
+    → ends_of one ≡ ends_of two → ⊥
+read_no_fault_with_ends old new octets one two code p q e =
+    let h = one_reach_with_ends old octets new.rest q.after one two new.begun q.begun new.peer q.peer p.reaches (inl p.part) q.reaches (inr (code, q.stands)) e in
+    part_no_fault q.peer q.after code (subst (λ (o : List ℕ). IsPart largest_frame o) h.1 p.part) q.stands

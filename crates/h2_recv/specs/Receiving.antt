@@ -7,7 +7,7 @@ use Rattle.h2_events.specs.declared.event.RecvFault.TheVariants as fault
 use Rattle.h2_calls.specs.declared.peer.Peer.{Peer}
 use Rattle.h2_frame.specs.ErrorCodes.{protocol_error, frame_size_error}
 use Rattle.h2_events.specs.Events.{largest_frame}
-use Rattle.h2_calls.specs.Calls.{Moment, Calls, AreRead, IsFault, frames_of, events_of, new_peer, block_length}
+use Rattle.h2_calls.specs.Calls.{Moment, read, ended, Calls, AreRead, IsFault, frames_of, events_of, new_peer, block_length}
 use Rattle.h2_calls.specs.States.{this_side_ends}
 use Rattle.h2_recv.specs.declared.reader.Reader.{Reader}
 
@@ -103,6 +103,21 @@ pub record FaultsWithEnds (old : Reader) (octets : List ℕ) (moments : List Mom
   pub peer : Peer
   pub reaches : ReachesWithEnds old octets moments after begun peer
   pub stands : FaultStands peer after code
+
+-- a stream that this side ends, and how many frames stand before that
+pub record EndAt : Type 0 where
+  pub frames : ℕ
+  pub stream : ℕ
+
+-- the ends among moments behind so many frames
+abbrev pub ends_from : ℕ → List Moment → List EndAt
+ends_from frames [] = []
+ends_from frames (read frame event ∷ moments) = ends_from (frames + 1) moments
+ends_from frames (ended stream ∷ moments) =
+    record { frames = frames; stream = stream } ∷ ends_from frames moments
+
+abbrev pub ends_of : List Moment → List EndAt
+ends_of moments = ends_from 0 moments
 
 -- this side ends a stream
 abbrev pub reader_ended : ℕ → Reader → Reader

@@ -4,7 +4,7 @@ ghost use Rattle.h2_frame.specs.Frames.{IsPart};
 ghost use Rattle.h2_events.specs.Events.{largest_frame};
 ghost use Rattle.h2_calls.specs.Calls.{Moment, ended, causes_of};
 ghost use Rattle.h2_recv.specs.declared.reader.Reader.{Reader as Reading};
-ghost use Rattle.h2_recv.specs.Receiving.{Reads, Faults, Astray, Stops, ReadsWithEnds, FaultsWithEnds, new_reader, reader_ended};
+ghost use Rattle.h2_recv.specs.Receiving.{Reads, Faults, Astray, Stops, ReadsWithEnds, FaultsWithEnds, ends_of, new_reader, reader_ended};
 
 /// What comes in two pieces is what comes in one.
 pub fn pieces_join()
@@ -60,4 +60,18 @@ pub fn ends_stand_between()
     ensures one { (old new other : Reading) (octets : List ℕ) (one two : List Moment)
         → ReadsWithEnds old octets one new → ReadsWithEnds old octets two other
         → causes_of one ≡ causes_of two → (one ≡ two) × (new ≡ other) }
+{}
+
+/// The octets, the ends and behind how many frames each end is told decide what is made of them: of these one at most holds, and in
+/// one way.
+pub fn one_reading_with_ends()
+    ensures read { (old new other : Reading) (octets : List ℕ) (one two : List Moment)
+        → ReadsWithEnds old octets one new → ReadsWithEnds old octets two other
+        → ends_of one ≡ ends_of two → (one ≡ two) × (new ≡ other) }
+    ensures fault { (old : Reading) (octets : List ℕ) (one two : List Moment) (code other : ℕ)
+        → FaultsWithEnds old octets one code → FaultsWithEnds old octets two other
+        → ends_of one ≡ ends_of two → (one ≡ two) × (code ≡ other) }
+    ensures no_fault { (old new : Reading) (octets : List ℕ) (one two : List Moment) (code : ℕ)
+        → ReadsWithEnds old octets one new → FaultsWithEnds old octets two code
+        → ends_of one ≡ ends_of two → ⊥ }
 {}

@@ -8,7 +8,7 @@ mod reader;
 mod recv;
 mod unread;
 
-pub use laws::{ends_stand_between, one_reading, pieces_join};
+pub use laws::{ends_stand_between, one_reading, one_reading_with_ends, pieces_join};
 pub use reader::Reader;
 pub use recv::Recv;
 pub use unread::Unread;
