@@ -1,7 +1,7 @@
 //! The receiving half: each check of frames, pieces of any size, and what clients send.
 use crate::captures::{CAPTURES, Capture};
 use crate::saying::{Says, are_said, fed};
-use crate::table::TABLE;
+use crate::table::{Before, Row, TABLE};
 use h2_events::RecvEvents;
 use h2_recv::Recv;
 use std::alloc::Global;
@@ -11,37 +11,33 @@ const PREFACE: &[u8] = b"PRI * HTTP/2.0\r\n\r\nSM\r\n\r\n";
 
 const SETTINGS: &[u8] = &[0, 0, 0, 4, 0, 0, 0, 0, 0];
 
-const SETTINGS_ACK: &[u8] = &[0, 0, 0, 4, 1, 0, 0, 0, 0];
-
 // How many octets come at once.
 const SIZES: &[usize] = &[1, 5, 100_000];
 
 // Three octets on stream 11.
 const MORE: &[u8] = &[0, 0, 3, 0, 0, 0, 0, 0, 11, 1, 2, 3];
 
-// A frame has 256 times as many octets at most.
+// HEADERS of stream 13 without an octet of its block, and CONTINUATION with 64 octets: `:method: GET` of the static
+// table (RFC 7541, appendix A) each.
+const BLOCK: &[u8] = &[0, 0, 0, 1, 0, 0, 0, 0, 13];
+
+const FRAGMENT: &[u8] = &[
+    0, 0, 64, 9, 0, 0, 0, 0, 13, 130, 130, 130, 130, 130, 130, 130, 130, 130, 130, 130, 130, 130,
+    130, 130, 130, 130, 130, 130, 130, 130, 130, 130, 130, 130, 130, 130, 130, 130, 130, 130, 130,
+    130, 130, 130, 130, 130, 130, 130, 130, 130, 130, 130, 130, 130, 130, 130, 130, 130, 130, 130,
+    130, 130, 130, 130, 130, 130, 130, 130, 130, 130, 130, 130, 130,
+];
+
+// Head of a CONTINUATION of 16,384 octets, and a 256th of its octets.
+const LARGE: &[u8] = &[0, 0x40, 0, 9, 4, 0, 0, 0, 13];
+
 const ZEROS: &[u8] = &[0; 64];
 
-// Heads of HEADERS and CONTINUATION of 16,384 octets on stream 13, without and with END_HEADERS.
-const LARGE_HEADERS: &[u8] = &[0, 0x40, 0, 1, 0, 0, 0, 0, 13];
-
-const LARGE_CONTINUATION: &[u8] = &[0, 0x40, 0, 9, 0, 0, 0, 0, 13];
-
-const LAST_CONTINUATION: &[u8] = &[0, 0x40, 0, 9, 4, 0, 0, 0, 13];
-
-// A literal header `a` of 16,384 octets that isn't added to the table: all but its value.
-const LONG_HEADER: &[u8] = &[0, 0, 6, 1, 0, 0, 0, 0, 13, 0, 1, b'a', 0x7f, 0x81, 0x7f];
-
-// One octet with END_STREAM on stream 13.
-const LAST_PIECE: &[u8] = &[0, 0, 1, 0, 1, 0, 0, 0, 13, 7];
-
-// Feeds octets so often, and answers what the last of them say.
-fn often(alloc: Global, recv: &mut Recv, octets: &[u8], times: usize) -> Says {
-    let mut says = Says::Nothing;
+// Feeds octets so often.
+fn often(alloc: Global, recv: &mut Recv, octets: &[u8], times: usize) {
     for _ in 0..times {
-        says = fed(alloc, recv, octets, 100);
+        let _says = fed(alloc, recv, octets, 100);
     }
-    says
 }
 
 // Opens a stream with `:method: POST`, `:scheme: http` and `:path: /` of the static table (RFC 7541, appendix A).
@@ -65,11 +61,33 @@ fn make_busy(alloc: Global, recv: &mut Recv) {
     let _fifth = opened(alloc, recv, 11, false);
 }
 
-// What octets say on such a connection, what three octets on stream 11 say then, and whether a frame ends there.
-fn on_a_busy_connection(alloc: Global, octets: &[u8], size: usize) -> (Says, Says, bool) {
+// A receiver to which this came.
+fn after(alloc: Global, before: Before) -> Recv {
     let mut recv = Recv::make(alloc);
-    make_busy(alloc, &mut recv);
-    let says = fed(alloc, &mut recv, octets, size);
+    match before {
+        Before::Nothing => {}
+        Before::Preface => often(alloc, &mut recv, PREFACE, 1),
+        Before::Busy => make_busy(alloc, &mut recv),
+        Before::Block(frames) => {
+            make_busy(alloc, &mut recv);
+            often(alloc, &mut recv, BLOCK, 1);
+            often(alloc, &mut recv, FRAGMENT, frames);
+        }
+        Before::Full => {
+            often(alloc, &mut recv, PREFACE, 1);
+            often(alloc, &mut recv, SETTINGS, 1);
+            for place in 0..32u8 {
+                let _call = opened(alloc, &mut recv, 2 * place + 1, false);
+            }
+        }
+    }
+    recv
+}
+
+// What a row's octets say in pieces of this size, what three octets on stream 11 say then, and whether a frame ends there.
+fn answered(alloc: Global, row: &Row, size: usize) -> (Says, Says, bool) {
+    let mut recv = after(alloc, row.before);
+    let says = fed(alloc, &mut recv, row.octets, size);
     let then = fed(alloc, &mut recv, MORE, size);
     (says, then, recv.whole())
 }
@@ -87,119 +105,27 @@ fn each_check_has_its_answer_in_any_pieces(rt: HostRuntime) -> Result<(), Fail> 
     for row in TABLE.iter() {
         for size in SIZES.iter().copied() {
             let (then, whole) = afterwards(row.says);
-            let answer = on_a_busy_connection(rt.alloc(), row.octets, size);
+            let answer = answered(rt.alloc(), row, size);
             assert_eq!(rt; answer, (row.says, then, whole));
         }
     }
     Ok(())
 }
 
-// What octets from the beginning say, and whether a frame ends there.
-fn at_first(alloc: Global, octets: &[u8], more: &[u8], size: usize) -> (Says, bool) {
-    let mut recv = Recv::make(alloc);
-    match fed(alloc, &mut recv, octets, size) {
-        Says::Nothing => {
-            let says = fed(alloc, &mut recv, more, size);
-            (says, recv.whole())
-        }
-        says => (says, recv.whole()),
-    }
-}
-
-#[test]
-fn the_preface_and_settings_come_first(rt: HostRuntime) -> Result<(), Fail> {
-    let alloc = rt.alloc();
-    for size in SIZES.iter().copied() {
-        let settings = Says::Settings(65_535, false);
-        assert_eq!(rt; at_first(alloc, PREFACE, &[], size), (Says::Nothing, false));
-        assert_eq!(rt; at_first(alloc, PREFACE, SETTINGS, size), (settings, true));
-        assert_eq!(rt;
-            at_first(alloc, PREFACE, SETTINGS_ACK, size),
-            (Says::Fault(1), false)
-        );
-        assert_eq!(rt;
-            at_first(alloc, PREFACE, MORE, size),
-            (Says::Fault(1), false)
-        );
-        assert_eq!(rt;
-            at_first(alloc, &PREFACE[..23], b"\r", size),
-            (Says::Fault(1), false)
-        );
-    }
-    Ok(())
-}
-
-// Opens 32 streams and two more, with an end of the first between those.
-fn more_than_32_streams(alloc: Global) -> (Says, Says, Says) {
-    let mut recv = Recv::make(alloc);
-    let _preface = fed(alloc, &mut recv, PREFACE, 24);
-    let _settings = fed(alloc, &mut recv, SETTINGS, 9);
-    let mut last = Says::Nothing;
-    for place in 0..32u8 {
-        last = opened(alloc, &mut recv, 2 * place + 1, true);
-    }
-    let refused = opened(alloc, &mut recv, 65, true);
-    recv.ended(1);
-    (last, refused, opened(alloc, &mut recv, 67, false))
-}
-
-#[test]
-fn the_33rd_stream_is_refused(rt: HostRuntime) -> Result<(), Fail> {
-    let (last, refused, taken) = more_than_32_streams(rt.alloc());
-    assert_eq!(rt; last, Says::Call(63, 3, true));
-    assert_eq!(rt; refused, Says::StreamFault(65, 7));
-    assert_eq!(rt; taken, Says::Call(67, 3, false));
-    Ok(())
-}
-
-// A block of 65,536 octets, and a frame of it that lacks an octet: what is held, and how many octets are wanted. Then
-// what the octet says.
-fn largest_block(alloc: Global) -> (usize, usize, Says, usize) {
-    let mut recv = Recv::make(alloc);
-    make_busy(alloc, &mut recv);
-    let _begins = fed(alloc, &mut recv, LARGE_HEADERS, 9);
-    let _fragment = often(alloc, &mut recv, ZEROS, 256);
-    for _ in 0..3u8 {
-        let _goes_on = fed(alloc, &mut recv, LARGE_CONTINUATION, 9);
-        let _fragment = often(alloc, &mut recv, ZEROS, 256);
-    }
-    let block = recv.held();
-    let _goes_on = fed(alloc, &mut recv, LARGE_CONTINUATION, 9);
-    let _fragment = often(alloc, &mut recv, ZEROS, 255);
-    let _lacks = fed(alloc, &mut recv, &ZEROS[1..], 63);
+// A block of 65,536 octets, and a frame of it that lacks an octet: what is held, and what it is behind that octet.
+fn held_at_most(alloc: Global) -> (usize, usize) {
+    let mut recv = after(alloc, Before::Block(1024));
+    often(alloc, &mut recv, LARGE, 1);
+    often(alloc, &mut recv, ZEROS, 255);
+    often(alloc, &mut recv, &ZEROS[1..], 1);
     let most = recv.held();
-    let wanted = recv.wanted();
-    let says = fed(alloc, &mut recv, &[0], wanted);
-    (block, most, says, recv.held())
+    often(alloc, &mut recv, &[0], 1);
+    (most, recv.held())
 }
 
 #[test]
-fn a_header_block_has_65_536_octets_at_most(rt: HostRuntime) -> Result<(), Fail> {
-    let (block, most, says, then) = largest_block(rt.alloc());
-    assert_eq!(rt; block, 65_536);
-    assert_eq!(rt; most, 81_928);
-    assert_eq!(rt; says, Says::Fault(11));
-    assert_eq!(rt; then, 0);
-    Ok(())
-}
-
-// A header list of more than 16,384 octets, a piece on its stream, and one on another.
-fn longer_list(alloc: Global) -> (Says, Says, Says) {
-    let mut recv = Recv::make(alloc);
-    make_busy(alloc, &mut recv);
-    let _begins = fed(alloc, &mut recv, LONG_HEADER, 100);
-    let _goes_on = fed(alloc, &mut recv, LAST_CONTINUATION, 9);
-    let says = often(alloc, &mut recv, ZEROS, 256);
-    let piece = fed(alloc, &mut recv, LAST_PIECE, 100);
-    (says, piece, fed(alloc, &mut recv, MORE, 100))
-}
-
-#[test]
-fn a_longer_header_list_opens_its_stream(rt: HostRuntime) -> Result<(), Fail> {
-    let (says, piece, other) = longer_list(rt.alloc());
-    assert_eq!(rt; says, Says::TooLong(13));
-    assert_eq!(rt; piece, Says::Piece(13, 1, 1, true));
-    assert_eq!(rt; other, Says::Piece(11, 3, 3, false));
+fn at_most_81_928_octets_are_held(rt: HostRuntime) -> Result<(), Fail> {
+    assert_eq!(rt; held_at_most(rt.alloc()), (81_928, 0));
     Ok(())
 }
 
