@@ -1,5 +1,6 @@
 pub mod CallLemmas
 pub mod FrameLemmas
+pub mod KeptLemmas
 pub mod LawLemmas
 pub mod OutcomeLemmas
 pub mod SettingsLemmas

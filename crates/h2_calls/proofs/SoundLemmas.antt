@@ -31,7 +31,8 @@ use Rattle.h2_calls.specs.Requests.{is_well_formed}
 use Rattle.h2_calls.specs.Blocks.{refused, request, later_block, block_on, headers_mean, BlockMeans}
 use Rattle.h2_calls.specs.Meanings.{Meaning, said, block_ends, data_on, data_with, data_means, with_fragment, longer, headers_with, headers_begin, continuation_means, priority_means, reset_on, rst_stream_means, settings_told, settings_mean, ping_means, goaway_means, increment_on, increment_means, window_update_means, kind_means, next_means, meaning_of, Comes, Means}
 use Rattle.h2_calls.specs.Calls.{Moment, read, ended, Calls, frames_of, events_of}
-use Rattle.h2_calls.specs.Laws.{HasClientStream, IsSoundPeer, IsReadable, GivesSound}
+use Rattle.h2_calls.proofs.KeptLemmas.{kept_without, kept_by_peer, kept_here, kept_up_to, kept_opened}
+use Rattle.h2_calls.specs.Laws.{AreKept, HasClientStream, IsSoundPeer, IsReadable, GivesSound}
 use Rattle.h2_calls.specs.States.{this_side_ends}
 
 record IsGood (outcome : Outcome) : Type 0 where
@@ -65,8 +66,19 @@ quiet : (peer : Peer) → IsSoundPeer peer → IsGood (nothing peer)
 quiet peer p = record { sound = (tt, p) }
 
 -- only streams and the highest are other than before
-kept : (peer now : Peer) → now.window ≡ peer.window → now.block ≡ peer.block → IsSoundPeer peer → IsSoundPeer now
-kept peer now w b p = record { window = rw w p.window; block = subst (λ o. HasClientStream o) (sym b) p.block }
+kept : (peer now : Peer) → now.window ≡ peer.window → now.block ≡ peer.block → IsSoundPeer peer → AreKept now.highest now.streams → IsSoundPeer now
+kept peer now w b p k = record { window = rw w p.window; block = subst (λ o. HasClientStream o) (sym b) p.block; streams = k }
+
+after_reset : (stream : ℕ) (peer : Peer) → IsSoundPeer peer → IsSoundPeer (reset stream peer)
+after_reset stream peer p = kept peer (reset stream peer) refl refl p (kept_without stream peer.highest peer.streams p.streams)
+
+after_end : (stream : ℕ) (peer : Peer) → IsSoundPeer peer → IsSoundPeer (peer_ends stream peer)
+after_end stream peer p =
+    kept peer (peer_ends stream peer) refl refl p (kept_by_peer stream peer.highest (state_among stream peer.streams) peer.streams p.streams)
+
+after_end_here : (stream : ℕ) (peer : Peer) → IsSoundPeer peer → IsSoundPeer (this_side_ends stream peer)
+after_end_here stream peer p =
+    kept peer (this_side_ends stream peer) refl refl p (kept_here stream peer.highest (state_among stream peer.streams) peer.streams p.streams)
 
 odd_of : (stream : ℕ) → (stream % 2 == 0) ≡ false → stream % 2 ≡ 1
 odd_of stream e = let n = eqb-false (stream % 2) 0 e in grind (arith, n)
@@ -83,7 +95,7 @@ opened_stream : (peer : Peer) (stream : ℕ) → is_idle peer stream ≡ false �
 opened_stream peer stream e lt = record { odd = odd_of stream (first_false (stream % 2 == 0) (nat_lt peer.highest stream) e); small = lt }
 
 faulted : (stream code : ℕ) (peer : Peer) → IsSoundPeer peer → CanFault stream code → IsGood (stream_fault stream code peer)
-faulted stream code peer p can = record { sound = (can, kept peer (reset stream peer) refl refl p) }
+faulted stream code peer p can = record { sound = (can, after_reset stream peer p) }
 
 -- ---- payloads
 
@@ -120,7 +132,7 @@ content_short skipped flags payload =
 
 piece_good : (head : Head) (octets : List ℕ) (b : Bool) (peer : Peer) → IsSoundPeer peer → IsClientStream head.stream → length octets ≤ head.length → head.length ≤ largest_frame
     → IsGood (gives (event.Piece head.stream octets head.length b) (cond b (peer_ends head.stream peer) peer))
-piece_good head octets true peer p client le most = record { sound = ((client, le, most), kept peer (peer_ends head.stream peer) refl refl p) }
+piece_good head octets true peer p client le most = record { sound = ((client, le, most), after_end head.stream peer p) }
 piece_good head octets false peer p client le most = record { sound = ((client, le, most), p) }
 
 data_on_good : (head : Head) (octets : List ℕ) (now : StreamState) (peer : Peer) → IsSoundPeer peer → IsClientStream head.stream → length octets ≤ head.length → head.length ≤ largest_frame
@@ -146,22 +158,27 @@ data_good frame peer p f =
 -- ---- header blocks
 
 refused_good : (stream code : ℕ) (peer : Peer) → IsSoundPeer peer → IsClientStream stream → IsGood (refused stream code peer)
-refused_good stream code peer p client = record { sound = (inl client, kept peer (opened_and_reset stream peer) refl refl p) }
+refused_good stream code peer p client = record { sound = (inl client, kept peer (opened_and_reset stream peer) refl refl p (kept_up_to stream peer.highest peer.streams p.streams)) }
 
 abbrev IsListed : Option (List Header) → Type 0
 IsListed None = ⊤
 IsListed (Some headers) = size_of_all headers ≤ largest_list
 
-request_good : (stream : ℕ) (ends : Bool) (list : Option (List Header)) (peer : Peer) → IsSoundPeer peer → IsClientStream stream → IsListed list → IsGood (request stream ends list peer)
-request_good stream ends None peer p client listed = record { sound = (client, kept peer (open_stream stream ends peer) refl refl p) }
-request_good stream ends (Some headers) peer p client listed =
+opened : (stream : ℕ) (ends : Bool) (peer : Peer) → IsSoundPeer peer → peer.highest < stream → length peer.streams < most_streams → IsSoundPeer (open_stream stream ends peer)
+opened stream ends peer p lt room =
+    kept peer (open_stream stream ends peer) refl refl p (kept_opened stream peer.highest ends peer.streams lt room p.streams)
+
+request_good : (stream : ℕ) (ends : Bool) (list : Option (List Header)) (peer : Peer) → IsSoundPeer peer → IsClientStream stream → IsListed list
+    → peer.highest < stream → length peer.streams < most_streams → IsGood (request stream ends list peer)
+request_good stream ends None peer p client listed lt room = record { sound = (client, opened stream ends peer p lt room) }
+request_good stream ends (Some headers) peer p client listed lt room =
     either (is_well_formed headers) (gives (event.Call stream headers ends) (open_stream stream ends peer)) (refused stream protocol_error peer)
-    (λ _. record { sound = ((client, listed), kept peer (open_stream stream ends peer) refl refl p) })
+    (λ _. record { sound = ((client, listed), opened stream ends peer p lt room) })
     (λ _. refused_good stream protocol_error peer p client)
 
 trailers_good : (stream : ℕ) (ends : Bool) (peer : Peer) → IsSoundPeer peer → IsClientStream stream
     → IsGood (cond ends (gives (event.Trailers stream) (peer_ends stream peer)) (stream_fault stream protocol_error peer))
-trailers_good stream true peer p client = record { sound = (client, kept peer (peer_ends stream peer) refl refl p) }
+trailers_good stream true peer p client = record { sound = (client, after_end stream peer p) }
 trailers_good stream false peer p client = faulted stream protocol_error peer p (inl client)
 
 later_good : (stream : ℕ) (ends : Bool) (now : StreamState) (peer : Peer) → IsSoundPeer peer → IsClientStream stream → IsGood (later_block stream ends now peer)
@@ -170,11 +187,32 @@ later_good stream ends state.HalfClosedRemote peer p client = faulted stream str
 later_good stream ends state.Open peer p client = trailers_good stream ends peer p client
 later_good stream ends state.HalfClosedLocal peer p client = trailers_good stream ends peer p client
 
+odd_not_even : (n : ℕ) → n % 2 ≡ 1 → (n % 2 == 0) ≡ false
+odd_not_even n e = rw e refl
+
+second_true : (a b : Bool) → a ≡ false → (a || b) ≡ true → b ≡ true
+second_true true b p q = absurd cc
+second_true false b p q = q
+
+-- an odd stream that is idle is above the highest
+above_highest : (stream : ℕ) (peer : Peer) → IsClientStream stream → is_idle peer stream ≡ true → peer.highest < stream
+above_highest stream peer client e =
+    let above : nat_lt peer.highest stream ≡ true = second_true (stream % 2 == 0) (nat_lt peer.highest stream) (odd_not_even stream client.odd) e in
+    grind (arith, above)
+
+room_left : (n : ℕ) → nat_le most_streams n ≡ false → n < most_streams
+room_left n e = grind (arith, e)
+
+not_not : (b : Bool) → not b ≡ false → b ≡ true
+not_not true e = refl
+not_not false e = sym e
+
 block_on_good : (stream : ℕ) (ends : Bool) (list : Option (List Header)) (peer : Peer) → IsSoundPeer peer → IsClientStream stream → IsListed list → IsGood (block_on stream ends list peer)
 block_on_good stream ends list peer p client listed =
     either (not (is_idle peer stream)) (later_block stream ends (state_among stream peer.streams) peer) _ (λ _. later_good stream ends (state_among stream peer.streams) peer p client)
-    (λ _. either (nat_le most_streams (length peer.streams)) (refused stream refused_stream peer) (request stream ends list peer)
-    (λ _. refused_good stream refused_stream peer p client) (λ _. request_good stream ends list peer p client listed))
+    (λ e. either (nat_le most_streams (length peer.streams)) (refused stream refused_stream peer) (request stream ends list peer)
+    (λ _. refused_good stream refused_stream peer p client)
+    (λ full. request_good stream ends list peer p client listed (above_highest stream peer client (not_not (is_idle peer stream) e)) (room_left (length peer.streams) full)))
 
 short_list : (decoder after : State) (octets : List ℕ) (headers : List Header) → Answers decoder octets (Ok headers) after → size_of_all headers ≤ largest_list
 short_list (Ok table) after octets headers a = a.short
@@ -192,6 +230,7 @@ block_good block peer outcome p client m =
     let now : IsSoundPeer m.peer_then = record {
       window = rw (ap (λ (o : Peer). o.window) m.peer_then_is) p.window;
       block = subst (λ o. HasClientStream o) (sym (ap (λ (o : Peer). o.block) m.peer_then_is)) tt;
+      streams = subst (λ (o : Peer). AreKept o.highest o.streams) (sym m.peer_then_is) p.streams;
     } in
     subst (λ (o : Outcome). IsGood o) (sym m.outcome_is) (headers_good block.stream block.ends peer.decoder m.peer_then.decoder block.octets m.list m.peer_then m.read now client)
 
@@ -200,7 +239,7 @@ fragment_good flags block fragment peer p client =
     either_then (nat_lt largest_block (length block.octets + length fragment)) (said (Err enhance_your_calm)) _ (λ _. fault_said enhance_your_calm)
     (λ _. either_then (has end_headers_flag flags) (block_ends (longer block fragment)) (said (nothing (record peer { block = Some (longer block fragment) })))
     (λ _. record { good = client })
-    (λ _. good_said (nothing (record peer { block = Some (longer block fragment) })) (record { sound = (tt, record { window = p.window; block = client }) })))
+    (λ _. good_said (nothing (record peer { block = Some (longer block fragment) })) (record { sound = (tt, record { window = p.window; block = client; streams = p.streams }) })))
 
 headers_with_good : (head : Head) (inside : Result (List ℕ) ℕ) (peer : Peer) → IsSoundPeer peer → IsClientStream head.stream → IsGoodThen (headers_with head inside peer)
 headers_with_good head (Err code) peer p client = fault_said code
@@ -228,9 +267,9 @@ priority_good frame peer p f =
 
 reset_on_good : (stream : ℕ) (now : StreamState) (peer : Peer) → IsSoundPeer peer → IsClientStream stream → IsGood (reset_on stream now peer)
 reset_on_good stream state.Closed peer p client = quiet peer p
-reset_on_good stream state.Open peer p client = record { sound = (client, kept peer (reset stream peer) refl refl p) }
-reset_on_good stream state.HalfClosedLocal peer p client = record { sound = (client, kept peer (reset stream peer) refl refl p) }
-reset_on_good stream state.HalfClosedRemote peer p client = record { sound = (client, kept peer (reset stream peer) refl refl p) }
+reset_on_good stream state.Open peer p client = record { sound = (client, after_reset stream peer p) }
+reset_on_good stream state.HalfClosedLocal peer p client = record { sound = (client, after_reset stream peer p) }
+reset_on_good stream state.HalfClosedRemote peer p client = record { sound = (client, after_reset stream peer p) }
 
 rst_stream_good : (frame : Frame) (peer : Peer) → IsSoundPeer peer → IsReadable frame → IsGood (rst_stream_means frame peer)
 rst_stream_good frame peer p f =
@@ -278,7 +317,7 @@ settings_low (a ∷ b ∷ c ∷ d ∷ e ∷ f ∷ rest) told le =
 
 told_good : (told : Result Settings ℕ) (peer : Peer) → IsSoundPeer peer → IsLow told → IsGood (settings_told told peer)
 told_good (Err code) peer p low = fault code
-told_good (Ok s) peer p low = record { sound = (low.low, record { window = low.low; block = p.block }) }
+told_good (Ok s) peer p low = record { sound = (low.low, record { window = low.low; block = p.block; streams = p.streams }) }
 
 settings_good : (frame : Frame) (peer : Peer) → IsSoundPeer peer → IsGood (settings_mean frame peer)
 settings_good frame peer p =
@@ -317,10 +356,6 @@ below_64 (a ∷ b ∷ c ∷ d ∷ f ∷ g ∷ h ∷ i ∷ []) e fits =
     let li : i < 2 ^ 8 = All-head small i [] fi in
     omega (arith, la, lb, lc, ld, lf, lg, lh, li)
 below_64 (a ∷ b ∷ c ∷ d ∷ f ∷ g ∷ h ∷ i ∷ j ∷ rest) e fits = absurd (omega (arith, e))
-
-not_not : (b : Bool) → not b ≡ false → b ≡ true
-not_not true e = refl
-not_not false e = sym e
 
 ping_good : (frame : Frame) (peer : Peer) → IsSoundPeer peer → IsReadable frame → IsGood (ping_means frame peer)
 ping_good frame peer p f =
@@ -416,4 +451,4 @@ sound_moments start last (read frame None ∷ moments) p c f =
     let h = sound_frame start frame (Ok (record { event = None; peer = c.0 })) p f.0 c.1 in
     sound_moments c.0 last moments h.1 c.2 f.1
 sound_moments start last (ended s ∷ moments) p c f =
-    sound_moments c.0 last moments (subst (λ (o : Peer). IsSoundPeer o) c.1 (kept start (this_side_ends s start) refl refl p)) c.2 f
+    sound_moments c.0 last moments (subst (λ (o : Peer). IsSoundPeer o) c.1 (after_end_here s start p)) c.2 f

@@ -1,10 +1,13 @@
 -- What holds of every frame's outcome.
-use Rattle.std.specs.Prelude.{◌≡◌, ◌≢◌, ℕ, ◌≤◌, ⊤, Option, Some, None, Ok, Err}
+use Rattle.std.specs.Prelude.{◌≡◌, ◌≢◌, ℕ, ◌<◌, ◌≤◌, List, [], ◌∷◌, length, ⊤, Option, Some, None, Ok, Err}
 use Rattle.h2_frame.specs.Frames.{Frame, Fits}
 use Rattle.h2_events.specs.declared.event.RecvEvent.{RecvEvent}
 use Rattle.h2_events.specs.Events.{highest_with, largest_window, largest_frame, IsClientStream, IsSound}
+use Rattle.h2_calls.specs.declared.streams.StreamState.TheVariants as state
+use Rattle.h2_calls.specs.declared.streams.Stream.{Stream}
 use Rattle.h2_calls.specs.declared.peer.HeaderBlock.{HeaderBlock}
 use Rattle.h2_calls.specs.declared.peer.Peer.{Peer}
+use Rattle.h2_calls.specs.Codes.{most_streams}
 use Rattle.h2_calls.specs.States.{state_among}
 use Rattle.h2_calls.specs.Outcomes.{Outcome}
 
@@ -30,10 +33,23 @@ abbrev pub HasClientStream : Option HeaderBlock → Type 0
 HasClientStream None = ⊤
 HasClientStream (Some block) = IsClientStream block.stream
 
--- The peer's initial window is one that it may state, and a header block is on one of its streams.
+-- Streams above a number and up to another, by rising number, none of which is closed.
+abbrev pub AreRising : ℕ → ℕ → List Stream → Type 0
+AreRising below highest [] = ⊤
+AreRising below highest (stream ∷ streams) =
+    (below < stream.id) × (stream.id ≤ highest) × (stream.state ≢ state.Closed)
+    × AreRising stream.id highest streams
+
+-- The streams that are kept: no two have one number, and they are as many as this side takes at most.
+pub record AreKept (highest : ℕ) (streams : List Stream) : Type 0 where
+  pub rising : AreRising 0 highest streams
+  pub few : length streams ≤ most_streams
+
+-- The peer's initial window is one that it may state, a header block is on one of its streams, and no stream is kept twice.
 pub record IsSoundPeer (peer : Peer) : Type 0 where
   pub window : peer.window ≤ largest_window
   pub block : HasClientStream peer.block
+  pub streams : AreKept peer.highest peer.streams
 
 -- a frame of octets, no longer than this side takes
 pub record IsReadable (frame : Frame) : Type 0 where

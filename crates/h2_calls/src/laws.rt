@@ -51,7 +51,7 @@ pub fn others_stay()
         → Means peer frame outcome → KeepsOthers frame.head.stream peer outcome }
 {}
 
-/// Events of frames within this side's limits are sound.
+/// Events of frames within this side's limits are sound, and so is what is kept then: the streams differ, and are at most 32.
 pub fn sound_events()
     ensures one { (peer : Known) (frame : Frame) (outcome : Outcome) → IsSoundPeer peer
         → IsReadable frame → Means peer frame outcome → GivesSound outcome }

@@ -7,4 +7,4 @@ pub returns-clause-one : goal.returns-clause-one
 returns-clause-one c = sound_frame
 
 pub returns-clause-all : goal.returns-clause-all
-returns-clause-all c = λ last moments calls readable. sound_moments new_peer last moments (record { window = omega arith; block = tt }) calls readable
+returns-clause-all c = λ last moments calls readable. sound_moments new_peer last moments (record { window = omega arith; block = tt; streams = record { rising = tt; few = omega arith } }) calls readable
