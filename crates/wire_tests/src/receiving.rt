@@ -17,9 +17,11 @@ const SIZES: &[usize] = &[1, 5, 100_000];
 // Three octets on stream 11.
 const MORE: &[u8] = &[0, 0, 3, 0, 0, 0, 0, 0, 11, 1, 2, 3];
 
-// HEADERS of stream 13 without an octet of its block, and CONTINUATION with 64 octets: `:method: GET` of the static
-// table (RFC 7541, appendix A) each.
+// HEADERS of stream 13 without an octet of its block, without and with END_STREAM, and CONTINUATION with 64 octets:
+// `:method: GET` of the static table (RFC 7541, appendix A) each.
 const BLOCK: &[u8] = &[0, 0, 0, 1, 0, 0, 0, 0, 13];
+
+const LAST_BLOCK: &[u8] = &[0, 0, 0, 1, 1, 0, 0, 0, 13];
 
 const FRAGMENT: &[u8] = &[
     0, 0, 64, 9, 0, 0, 0, 0, 13, 130, 130, 130, 130, 130, 130, 130, 130, 130, 130, 130, 130, 130,
@@ -71,6 +73,12 @@ fn after(alloc: Global, before: Before) -> Recv {
         Before::Block(frames) => {
             make_busy(alloc, &mut recv);
             often(alloc, &mut recv, BLOCK, 1);
+            often(alloc, &mut recv, FRAGMENT, frames);
+        }
+        Before::LastBlock(frames) => {
+            make_busy(alloc, &mut recv);
+            let _call = opened(alloc, &mut recv, 13, false);
+            often(alloc, &mut recv, LAST_BLOCK, 1);
             often(alloc, &mut recv, FRAGMENT, frames);
         }
         Before::Full => {

@@ -12,6 +12,8 @@ pub(crate) enum Before {
     Block(usize),
     /// The 32 streams from 1 to 63 are open.
     Full,
+    /// Stream 13 is open too, and HEADERS with END_STREAM have begun such a block.
+    LastBlock(usize),
 }
 
 /// A row: what is sent, and what the last of it says.
@@ -237,6 +239,12 @@ pub(crate) const TABLE: &[Row] = &[
         octets: &[0, 0, 3, 1, 5, 0, 0, 0, 1, 0x83, 0x86, 0x84],
         says: Says::Trailers(1),
     },
+    // HEADERS without END_STREAM on a stream that this side has ended.
+    Row {
+        before: Before::Busy,
+        octets: &[0, 0, 3, 1, 4, 0, 0, 0, 5, 0x83, 0x86, 0x84],
+        says: Says::StreamFault(5, 1),
+    },
     // Trailers on a stream that this side has ended.
     Row {
         before: Before::Busy,
@@ -425,6 +433,14 @@ pub(crate) const TABLE: &[Row] = &[
         before: Before::Busy,
         octets: &[0, 0, 4, 3, 0, 0, 0, 0, 1, 0, 0, 0, 0],
         says: Says::Reset(1),
+    },
+    // It closes the stream.
+    Row {
+        before: Before::Busy,
+        octets: &[
+            0, 0, 4, 3, 0, 0, 0, 0, 1, 0, 0, 0, 0, 0, 0, 1, 0, 0, 0, 0, 0, 1, 7,
+        ],
+        says: Says::Piece(1, 0, 1, true),
     },
     // RST_STREAM on a closed stream.
     Row {
@@ -672,6 +688,12 @@ pub(crate) const TABLE: &[Row] = &[
         before: Before::Busy,
         octets: &[0, 0, 3, 0x20, 0xff, 0, 0, 0, 1, 1, 2, 3],
         says: Says::Nothing,
+    },
+    // Trailers with such a list.
+    Row {
+        before: Before::LastBlock(7),
+        octets: &[0, 0, 0, 9, 4, 0, 0, 0, 13],
+        says: Says::Trailers(13),
     },
     // A 33rd stream.
     Row {
