@@ -16,8 +16,8 @@ IsReadAs (Ok a) defined = defined ≡ Some a
 IsReadAs (Err faults.BadMessage) defined = defined ≡ None
 IsReadAs (Err faults.NoMemory) defined = Unit {0}
 
--- The fields of a message. `fields_of_messages` (pb_message) says that they are those of IsMessage (pb_wire), and that there are
--- none exactly where the octets are no message.
+-- The fields of a message, or None where the octets are no message: those that pass the test are by `fields_of_messages`
+-- (pb_message) just those with a list of fields by IsMessage (pb_wire), and this is that list.
 unfoldable pub fields_in : List ℕ → Option (List Field)
 fields_in octets = if is_message octets then Some (all_fields octets) else None
 

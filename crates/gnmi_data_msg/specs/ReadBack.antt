@@ -15,13 +15,14 @@ pub record IsTextKey (key : List ℕ × List ℕ) : Type 0 where
   pub name : is_utf8 key.0 ≡ true
   pub value : is_utf8 key.1 ≡ true
 
--- its texts are UTF-8, and its keys are in the order of a map's
+-- its texts are UTF-8, and its keys rise by name, each name once
 pub record IsTextElem (elem : Elem) : Type 0 where
   pub name : is_utf8 elem.name ≡ true
   pub keys : AllByRecursion IsTextKey elem.keys
   pub in_order : keys_of elem.keys ≡ elem.keys
 
--- all of which holds of every path that a program has, in the order of its keys
+-- The texts of a path in memory are UTF-8 by their type. That its keys rise, and that a length can say how many octets it has,
+-- isn't said by its type.
 pub record IsWritable (path : List Elem) : Type 0 where
   pub elems : AllByRecursion IsTextElem path
   pub short : length (path_message path) < 2 ^ 64
@@ -30,7 +31,7 @@ pub record IsShortText (text : List ℕ) : Type 0 where
   pub is_text : is_utf8 text ≡ true
   pub short : length text < 2 ^ 64
 
--- a scalar that a program can have: its numbers fit their types
+-- A scalar whose numbers fit their types, and how many octets it has a length. A list is none.
 abbrev pub IsWritableScalar : Value → Type 0
 IsWritableScalar (v.Bool b) = Unit {0}
 IsWritableScalar (v.Int number) = FitsSigned w64 number

@@ -100,7 +100,7 @@ given_in message run =
     (option_map scalar_given (scalar_in message run))))
 
 -- The value that the octets of a TypedValue are: that of the oneof's last member, with its occurrences directly before
--- (protobuf.dev, "Encoding", "Oneofs").
+-- (protobuf.dev, "Language Guide (proto 3)", "Oneof Features"). Of the members before them only the strings are looked at.
 unfoldable pub typed_of : List ℕ → Option Given
 typed_of octets = do
   fields ← typed_fields octets

@@ -1,5 +1,5 @@
--- The octets in which paths and values are written: fields by rising number, keys by their names, and no empty string (protobuf.dev,
--- "Encoding", "Default Values").
+-- The octets in which paths and values are written: fields by rising number, keys in the order in which the path has them, and
+-- outside the oneof no empty string and no number 0 (protobuf.dev, "Language Guide (proto 3)", "Default Field Values").
 use Rattle.std.specs.Prelude.{ℕ, ℤ, zero, suc, List, [], ◌∷◌, ◌++◌, Bool, true, false, if◌then◌else◌}
 use Rattle.std.specs.List.{flat_map}
 use Rattle.std.specs.Int.{w64, cast_unsigned}

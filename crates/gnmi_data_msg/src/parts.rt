@@ -19,7 +19,8 @@ pub trait Message: Drop {
         ensures { IsReadAs result (meaning octets.now) };
 }
 
-/// The fields of a message, in their order.
+/// The fields of a message, in their order. BadMessage where the octets aren't fields; the octets that a field holds aren't
+/// looked at.
 #[tactic(auto, using(crate::proofs::FieldsIn::message_fields))]
 pub fn fields_in(alloc: Global, octets: &[u8]) -> Result<Fields, MsgFault>
     ensures value { IsReadAs result (fields_in octets.now) }

@@ -17,7 +17,7 @@ span_message (spans.Of seconds nanos) =
     (number_field duration_seconds (cast_unsigned w64 seconds)
     ++ number_field duration_nanos (cast_unsigned w64 nanos))
 
--- A Commit with this action. A Set that has none of them has no Commit.
+-- A Commit with this action. An empty one is read as Mixed, and a request that asks for Plain has no Commit.
 abbrev pub commit_message : Action → List ℕ
 commit_message actions.Plain = []
 commit_message (actions.Trial id span) =

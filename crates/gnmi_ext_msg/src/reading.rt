@@ -101,8 +101,9 @@ fn member_of(alloc: Global, octets: &[u8]) -> Result<Option<(u32, Bytes)>, NoMem
 }
 
 /// What the octets of a Commit ask for: that of the oneof's last member, whose occurrences directly before are joined with it
-/// (protobuf.dev, "Encoding", "Oneofs"), or Mixed where there is none. BadMessage where the octets aren't fields, or those of
-/// the member or its Duration aren't, or where an id isn't UTF-8. Ids and durations are not judged here.
+/// (protobuf.dev, "Language Guide (proto 3)", "Oneof Features"), or Mixed where there is none. BadMessage where the octets
+/// aren't fields, or those of that member or its Duration aren't, or where an id isn't UTF-8. Ids and durations are not judged
+/// here.
 #[tactic(auto, unfolding(crate::specs::Commits::commit_of))]
 pub fn read_commit(alloc: Global, octets: &[u8]) -> Result<Action, MsgFault>
     ensures { IsReadAs result (commit_of octets.now) }

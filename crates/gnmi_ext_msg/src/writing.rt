@@ -53,8 +53,8 @@ fn put_member(
     out.extend_from_slice(commit.items())
 }
 
-/// Adds the octets of a Commit with the action; Plain and Mixed, which no Commit says, add nothing. After want of memory nothing
-/// is added.
+/// Adds the octets of a Commit with the action. Mixed adds nothing, as an empty Commit is read as Mixed; nor does Plain, which
+/// is a request without a Commit: for it the caller leaves the whole field out. After want of memory nothing is added.
 pub fn write_commit(alloc: Global, action: &Action, out: &mut Bytes) -> Result<(), NoMemory>
     ensures ok { OnOk result (out.new ≡ out.old ++ commit_message action.now) }
     ensures err { OnErr result (out.new ≡ out.old) }

@@ -1,5 +1,5 @@
--- What a message holds under a number, and which message a oneof of messages holds (protobuf.dev,
--- "Encoding", "Last One Wins" and "Oneofs"). What is absent is None.
+-- What a message holds under a number (protobuf.dev, "Encoding", "Last One Wins"), and which message
+-- a oneof of messages holds ("Language Guide (proto 3)", "Oneof Features"). What is absent is None.
 use Rattle.std.specs.Prelude.{ℕ, List, [], ◌∷◌, map, Bool, true, ◌&&◌, nat_lt, Option, Some, None, unwrap_or, if◌then◌else◌}
 use Rattle.std.specs.List.{list_all, list_any, concat}
 use Rattle.std.specs.Str.{is_utf8}

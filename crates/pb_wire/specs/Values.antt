@@ -1,4 +1,5 @@
--- What a list of fields holds under a number (protobuf.dev, "Encoding", "Last One Wins", "Oneofs" and "Maps").
+-- What a list of fields holds under a number (protobuf.dev, "Encoding", "Last One Wins" and "Maps", and "Language Guide
+-- (proto 3)", "Oneof Features").
 -- A field with another wire type than is asked for is skipped, as an unknown one is.
 use Rattle.std.specs.Prelude.{ℕ, Bool, List, [], ◌∷◌, map, filter, Option, Some, None, unwrap_or, nat_eq, ◌==◌, ◌&&◌, if◌then◌else◌, slice_range}
 use Rattle.std.specs.List.{filter_map, list_any, list_all, concat, last_or}
