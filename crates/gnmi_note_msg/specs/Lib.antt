@@ -1,1 +1,3 @@
 pub mod Notifications
+pub mod ReadBack
+pub mod Reading

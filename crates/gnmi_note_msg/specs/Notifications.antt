@@ -3,12 +3,13 @@ use Rattle.std.specs.Prelude.{ℕ, List, [], ◌∷◌, ◌++◌}
 use Rattle.std.specs.Option.{option_map_or, option_and_then}
 use Rattle.base_kinds.specs.declared.path.Elem.{Elem}
 use Rattle.base_kinds.specs.declared.operation.Row.{Row}
+use Rattle.base_kinds.specs.declared.request.Note.{Note}
 use Rattle.base_kinds.specs.Schema.{SchemaNode, node_at}
 use Rattle.json_text.specs.Leaves.{leaf_text}
 use Rattle.gnmi_kinds.specs.declared.ask.Encoding.{Encoding}
 use Rattle.gnmi_kinds.specs.declared.ask.Encoding.TheVariants as encodings
 use Rattle.pb_wire.specs.Writing.{octets_field}
-use Rattle.gnmi_data_msg.specs.Numbers.{json_val, json_ietf_val, update_path, update_val, note_timestamp, note_prefix, note_delete}
+use Rattle.gnmi_data_msg.specs.Numbers.{json_val, json_ietf_val, update_path, update_val, note_timestamp, note_prefix, note_update, note_delete}
 use Rattle.gnmi_data_msg.specs.Writing.{message_fields, number_field, path_message, target_message, value_message}
 
 -- an Update of a path, its value being these octets of a TypedValue
@@ -45,3 +46,19 @@ row_value schema encodings.Other row = value_message row.value
 
 abbrev pub row_update : List SchemaNode → Encoding → Row → List ℕ
 row_update schema encoding row = update_message row.path (row_value schema encoding row)
+
+-- the Notification of what a stream sends, with a prefix of this target
+abbrev pub note_octets : List SchemaNode → Encoding → List ℕ → Note → List ℕ
+note_octets schema encoding target note =
+    note_message note.stamp target
+    (message_fields (row_update schema encoding) note_update note.updates) note.deletes
+
+-- the octets of a TypedValue with a JSON text
+abbrev pub json_message : Encoding → List ℕ → List ℕ
+json_message encoding json = octets_field (json_number encoding) json
+
+-- the Notification of one path, whose value is a JSON text
+abbrev pub whole_octets : ℕ → List Elem → List ℕ → List ℕ → Encoding → List ℕ
+whole_octets stamp path json target encoding =
+    note_message stamp target
+    (octets_field note_update (update_message path (json_message encoding json))) []

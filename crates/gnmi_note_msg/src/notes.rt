@@ -1,10 +1,8 @@
 //! Notifications.
-ghost use Rattle.std.specs.Prelude.{◌≡◌, ◌≢◌, ◌++◌, ◌≤◌, [], IfOk, OnOk, OnErr};
-ghost use Rattle.gnmi_kinds.specs.declared.ask.Encoding.TheVariants as encodings;
-ghost use Rattle.pb_wire.specs.Writing.{octets_field};
-ghost use Rattle.gnmi_data_msg.specs.Writing.{number_field, message_fields};
-ghost use Rattle.gnmi_data_msg.specs.Numbers.{note_timestamp, note_update};
-ghost use Rattle.gnmi_note_msg.specs.Notifications.{update_message, prefix_field, note_message, row_update, json_number};
+ghost use Rattle.std.specs.Prelude.{◌≡◌, ◌++◌, IfOk, OnOk, OnErr};
+ghost use Rattle.gnmi_data_msg.specs.Writing.{number_field};
+ghost use Rattle.gnmi_data_msg.specs.Numbers.{note_timestamp};
+ghost use Rattle.gnmi_note_msg.specs.Notifications.{prefix_field, json_number, note_octets, whole_octets};
 
 use crate::rows::{put_updates, update_of};
 use base_kinds::{Note, Path};
@@ -44,8 +42,9 @@ fn note_head(alloc: Global, stamp: u64, target: &Text) -> Result<Bytes, NoMemory
 }
 
 /// Adds the octets of a Notification (gNMI 2.1): the stamp, a prefix with the target where there is one, an update for each row
-/// and the paths that are gone. The values are JSON texts by the schema (gNMI 2.3.1) or scalars. After want of memory nothing is
-/// added.
+/// and the paths that are gone. The values are JSON texts by the schema (gNMI 2.3.1) in Json and JsonIetf, and scalars in Proto
+/// and Other. The field of the stamp is an int64: a reader takes a stamp of 2^63 and more for one below 0. After want of memory
+/// nothing is added.
 pub fn write_note(
     alloc: Global,
     note: &Note,
@@ -54,9 +53,8 @@ pub fn write_note(
     schema: &Schema,
     out: &mut Bytes,
 ) -> Result<(), NoMemory>
-    ensures ok { OnOk result (out.new ≡ out.old ++ note_message note.now.stamp target.now
-        (message_fields (row_update schema.now encoding) note_update note.now.updates)
-        note.now.deletes) }
+    ensures ok { OnOk result (out.new ≡ out.old
+        ++ note_octets schema.now encoding target.now note.now) }
     ensures err { OnErr result (out.new ≡ out.old) }
 {
     let mut message = note_head(alloc, note.stamp, target)?;
@@ -77,7 +75,9 @@ fn json_number(encoding: Encoding) -> u32
     }
 }
 
-/// Adds the octets of a Notification with one update, whose value is the JSON text. After want of memory nothing is added.
+/// Adds the octets of a Notification with one update, whose value is the JSON text: in `json_val` for Json, and in
+/// `json_ietf_val` for each other encoding. The text isn't read, and a reader takes a stamp of 2^63 and more for one below 0.
+/// After want of memory nothing is added.
 pub fn write_whole(
     alloc: Global,
     stamp: u64,
@@ -87,9 +87,8 @@ pub fn write_whole(
     encoding: Encoding,
     out: &mut Bytes,
 ) -> Result<(), NoMemory>
-    ensures ok { OnOk result (out.new ≡ out.old ++ note_message stamp target.now
-        (octets_field note_update
-        (update_message path.now (octets_field (json_number encoding) json.now))) []) }
+    ensures ok { OnOk result (out.new ≡ out.old
+        ++ whole_octets stamp path.now json.now target.now encoding) }
     ensures err { OnErr result (out.new ≡ out.old) }
 {
     let mut message = note_head(alloc, stamp, target)?;
