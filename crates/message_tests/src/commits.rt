@@ -7,8 +7,8 @@ use pb_message::message_under;
 use std::alloc::Global;
 use std::test::Fail;
 
-// The Extension in which the Commit of an Extension is written.
-fn read_again(alloc: Global, octets: &[u8]) -> Result<Bytes, MsgFault> {
+/// The Extension in which the Commit of an Extension is written.
+pub(crate) fn commit_again(alloc: Global, octets: &[u8]) -> Result<Bytes, MsgFault> {
     let mut out = Bytes::empty(alloc);
     if let Some(commit) = message_under(alloc, octets, 4)? {
         let action = read_commit(alloc, commit.items())?;
@@ -22,7 +22,7 @@ fn read_again(alloc: Global, octets: &[u8]) -> Result<Bytes, MsgFault> {
 #[test]
 fn commits_of_another_library(rt: HostRuntime) -> Result<(), Fail> {
     for (octets, written) in &COMMITS {
-        let again = read_again(rt.alloc(), octets)?;
+        let again = commit_again(rt.alloc(), octets)?;
         assert!(rt; again.items() == *written, "{octets:?}");
     }
     Ok(())

@@ -2,9 +2,13 @@
 #![tactic(auto)]
 
 #[cfg(test)]
+mod cases;
+#[cfg(test)]
 mod commits;
 #[cfg(test)]
 mod held;
+#[cfg(test)]
+mod notes;
 #[cfg(test)]
 mod parts;
 #[cfg(test)]

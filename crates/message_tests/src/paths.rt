@@ -5,8 +5,8 @@ use gnmi_data_msg::{MsgFault, put_text, read_path, write_path};
 use std::alloc::Global;
 use std::test::Fail;
 
-// Whether the octets are a path, the octets in which it is written, and whether it has the old `element`.
-fn read_again(alloc: Global, octets: &[u8]) -> Result<(bool, Bytes, bool), MsgFault> {
+/// Whether the octets are a path, the octets in which it is written, and whether it has the old `element`.
+pub(crate) fn path_again(alloc: Global, octets: &[u8]) -> Result<(bool, Bytes, bool), MsgFault> {
     let mut out = Bytes::empty(alloc);
     match read_path(alloc, octets) {
         Ok(path) => {
@@ -23,7 +23,7 @@ fn read_again(alloc: Global, octets: &[u8]) -> Result<(bool, Bytes, bool), MsgFa
 #[test]
 fn paths_of_another_library(rt: HostRuntime) -> Result<(), Fail> {
     for (octets, is_path, written, old_element) in &PATHS {
-        let (is, again, old) = read_again(rt.alloc(), octets)?;
+        let (is, again, old) = path_again(rt.alloc(), octets)?;
         assert!(rt;
             is == *is_path && again.items() == *written && old == *old_element,
             "{octets:?}"
