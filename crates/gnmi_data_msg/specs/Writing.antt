@@ -9,7 +9,8 @@ use Rattle.base_kinds.specs.declared.value.Value as v
 use Rattle.base_kinds.specs.Values.{is_list, values_in}
 use Rattle.pb_wire.specs.Values.{map_key, map_value}
 use Rattle.pb_wire.specs.Writing.{varint_field, octets_field}
-use Rattle.gnmi_data_msg.specs.Numbers.{path_elem, path_target, elem_name, elem_key, string_val, int_val, uint_val, bool_val, bytes_val, decimal_val, leaflist_val, decimal_digits, decimal_precision, array_element}
+use Rattle.gnmi_kinds.specs.declared.path.GnmiPath.{GnmiPath}
+use Rattle.gnmi_data_msg.specs.Numbers.{path_origin, path_elem, path_target, elem_name, elem_key, string_val, int_val, uint_val, bool_val, bytes_val, decimal_val, leaflist_val, decimal_digits, decimal_precision, array_element}
 
 -- a single string, which isn't written where it is empty
 abbrev pub text_field : ℕ → List ℕ → List ℕ
@@ -28,6 +29,11 @@ elem_message elem = text_field elem_name elem.name ++ message_fields entry_messa
 
 abbrev pub path_message : List Elem → List ℕ
 path_message path = message_fields elem_message path_elem path
+
+-- a path with its origin and its target, as it was read; the deprecated field `element` isn't written
+abbrev pub whole_path_message : GnmiPath → List ℕ
+whole_path_message path =
+    text_field path_origin path.origin ++ path_message path.path ++ text_field path_target path.target
 
 -- a path that has a target alone, as the prefix of a notification
 abbrev pub target_message : List ℕ → List ℕ

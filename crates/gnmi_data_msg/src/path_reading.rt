@@ -124,3 +124,13 @@ pub fn read_path(alloc: Global, octets: &[u8]) -> Result<GnmiPath, MsgFault>
         old_element,
     })
 }
+
+impl Message for GnmiPath {
+    ghost use Rattle.gnmi_data_msg.specs.Paths.{path_of};
+
+    ghost meaning = { path_of };
+
+    fn read(alloc: Global, octets: &[u8]) -> Result<GnmiPath, MsgFault> {
+        read_path(alloc, octets)
+    }
+}

@@ -3,9 +3,12 @@ ghost use Rattle.std.specs.Prelude.{◌≡◌, ◌++◌, ◌≤◌, IfOk, OnOk, 
 ghost use Rattle.pb_wire.specs.Writing.{octets_field};
 ghost use Rattle.gnmi_data_msg.specs.Writing.{text_field, message_fields, path_message};
 
-use crate::numbers::{ELEM_KEY, ELEM_NAME, ENTRY_KEY, ENTRY_VALUE, PATH_ELEM};
+use crate::numbers::{
+    ELEM_KEY, ELEM_NAME, ENTRY_KEY, ENTRY_VALUE, PATH_ELEM, PATH_ORIGIN, PATH_TARGET,
+};
 use base_kinds::{Elem, Path};
 use base_lists::{Bytes, NoMemory, Text};
+use gnmi_kinds::GnmiPath;
 use pb_wire::put_octets;
 use std::alloc::Global;
 
@@ -103,6 +106,21 @@ impl Written for Path {
     fn written(&self, alloc: Global) -> Result<Bytes, NoMemory> {
         let mut message = Bytes::empty(alloc);
         put_messages(alloc, PATH_ELEM, self.items(), &mut message)?;
+        Ok(message)
+    }
+}
+
+/// A path with its origin and its target; the deprecated field `element` isn't written.
+impl Written for GnmiPath {
+    ghost use Rattle.gnmi_data_msg.specs.Writing.{whole_path_message};
+
+    ghost octets = { whole_path_message };
+
+    fn written(&self, alloc: Global) -> Result<Bytes, NoMemory> {
+        let mut message = Bytes::empty(alloc);
+        put_text(alloc, PATH_ORIGIN, self.origin.octets(), &mut message)?;
+        put_messages(alloc, PATH_ELEM, self.path.items(), &mut message)?;
+        put_text(alloc, PATH_TARGET, self.target.octets(), &mut message)?;
         Ok(message)
     }
 }

@@ -1,4 +1,5 @@
 pub mod Numbers
 pub mod Commits
+pub mod Extensions
 pub mod Writing
 pub mod ReadBack

@@ -1,5 +1,30 @@
--- The numbers of the fields of gnmi_ext.proto's Commit and its messages, by their names there.
+-- The numbers of the fields of gnmi_ext.proto's Extension and Commit and their messages, by their names there.
 use Rattle.std.specs.Prelude.{ℕ, List, [], ◌∷◌}
+
+-- Extension
+abbrev pub extension_registered_ext : ℕ
+extension_registered_ext = 1
+
+abbrev pub extension_master_arbitration : ℕ
+extension_master_arbitration = 2
+
+abbrev pub extension_history : ℕ
+extension_history = 3
+
+abbrev pub extension_commit : ℕ
+extension_commit = 4
+
+abbrev pub extension_depth : ℕ
+extension_depth = 5
+
+abbrev pub extension_config_subscription : ℕ
+extension_config_subscription = 6
+
+-- its oneof, all of whose members are messages
+abbrev pub extension_members : List ℕ
+extension_members =
+    extension_registered_ext ∷ extension_master_arbitration ∷ extension_history ∷ extension_commit
+    ∷ extension_depth ∷ extension_config_subscription ∷ []
 
 -- Commit
 abbrev pub commit_id : ℕ

@@ -1,0 +1,5 @@
+pub mod Numbers
+pub mod Requests
+pub mod Asks
+pub mod Replies
+pub mod inner
