@@ -1,0 +1,8 @@
+//! Tests of the messages of gNMI's calls: what real clients and another library sent is read as it was meant, and replies are
+//! written as gnmi.proto has them.
+#![tactic(auto)]
+
+#[cfg(test)]
+mod set_tables;
+#[cfg(test)]
+mod sets;
