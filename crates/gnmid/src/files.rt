@@ -1,14 +1,15 @@
 ghost use Rattle.std.specs.Prelude.{None};
 
+use crate::disks::FileDisk;
 use base_lists::Bytes;
-use edge_traits::ReadFault;
+use edge_traits::{Failed, ReadFault};
 use std::alloc::Global;
 use std::fs;
 use std::io::ErrorKind;
 use target_top::{Files, FilesRecord};
 
-/// The files that the process may read, by their paths. What they were asked for and have given is recorded; which texts
-/// there are they can't tell.
+/// The files of the process, by their paths. What they were asked for and have given is recorded; which texts and disks there
+/// are they can't tell.
 #[derive(Drop)]
 pub struct ProcessFiles {
     rt: HostRuntime,
@@ -25,7 +26,9 @@ impl ProcessFiles {
 }
 
 impl Files for ProcessFiles {
-    ghost seen = { λ f. record f.past { held = None } };
+    type Disk = FileDisk;
+
+    ghost seen = { λ f. record f.past { held = None; disks_held = None } };
 
     fn text(&mut self, alloc: Global, name: &str) -> Result<Bytes, ReadFault> {
         let _ = alloc;
@@ -42,6 +45,28 @@ impl Files for ProcessFiles {
                 }
                 self.past.failed();
                 Err(ReadFault::Failed)
+            }
+        }
+    }
+
+    fn disk(&mut self, name: &str) -> Result<FileDisk, Failed> {
+        self.past.asked_for_disk(name);
+        match FileDisk::open(&self.rt, name) {
+            Ok(disk) => Ok(disk),
+            Err(_) => {
+                self.past.gave_no_disk();
+                Err(Failed)
+            }
+        }
+    }
+
+    fn new_disk(&mut self, name: &str) -> Result<FileDisk, Failed> {
+        self.past.asked_for_disk(name);
+        match FileDisk::open_or_make(&self.rt, name) {
+            Ok(disk) => Ok(disk),
+            Err(_) => {
+                self.past.gave_no_disk();
+                Err(Failed)
             }
         }
     }

@@ -4,6 +4,8 @@
 #[cfg(test)]
 mod examples;
 #[cfg(test)]
+mod journals;
+#[cfg(test)]
 mod lines;
 #[cfg(test)]
 mod logs;

@@ -129,8 +129,8 @@ fn words_of(rt: &impl Abort, alloc: Global, words: &str) -> Vec<String> {
 fn files_of(rt: &impl Abort, alloc: Global, text: Option<&[u8]>) -> MemFiles {
     let name = Text::of(alloc, b"S").expect(rt, "a text");
     match text {
-        Some(octets) => MemFiles::of(name, Some(octets_of(rt, alloc, octets))),
-        None => MemFiles::of(name, None),
+        Some(octets) => MemFiles::of(name, Some(octets_of(rt, alloc, octets)), None),
+        None => MemFiles::of(name, None, None),
     }
 }
 
@@ -149,7 +149,7 @@ fn run_over<A: Abort>(
         input: MemSource::make(octets_of(rt, alloc, script), Texts::empty(alloc)),
         output: MemSink::make(alloc, numbers_of(rt, alloc, writes)),
     };
-    let RunEnd { status, host } = run(rt, alloc, words.as_slice(), host);
+    let RunEnd { status, host, .. } = run(rt, alloc, words.as_slice(), host);
     let Host { output, .. } = host;
     (status, output)
 }
@@ -169,7 +169,7 @@ fn fails_over<A: Abort>(
         input: FailSource::make(),
         output: MemSink::make(alloc, numbers_of(rt, alloc, writes)),
     };
-    let RunEnd { status, host } = run(rt, alloc, words.as_slice(), host);
+    let RunEnd { status, host, .. } = run(rt, alloc, words.as_slice(), host);
     let Host {
         files,
         input,
@@ -196,7 +196,7 @@ fn drip_over<A: Abort>(
             sink: MemSink::make(alloc, numbers_of(rt, alloc, writes)),
         },
     };
-    let RunEnd { status, host } = run(rt, alloc, words.as_slice(), host);
+    let RunEnd { status, host, .. } = run(rt, alloc, words.as_slice(), host);
     let Host { output, .. } = host;
     let Trickle { sink } = output;
     (status, sink)
@@ -254,6 +254,11 @@ const BAD_WORDS: &[&str] = &[
     "script S 2 +4096",
     "script S 4294967298 4096",
     "log",
+    "log J 1",
+    "init",
+    "init J 2",
+    "init J 1 4096",
+    "init J 2 4096 1",
     "check",
     "check a b",
     "checks a",
@@ -361,7 +366,7 @@ fn an_input_that_gives_octets_and_then_fails_is_told_as_such(rt: HostRuntime) ->
 }
 
 const HELP: &str =
-    "check SCHEMA: print how many nodes the schema in the file SCHEMA has, or its first fault\nscript SCHEMA: run the script on standard input under the schema, and print its answers and its log\nscript SCHEMA ENTRIES OCTETS: the same, with a log of at most ENTRIES entries and OCTETS octets\n--help: print these lines\n--version: print the name and the version of the program\n";
+    "check SCHEMA: print how many nodes the schema in the file SCHEMA has, or its first fault\ninit JOURNAL: write a journal without entries into the file JOURNAL, which must be empty or not there yet\ninit JOURNAL ENTRIES OCTETS: the same, for a log of at most ENTRIES entries and OCTETS octets\nlog JOURNAL: print the commit log in the journal in the file JOURNAL\nscript SCHEMA: run the script on standard input under the schema, and print its answers and its log\nscript SCHEMA ENTRIES OCTETS: the same, with a log of at most ENTRIES entries and OCTETS octets\n--help: print these lines\n--version: print the name and the version of the program\n";
 
 #[test]
 fn help_and_version_are_printed_and_nothing_is_read(rt: HostRuntime) {

@@ -11,7 +11,7 @@ use Rattle.target_top.specs.declared.ending.Ending.{Ending}
 use Rattle.target_top.specs.declared.ending.Ending.TheVariants.{NoSchema}
 use Rattle.target_top.specs.ScriptRun.{script_ending, RunsLines, ScriptRun}
 use Rattle.target_top.specs.Printing.{PrintsText, MakesText}
-use Rattle.target_top.specs.Environment.{Environment, TextFiles, GaveText}
+use Rattle.target_top.specs.Environment.{Environment, SeenFiles, GaveText}
 use Rattle.target_top.specs.SchemaFile.{fault_line, UnderText, UnderSchema}
 use Rattle.target_top.specs.inner.OpenedSchema.{Opened}
 
@@ -28,7 +28,7 @@ stopped name before after ending Then (inr other) = inr other
 pub goes_on : (name : List ℕ) (schema : List SchemaNode) (before mid after : Environment) (ending : Ending) (Then : List SchemaNode → Type 0) → Opened name schema before mid → after.files ≡ mid.files → Then schema → UnderSchema name before after ending Then
 goes_on name schema before mid after ending Then opened files then_schema = inl (record {
   text = opened.text;
-  gave = subst (λ (texts : TextFiles). GaveText name opened.text before.files texts) (sym files) opened.gave;
+  gave = subst (λ (texts : SeenFiles). GaveText name opened.text before.files texts) (sym files) opened.gave;
   under = subst (λ read. UnderText read before after ending Then) (sym opened.is) then_schema;
 })
 
@@ -42,7 +42,7 @@ bad_text name text fault before after ending is gave input prints =
 from_start : (limits : Limits) (before mid after : Environment) (ending : Ending) (schema : List SchemaNode) → mid ≡ record before { files = mid.files } → RunsLines limits mid after ending schema → RunsLines limits before after ending schema
 from_start limits before mid after ending schema rest lines = files_apart limits before mid.files after ending schema (subst (λ (o : Environment). RunsLines limits o after ending schema) rest lines)
   where
-    files_apart : (limits : Limits) (before : Environment) (files : TextFiles) (after : Environment) (ending : Ending) (schema : List SchemaNode) → RunsLines limits (record before { files = files }) after ending schema → RunsLines limits before after ending schema
+    files_apart : (limits : Limits) (before : Environment) (files : SeenFiles) (after : Environment) (ending : Ending) (schema : List SchemaNode) → RunsLines limits (record before { files = files }) after ending schema → RunsLines limits before after ending schema
     files_apart limits before files after ending schema (inl answers) = inl (record { script = answers.script; read = answers.read; text = answers.text; is_whole = answers.is_whole; runs = answers.runs; output = answers.output })
     files_apart limits before files after ending schema (inr (inl bad)) = inr (inl (record { ends = bad.ends; read = bad.read; line = bad.line }))
     files_apart limits before files after ending schema (inr (inr out)) = inr (inr (record { read = out.read; output = out.output }))

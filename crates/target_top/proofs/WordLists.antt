@@ -1,11 +1,11 @@
 -- Lists of one word, of two and of four.
-use Rattle.std.proofs.Common.{codes, ◌≡◌, ℕ, ◌<◌, ◌≤◌, List, [], ◌∷◌, inl, inr, Option, Some, None, length, map, get_or, refl, sym, ap, ◌∙◌, subst, arith}
+use Rattle.std.proofs.Common.{codes, ◌≡◌, ℕ, ◌+◌, ◌<◌, ◌≤◌, List, [], ◌∷◌, inl, inr, Option, Some, None, length, map, get_or, refl, sym, ap, ◌∙◌, subst, arith}
 use Rattle.std.specs.Option.{IfNone}
 use Rattle.std.proofs.lemmas.Fmt.{decimal_injective}
 use Rattle.base_kinds.specs.declared.entry.Limits.{Limits}
 use Rattle.target_top.specs.declared.ending.Ending.{Ending}
-use Rattle.target_top.specs.Environment.{Environment}
-use Rattle.target_top.specs.Commands.{Command, Check, Script, Help, Version, AreLimits, IsScript, IsCheck, Gives, GivesNone}
+use Rattle.target_top.specs.Environment.{Environment, SeenDisk}
+use Rattle.target_top.specs.Commands.{Command, Check, Script, Init, Log, Help, Version, AreLimits, IsName, IsNameWithLimits, IsScript, IsInit, IsCheck, IsLog, Gives, GivesNone}
 use Rattle.target_top.specs.Run.{Does}
 
 pub one_word : {W : Type 0} (text : W → List ℕ) (words : List W) (word : W) → 1 ≤ length words → length words < 2 → word ≡ get_or words 0 word → map text words ≡ text word ∷ []
@@ -38,6 +38,25 @@ same_word a b e = cc
 two_not_four : (a b p q r s : List ℕ) → a ∷ b ∷ [] ≡ p ∷ q ∷ r ∷ s ∷ [] → ⊥
 two_not_four a b p q r s e = cc
 
+first_of_two : (a b p q : List ℕ) → a ∷ b ∷ [] ≡ p ∷ q ∷ [] → a ≡ p
+first_of_two a b p q e = cc
+
+first_of_four : (a b c d p q r s : List ℕ) → a ∷ b ∷ c ∷ d ∷ [] ≡ p ∷ q ∷ r ∷ s ∷ [] → a ≡ p
+first_of_four a b c d p q r s e = cc
+
+-- two words of which another one is the first are of no form with limits behind this one
+pub no_two : (word : List ℕ) (words : List (List ℕ)) (a n : List ℕ) → words ≡ a ∷ n ∷ [] → (a ≡ word → ⊥) → (name : List ℕ) (limits : Limits) → IsNameWithLimits word words name limits → ⊥
+no_two word words a n shown other name limits (inl is) = other (first_of_two _ _ _ _ (sym shown ∙ is.0))
+no_two word words a n shown other name limits (inr is) = two_not_four _ _ _ _ _ _ (sym shown ∙ is.1.1.0)
+
+-- and so are four
+pub no_four : (word : List ℕ) (words : List (List ℕ)) (a n e o : List ℕ) → words ≡ a ∷ n ∷ e ∷ o ∷ [] → (a ≡ word → ⊥) → (name : List ℕ) (limits : Limits) → IsNameWithLimits word words name limits → ⊥
+no_four word words a n e o shown other name limits (inl is) = two_not_four _ _ _ _ _ _ (sym is.0 ∙ shown)
+no_four word words a n e o shown other name limits (inr is) = other (first_of_four _ _ _ _ _ _ _ _ (sym shown ∙ is.1.1.0))
+
+pub no_name : (word : List ℕ) (words : List (List ℕ)) (a n : List ℕ) → words ≡ a ∷ n ∷ [] → (a ≡ word → ⊥) → (name : List ℕ) → IsName word words name → ⊥
+no_name word words a n shown other name is = other (first_of_two _ _ _ _ (sym shown ∙ is))
+
 second_of_two : (a b p q : List ℕ) → a ∷ b ∷ [] ≡ p ∷ q ∷ [] → b ≡ q
 second_of_two a b p q e = cc
 
@@ -54,10 +73,10 @@ pub if_none_all : {A : Type 0} (told : Option A) {P : Type 0} → P → IfNone t
 if_none_all None holds = holds
 if_none_all (Some a) holds = tt
 
--- four words whose last two are no limits are no script's
-pub no_script : (words : List (List ℕ)) (a n e o e' o' : List ℕ) → words ≡ a ∷ n ∷ e ∷ o ∷ [] → e' ≡ e → o' ≡ o → ((limits : Limits) → AreLimits e' o' limits → ⊥) → (name : List ℕ) (limits : Limits) → IsScript words name limits → ⊥
-no_script words a n e o e' o' shown entries octets none name limits (inl is) = two_not_four _ _ _ _ _ _ (sym is.0 ∙ shown)
-no_script words a n e o e' o' shown entries octets none name limits (inr is) =
+-- four words whose last two are no limits are of no form with limits
+pub no_form : (word : List ℕ) (words : List (List ℕ)) (a n e o e' o' : List ℕ) → words ≡ a ∷ n ∷ e ∷ o ∷ [] → e' ≡ e → o' ≡ o → ((limits : Limits) → AreLimits e' o' limits → ⊥) → (name : List ℕ) (limits : Limits) → IsNameWithLimits word words name limits → ⊥
+no_form word words a n e o e' o' shown entries octets none name limits (inl is) = two_not_four _ _ _ _ _ _ (sym is.0 ∙ shown)
+no_form word words a n e o e' o' shown entries octets none name limits (inr is) =
     let both = sym shown ∙ is.1.1.0 in
     none limits (record {
       entries_are = entries ∙ third_of_four _ _ _ _ _ _ _ _ both ∙ is.1.1.1.entries_are;
@@ -71,89 +90,102 @@ same_limits a b entries octets =
     let last : record { entries = b.entries; octets = a.octets } ≡ b = ap (λ n. let l : Limits = record { entries = b.entries; octets = n } in l) octets in
     first ∙ last
 
-same_script : (words : List (List ℕ)) (name other : List ℕ) (limits others : Limits) → IsScript words name limits → IsScript words other others → (name ≡ other) × (limits ≡ others)
-same_script words name other limits others (inl p) (inl q) = (second_of_two _ _ _ _ (sym p.0 ∙ q.0), p.1 ∙ sym q.1)
-same_script words name other limits others (inl p) (inr q) = absurd (two_not_four _ _ _ _ _ _ (sym p.0 ∙ q.1.1.0))
-same_script words name other limits others (inr p) (inl q) = absurd (two_not_four _ _ _ _ _ _ (sym q.0 ∙ p.1.1.0))
-same_script words name other limits others (inr p) (inr q) =
+same_form : (word : List ℕ) (words : List (List ℕ)) (name other : List ℕ) (limits others : Limits) → IsNameWithLimits word words name limits → IsNameWithLimits word words other others → (name ≡ other) × (limits ≡ others)
+same_form word words name other limits others (inl p) (inl q) = (second_of_two _ _ _ _ (sym p.0 ∙ q.0), p.1 ∙ sym q.1)
+same_form word words name other limits others (inl p) (inr q) = absurd (two_not_four _ _ _ _ _ _ (sym p.0 ∙ q.1.1.0))
+same_form word words name other limits others (inr p) (inl q) = absurd (two_not_four _ _ _ _ _ _ (sym q.0 ∙ p.1.1.0))
+same_form word words name other limits others (inr p) (inr q) =
     let both = sym p.1.1.0 ∙ q.1.1.0 in
     let entries = decimal_injective limits.entries others.entries (omega (arith, p.1.1.1.in_range.most_entries)) (omega (arith, q.1.1.1.in_range.most_entries)) (sym p.1.1.1.entries_are ∙ third_of_four _ _ _ _ _ _ _ _ both ∙ q.1.1.1.entries_are) in
     let octets = decimal_injective limits.octets others.octets (omega (arith, p.1.1.1.in_range.most_octets)) (omega (arith, q.1.1.1.in_range.most_octets)) (sym p.1.1.1.octets_are ∙ last_of_four _ _ _ _ _ _ _ _ both ∙ q.1.1.1.octets_are) in
     (second_of_four _ _ _ _ _ _ _ _ both, same_limits limits others entries octets)
 
 -- words that are of no form give no command
-pub gives_none : (words : List (List ℕ)) → ((name : List ℕ) (limits : Limits) → IsScript words name limits → ⊥) → ((name : List ℕ) → IsCheck words name → ⊥) → (words ≡ codes "--help" ∷ [] → ⊥) → (words ≡ codes "--version" ∷ [] → ⊥) → GivesNone words
-gives_none words no_script_is no_check_is no_help no_version (Check name) is = no_check_is name is
-gives_none words no_script_is no_check_is no_help no_version (Script name limits) is = no_script_is name limits is
-gives_none words no_script_is no_check_is no_help no_version Help is = no_help is
-gives_none words no_script_is no_check_is no_help no_version Version is = no_version is
+pub gives_none : (words : List (List ℕ)) → ((name : List ℕ) (limits : Limits) → IsScript words name limits → ⊥) → ((name : List ℕ) (limits : Limits) → IsInit words name limits → ⊥) → ((name : List ℕ) → IsCheck words name → ⊥) → ((name : List ℕ) → IsLog words name → ⊥) → (words ≡ codes "--help" ∷ [] → ⊥) → (words ≡ codes "--version" ∷ [] → ⊥) → GivesNone words
+gives_none words no_script no_init no_check no_log no_help no_version (Check name) is = no_check name is
+gives_none words no_script no_init no_check no_log no_help no_version (Script name limits) is = no_script name limits is
+gives_none words no_script no_init no_check no_log no_help no_version (Init name limits) is = no_init name limits is
+gives_none words no_script no_init no_check no_log no_help no_version (Log name) is = no_log name is
+gives_none words no_script no_init no_check no_log no_help no_version Help is = no_help is
+gives_none words no_script no_init no_check no_log no_help no_version Version is = no_version is
 
-first_word : (a b : List ℕ) (others more : List (List ℕ)) → a ∷ others ≡ b ∷ more → a ≡ b
-first_word a b others more e = cc
+-- a number that tells the first words of the forms apart: how many octets it has and its first one, added up
+abbrev word_key : List (List ℕ) → ℕ
+word_key [] = 0
+word_key (word ∷ others) = length word + get_or word 0 0
 
--- the octet at this place
-abbrev octet_at : ℕ → List ℕ → ℕ
-octet_at place text = get_or text place 0
+with_limits : (word : List ℕ) (words : List (List ℕ)) (name : List ℕ) (limits : Limits) → IsNameWithLimits word words name limits → word_key words ≡ length word + get_or word 0 0
+with_limits word words name limits (inl is) = ap (λ ws. word_key ws) is.0
+with_limits word words name limits (inr is) = ap (λ ws. word_key ws) is.1.1.0
 
--- the first words of the forms
-script_word : (words : List (List ℕ)) (name : List ℕ) (limits : Limits) → IsScript words name limits → (others : List (List ℕ)) × (words ≡ codes "script" ∷ others)
-script_word words name limits (inl is) = (name ∷ [], is.0)
-script_word words name limits (inr is) = (name ∷ is.0 ∷ is.1.0 ∷ [], is.1.1.0)
+abbrev key : Command → ℕ
+key (Check name) = 104
+key (Script name limits) = 121
+key (Init name limits) = 109
+key (Log name) = 111
+key Help = 51
+key Version = 54
 
-check_not_script : (words : List (List ℕ)) (name other : List ℕ) (limits : Limits) → IsCheck words name → IsScript words other limits → ⊥
-check_not_script words name other limits is also =
-    let word = script_word words other limits also in
-    let octets : 99 ≡ 115 = ap (octet_at 0) (first_word (codes "check") (codes "script") _ _ (sym is ∙ word.1)) in
-    omega (arith, octets)
+has_key : (words : List (List ℕ)) (command : Command) → Gives words command → word_key words ≡ key command
+has_key words (Check name) is = ap (λ ws. word_key ws) is
+has_key words (Script name limits) is = with_limits (codes "script") words name limits is
+has_key words (Init name limits) is = with_limits (codes "init") words name limits is
+has_key words (Log name) is = ap (λ ws. word_key ws) is
+has_key words Help is = ap (λ ws. word_key ws) is
+has_key words Version is = ap (λ ws. word_key ws) is
 
-help_not_script : (words : List (List ℕ)) (name : List ℕ) (limits : Limits) → words ≡ codes "--help" ∷ [] → IsScript words name limits → ⊥
-help_not_script words name limits is also =
-    let word = script_word words name limits also in
-    let octets : 45 ≡ 115 = ap (octet_at 0) (first_word (codes "--help") (codes "script") _ _ (sym is ∙ word.1)) in
-    omega (arith, octets)
+one_key : (words : List (List ℕ)) (a b : Command) → Gives words a → Gives words b → key a ≡ key b
+one_key words a b is also = sym (has_key words a is) ∙ has_key words b also
 
-version_not_script : (words : List (List ℕ)) (name : List ℕ) (limits : Limits) → words ≡ codes "--version" ∷ [] → IsScript words name limits → ⊥
-version_not_script words name limits is also =
-    let word = script_word words name limits also in
-    let octets : 45 ≡ 115 = ap (octet_at 0) (first_word (codes "--version") (codes "script") _ _ (sym is ∙ word.1)) in
-    omega (arith, octets)
+apart : (m n : ℕ) → m < n → m ≡ n → ⊥
+apart m n less same = omega (arith, less, same)
 
-help_not_check : (words : List (List ℕ)) (name : List ℕ) → words ≡ codes "--help" ∷ [] → IsCheck words name → ⊥
-help_not_check words name is also =
-    let octets : 45 ≡ 99 = ap (octet_at 0) (first_word (codes "--help") (codes "check") _ _ (sym is ∙ also)) in
-    omega (arith, octets)
-
-version_not_check : (words : List (List ℕ)) (name : List ℕ) → words ≡ codes "--version" ∷ [] → IsCheck words name → ⊥
-version_not_check words name is also =
-    let octets : 45 ≡ 99 = ap (octet_at 0) (first_word (codes "--version") (codes "check") _ _ (sym is ∙ also)) in
-    omega (arith, octets)
-
-help_not_version : (words : List (List ℕ)) → words ≡ codes "--help" ∷ [] → words ≡ codes "--version" ∷ [] → ⊥
-help_not_version words is also =
-    let octets : 104 ≡ 118 = ap (octet_at 2) (first_word (codes "--help") (codes "--version") _ _ (sym is ∙ also)) in
-    omega (arith, octets)
+apart' : (m n : ℕ) → n < m → m ≡ n → ⊥
+apart' m n less same = omega (arith, less, same)
 
 -- words give one command
 pub one_command : (words : List (List ℕ)) (a b : Command) → Gives words a → Gives words b → a ≡ b
 one_command words (Check name) (Check other) is also = ap (λ n. Check n) (second_of_two _ _ _ _ (sym is ∙ also))
-one_command words (Check name) (Script other limits) is also = absurd (check_not_script words name other limits is also)
-one_command words (Check name) Help is also = absurd (help_not_check words name also is)
-one_command words (Check name) Version is also = absurd (version_not_check words name also is)
-one_command words (Script name limits) (Check other) is also = absurd (check_not_script words other name limits also is)
+one_command words (Check name) (Script other others) is also = absurd (apart 104 121 (omega arith) (one_key words (Check name) (Script other others) is also))
+one_command words (Check name) (Init other others) is also = absurd (apart 104 109 (omega arith) (one_key words (Check name) (Init other others) is also))
+one_command words (Check name) (Log other) is also = absurd (apart 104 111 (omega arith) (one_key words (Check name) (Log other) is also))
+one_command words (Check name) Help is also = absurd (apart' 104 51 (omega arith) (one_key words (Check name) Help is also))
+one_command words (Check name) Version is also = absurd (apart' 104 54 (omega arith) (one_key words (Check name) Version is also))
+one_command words (Script name limits) (Check other) is also = absurd (apart' 121 104 (omega arith) (one_key words (Script name limits) (Check other) is also))
 one_command words (Script name limits) (Script other others) is also =
-    let same = same_script words name other limits others is also in
+    let same = same_form (codes "script") words name other limits others is also in
     ap (λ n. Script n limits) same.0 ∙ ap (λ l. Script other l) same.1
-one_command words (Script name limits) Help is also = absurd (help_not_script words name limits also is)
-one_command words (Script name limits) Version is also = absurd (version_not_script words name limits also is)
-one_command words Help (Check name) is also = absurd (help_not_check words name is also)
-one_command words Help (Script name limits) is also = absurd (help_not_script words name limits is also)
+one_command words (Script name limits) (Init other others) is also = absurd (apart' 121 109 (omega arith) (one_key words (Script name limits) (Init other others) is also))
+one_command words (Script name limits) (Log other) is also = absurd (apart' 121 111 (omega arith) (one_key words (Script name limits) (Log other) is also))
+one_command words (Script name limits) Help is also = absurd (apart' 121 51 (omega arith) (one_key words (Script name limits) Help is also))
+one_command words (Script name limits) Version is also = absurd (apart' 121 54 (omega arith) (one_key words (Script name limits) Version is also))
+one_command words (Init name limits) (Check other) is also = absurd (apart' 109 104 (omega arith) (one_key words (Init name limits) (Check other) is also))
+one_command words (Init name limits) (Script other others) is also = absurd (apart 109 121 (omega arith) (one_key words (Init name limits) (Script other others) is also))
+one_command words (Init name limits) (Init other others) is also =
+    let same = same_form (codes "init") words name other limits others is also in
+    ap (λ n. Init n limits) same.0 ∙ ap (λ l. Init other l) same.1
+one_command words (Init name limits) (Log other) is also = absurd (apart 109 111 (omega arith) (one_key words (Init name limits) (Log other) is also))
+one_command words (Init name limits) Help is also = absurd (apart' 109 51 (omega arith) (one_key words (Init name limits) Help is also))
+one_command words (Init name limits) Version is also = absurd (apart' 109 54 (omega arith) (one_key words (Init name limits) Version is also))
+one_command words (Log name) (Check other) is also = absurd (apart' 111 104 (omega arith) (one_key words (Log name) (Check other) is also))
+one_command words (Log name) (Script other others) is also = absurd (apart 111 121 (omega arith) (one_key words (Log name) (Script other others) is also))
+one_command words (Log name) (Init other others) is also = absurd (apart' 111 109 (omega arith) (one_key words (Log name) (Init other others) is also))
+one_command words (Log name) (Log other) is also = ap (λ n. Log n) (second_of_two _ _ _ _ (sym is ∙ also))
+one_command words (Log name) Help is also = absurd (apart' 111 51 (omega arith) (one_key words (Log name) Help is also))
+one_command words (Log name) Version is also = absurd (apart' 111 54 (omega arith) (one_key words (Log name) Version is also))
+one_command words Help (Check other) is also = absurd (apart 51 104 (omega arith) (one_key words Help (Check other) is also))
+one_command words Help (Script other others) is also = absurd (apart 51 121 (omega arith) (one_key words Help (Script other others) is also))
+one_command words Help (Init other others) is also = absurd (apart 51 109 (omega arith) (one_key words Help (Init other others) is also))
+one_command words Help (Log other) is also = absurd (apart 51 111 (omega arith) (one_key words Help (Log other) is also))
 one_command words Help Help is also = refl
-one_command words Help Version is also = absurd (help_not_version words is also)
-one_command words Version (Check name) is also = absurd (version_not_check words name is also)
-one_command words Version (Script name limits) is also = absurd (version_not_script words name limits is also)
-one_command words Version Help is also = absurd (help_not_version words also is)
+one_command words Help Version is also = absurd (apart 51 54 (omega arith) (one_key words Help Version is also))
+one_command words Version (Check other) is also = absurd (apart 54 104 (omega arith) (one_key words Version (Check other) is also))
+one_command words Version (Script other others) is also = absurd (apart 54 121 (omega arith) (one_key words Version (Script other others) is also))
+one_command words Version (Init other others) is also = absurd (apart 54 109 (omega arith) (one_key words Version (Init other others) is also))
+one_command words Version (Log other) is also = absurd (apart 54 111 (omega arith) (one_key words Version (Log other) is also))
+one_command words Version Help is also = absurd (apart' 54 51 (omega arith) (one_key words Version Help is also))
 one_command words Version Version is also = refl
 
 -- what one command of the words does is what the words ask
-pub does_all : (words : List (List ℕ)) (command : Command) (before after : Environment) (ending : Ending) → Gives words command → Does command before after ending → (other : Command) → Gives words other → Does other before after ending
-does_all words command before after ending is does other also = subst (λ c. Does c before after ending) (one_command words command other is also) does
+pub does_all : (words : List (List ℕ)) (command : Command) (before after : Environment) (left : Option SeenDisk) (ending : Ending) → Gives words command → Does command before after left ending → (other : Command) → Gives words other → Does other before after left ending
+does_all words command before after left ending is does other also = subst (λ c. Does c before after left ending) (one_command words command other is also) does

@@ -6,10 +6,13 @@ use Rattle.std.specs.Global.{Global}
 use Rattle.base_kinds.specs.declared.entry.Limits.{Limits}
 use Rattle.base_kinds.specs.Limits.{AreInRange, default_limits}
 
--- `Check` and `Script` by the name of the schema's file, `Script` with the limits of its commit log
+-- `Check` and `Script` by the name of the schema's file, `Init` and `Log` by that of the journal's; `Script` and `Init` with the
+-- limits of the commit log
 pub data Command : Type 0 where
   Check : List ℕ → Command
   Script : List ℕ → Limits → Command
+  Init : List ℕ → Limits → Command
+  Log : List ℕ → Command
   Help : Command
   Version : Command
 
@@ -23,20 +26,35 @@ pub record AreLimits (entries octets : List ℕ) (limits : Limits) : Type 0 wher
   pub octets_are : octets ≡ decimal limits.octets
   pub in_range : AreInRange limits
 
--- `script`, the name of a schema's file, and limits, or none for the default ones
-abbrev pub IsScript : List (List ℕ) → List ℕ → Limits → Type 0
-IsScript words name limits =
-    ((words ≡ codes "script" ∷ name ∷ []) × (limits ≡ default_limits))
+-- this word, the name of a file, and limits, or none for the default ones
+abbrev pub IsNameWithLimits : List ℕ → List (List ℕ) → List ℕ → Limits → Type 0
+IsNameWithLimits word words name limits =
+    ((words ≡ word ∷ name ∷ []) × (limits ≡ default_limits))
     ⊎ ((entries : List ℕ) × ((octets : List ℕ) ×
-    ((words ≡ codes "script" ∷ name ∷ entries ∷ octets ∷ []) × AreLimits entries octets limits)))
+    ((words ≡ word ∷ name ∷ entries ∷ octets ∷ []) × AreLimits entries octets limits)))
+
+abbrev pub IsScript : List (List ℕ) → List ℕ → Limits → Type 0
+IsScript = IsNameWithLimits (codes "script")
+
+abbrev pub IsInit : List (List ℕ) → List ℕ → Limits → Type 0
+IsInit = IsNameWithLimits (codes "init")
+
+-- this word and the name of a file
+abbrev pub IsName : List ℕ → List (List ℕ) → List ℕ → Type 0
+IsName word words name = words ≡ word ∷ name ∷ []
 
 abbrev pub IsCheck : List (List ℕ) → List ℕ → Type 0
-IsCheck words name = words ≡ codes "check" ∷ name ∷ []
+IsCheck = IsName (codes "check")
+
+abbrev pub IsLog : List (List ℕ) → List ℕ → Type 0
+IsLog = IsName (codes "log")
 
 -- the words give this command
 abbrev pub Gives : List (List ℕ) → Command → Type 0
 Gives words (Check name) = IsCheck words name
 Gives words (Script name limits) = IsScript words name limits
+Gives words (Init name limits) = IsInit words name limits
+Gives words (Log name) = IsLog words name
 Gives words Help = words ≡ codes "--help" ∷ []
 Gives words Version = words ≡ codes "--version" ∷ []
 

@@ -1,57 +1,116 @@
 -- What is seen of the environment at one moment: what its objects have given and taken so far, and how often they failed.
--- Input.antt and Output.antt of edge_traits say it of the two streams.
+-- Input.antt and Output.antt of edge_traits say it of the two streams, Content.antt of disk_model of a disk.
 use Rattle.std.specs.Prelude.{◌≡◌, ℕ, ◌+◌, List, [], ◌∷◌, ◌++◌, Option, Some, None, IfSome, Contains, Result, Ok, Err}
 use Rattle.edge_traits.specs.Input.{Input}
 use Rattle.edge_traits.specs.Output.{Output}
+use Rattle.edge_traits.specs.declared.streams.Failed.{Failed}
 use Rattle.edge_traits.specs.declared.reading.ReadFault.{ReadFault}
-use Rattle.edge_traits.specs.declared.reading.ReadFault.TheVariants.{Failed, NoMemory}
+use Rattle.edge_traits.specs.declared.reading.ReadFault.TheVariants as reads
+use Rattle.disk_model.specs.Content.{Content}
+use Rattle.target_top.specs.declared.files.DiskFile.{DiskFile}
 use Rattle.target_top.specs.declared.files_record.NamedText.{NamedText}
 
--- of files that are read as texts: the names that were asked for, in order, the texts that were given, each with its file's
--- name, how many reads failed, and all the texts that there are, where the files tell them
-pub record TextFiles : Type 0 where
+-- Of files. Of those that are read as texts: the names that were asked for, in order, the texts that were given, each with its
+-- file's name, how many reads failed, and all the texts that there are, where the files tell them. Of those that are used as
+-- disks: the names that were asked for, in order, how often no disk was given, and the octets of all that there are, where
+-- the files tell them.
+pub record SeenFiles : Type 0 where
   pub asked : List (List ℕ)
   pub given : List NamedText
   pub faults : ℕ
   pub held : Option (List NamedText)
+  pub disks_asked : List (List ℕ)
+  pub disk_faults : ℕ
+  pub disks_held : Option (List NamedText)
+
+-- of a disk: what it tells of its content, where it does, and how often it has failed
+pub record SeenDisk : Type 0 where
+  pub told : Option Content
+  pub faults : ℕ
 
 pub record Environment : Type 0 where
-  pub files : TextFiles
+  pub files : SeenFiles
   pub input : Input
   pub output : Output
 
 -- nothing was asked for as yet
-abbrev pub unread_files : TextFiles
-unread_files = record { asked = []; given = []; faults = 0; held = None }
+abbrev pub unread_files : SeenFiles
+unread_files = record {
+  asked = [];
+  given = [];
+  faults = 0;
+  held = None;
+  disks_asked = [];
+  disk_faults = 0;
+  disks_held = None;
+}
 
 -- the files after one of this name was asked for
-abbrev pub files_after_ask : List ℕ → TextFiles → TextFiles
+abbrev pub files_after_ask : List ℕ → SeenFiles → SeenFiles
 files_after_ask name files = record files { asked = files.asked ++ name ∷ [] }
 
 -- the files after they gave a text
-abbrev pub files_with_text : NamedText → TextFiles → TextFiles
+abbrev pub files_with_text : NamedText → SeenFiles → SeenFiles
 files_with_text text files = record files { given = files.given ++ text ∷ [] }
 
 -- the files after a read failed
-abbrev pub files_with_fault : TextFiles → TextFiles
+abbrev pub files_with_fault : SeenFiles → SeenFiles
 files_with_fault files = record files { faults = files.faults + 1 }
 
 -- the file of this name was asked for and gave this text; no other one was asked for, and nothing failed
-pub record GaveText (name text : List ℕ) (old new : TextFiles) : Type 0 where
+pub record GaveText (name text : List ℕ) (old new : SeenFiles) : Type 0 where
   pub given : new ≡ files_with_text (record { name = name; text = text }) (files_after_ask name old)
   pub held : IfSome old.held (λ texts. Contains texts (record { name = name; text = text }))
 
 -- the file of this name was asked for and failed, and no other one was asked for
-abbrev pub FailedToGive : List ℕ → TextFiles → TextFiles → Type 0
+abbrev pub FailedToGive : List ℕ → SeenFiles → SeenFiles → Type 0
 FailedToGive name old new = new ≡ files_with_fault (files_after_ask name old)
 
 -- what asking for the file of this name answers: its text, or that it failed, or that memory was wanting for the text
-abbrev pub TextGives : List ℕ → Result (List ℕ) ReadFault → TextFiles → TextFiles → Type 0
+abbrev pub TextGives : List ℕ → Result (List ℕ) ReadFault → SeenFiles → SeenFiles → Type 0
 TextGives name (Ok text) old new = GaveText name text old new
-TextGives name (Err Failed) old new = FailedToGive name old new
-TextGives name (Err NoMemory) old new = new ≡ files_after_ask name old
+TextGives name (Err reads.Failed) old new = FailedToGive name old new
+TextGives name (Err reads.NoMemory) old new = new ≡ files_after_ask name old
 
--- the one text that files in memory have, or none
+-- one text under its name, or none: all that files in memory have
 abbrev pub texts_of : List ℕ → Option (List ℕ) → List NamedText
 texts_of name (Some text) = record { name = name; text = text } ∷ []
 texts_of name None = []
+
+-- the files after one of this name was asked for as a disk
+abbrev pub files_after_disk : List ℕ → SeenFiles → SeenFiles
+files_after_disk name files = record files { disks_asked = files.disks_asked ++ name ∷ [] }
+
+-- the files after no disk was given
+abbrev pub files_with_disk_fault : SeenFiles → SeenFiles
+files_with_disk_fault files = record files { disk_faults = files.disk_faults + 1 }
+
+-- a disk of this name, which tells this, is among these
+pub record IsDiskOf (name : List ℕ) (told : Option Content) (disks : List NamedText) : Type 0 where
+  pub content : Content
+  pub tells : told ≡ Some content
+  pub held : Contains disks (record { name = name; text = content.seen })
+
+-- the file of this name was asked for and given as a disk that hasn't failed yet, and no other one was asked for
+pub record GaveDisk (name : List ℕ) (disk : SeenDisk) (old new : SeenFiles) : Type 0 where
+  pub asked : new ≡ files_after_disk name old
+  pub quiet : disk.faults ≡ 0
+  pub held : IfSome old.disks_held (λ disks. IsDiskOf name disk.told disks)
+
+-- the file of this name was asked for and no disk was given, and no other one was asked for
+abbrev pub FailedToGiveDisk : List ℕ → SeenFiles → SeenFiles → Type 0
+FailedToGiveDisk name old new = new ≡ files_with_disk_fault (files_after_disk name old)
+
+module _ {D : Type 0} (told : D → Option Content) (faults : D → ℕ) where
+  abbrev pub seen_disk : D → SeenDisk
+  seen_disk disk = record { told = told disk; faults = faults disk }
+
+  -- what asking for the disk of this name answers: the disk, or that there is none
+  abbrev pub DiskGives : List ℕ → Result D Failed → SeenFiles → SeenFiles → Type 0
+  DiskGives name (Ok disk) old new = GaveDisk name (seen_disk disk) old new
+  DiskGives name (Err failed) old new = FailedToGiveDisk name old new
+
+-- the one disk that files in memory have, or none
+abbrev pub disks_of : Option DiskFile → List NamedText
+disks_of (Some file) = record { name = file.name; text = file.octets } ∷ []
+disks_of None = []

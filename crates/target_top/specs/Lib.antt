@@ -3,6 +3,9 @@ pub mod Commands
 pub mod Ending
 pub mod Environment
 pub mod HelpRun
+pub mod InitRun
+pub mod JournalFile
+pub mod LogRun
 pub mod Printing
 pub mod Run
 pub mod SchemaFile

@@ -1,33 +1,47 @@
 -- THE THEOREM. What every run of the program is, whatever its words, its files and its input hold.
--- Commands.antt says how a command is written, Environment.antt what is seen of the files, the input and the output,
+-- Commands.antt says how a command is written, Environment.antt what is seen of the files, a disk, the input and the output,
 -- Ending.antt what a status means, and one file a command what it does. docs/THEOREM.md says the same in words.
-use Rattle.std.specs.Prelude.{◌≡◌, ℕ, List, codes}
+use Rattle.std.specs.Prelude.{◌≡◌, ℕ, List, codes, Option, None}
 use Rattle.target_top.specs.declared.ending.Ending.{Ending}
 use Rattle.target_top.specs.declared.ending.Ending.TheVariants.{BadWords}
 use Rattle.target_top.specs.Ending.{exit_status}
-use Rattle.target_top.specs.Environment.{Environment}
+use Rattle.target_top.specs.Environment.{Environment, SeenDisk}
 use Rattle.target_top.specs.Printing.{SaysLast}
-use Rattle.target_top.specs.Commands.{Command, Check, Script, Help, Version, Gives, GivesNone}
+use Rattle.target_top.specs.Commands.{Command, Check, Script, Init, Log, Help, Version, Gives, GivesNone}
 use Rattle.target_top.specs.CheckRun.{CheckRun}
 use Rattle.target_top.specs.HelpRun.{PrintsAlone, help_text, version_text}
+use Rattle.target_top.specs.InitRun.{InitRun}
+use Rattle.target_top.specs.LogRun.{LogRun}
 use Rattle.target_top.specs.ScriptRun.{ScriptRun}
 
--- what each command does
-abbrev pub Does : Command → Environment → Environment → Ending → Type 0
-Does (Check schema) = CheckRun schema
-Does (Script schema limits) = ScriptRun schema limits
-Does Help = PrintsAlone help_text
-Does Version = PrintsAlone version_text
+-- the work is done, and no disk is handed back
+abbrev pub WithoutDisk : Type 0 → Option SeenDisk → Type 0
+WithoutDisk Work left = Work × (left ≡ None)
+
+-- what each command does; `left` is the disk that is handed back
+abbrev pub Does : Command → Environment → Environment → Option SeenDisk → Ending → Type 0
+Does (Check schema) before after left ending = WithoutDisk (CheckRun schema before after ending) left
+Does (Script schema limits) before after left ending =
+    WithoutDisk (ScriptRun schema limits before after ending) left
+Does (Init journal limits) before after left ending = InitRun journal limits before after left ending
+Does (Log journal) before after left ending = LogRun journal before after left ending
+Does Help before after left ending = WithoutDisk (PrintsAlone help_text before after ending) left
+Does Version before after left ending =
+    WithoutDisk (PrintsAlone version_text before after ending) left
 
 -- words that give no command are refused, and nothing is read
-pub record Refuses (before after : Environment) (ending : Ending) : Type 0 where
+pub record Refuses
+    (before after : Environment) (left : Option SeenDisk) (ending : Ending) : Type 0 where
   pub ends : ending ≡ BadWords
+  pub no_disk : left ≡ None
   pub files : after.files ≡ before.files
   pub input : after.input ≡ before.input
   pub line : SaysLast (codes "bad words\n") before.output after.output
 
-pub record Run (words : List (List ℕ)) (before after : Environment) (status : ℕ) : Type 0 where
+pub record Run
+    (words : List (List ℕ)) (before after : Environment) (left : Option SeenDisk) (status : ℕ)
+    : Type 0 where
   pub ending : Ending
   pub status_is : status ≡ exit_status ending
-  pub done : (command : Command) → Gives words command → Does command before after ending
-  pub refused : GivesNone words → Refuses before after ending
+  pub done : (command : Command) → Gives words command → Does command before after left ending
+  pub refused : GivesNone words → Refuses before after left ending

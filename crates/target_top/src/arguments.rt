@@ -1,26 +1,27 @@
 ghost use Rattle.std.specs.Prelude.{◌≡◌, ◌<◌, ◌^◌, ◌↔◌, ◌∷◌, [], IsTrue, List, ℕ, IfSome, IfNone};
 ghost use Rattle.std.specs.Fmt.{decimal};
 ghost use Rattle.base_kinds.specs.declared.entry.Limits.{Limits as LogLimits};
-ghost use Rattle.target_top.specs.Commands.{AreLimits, IsCheck, IsScript, octets_of_words};
+ghost use Rattle.target_top.specs.Commands.{AreLimits, IsName, IsNameWithLimits, octets_of_words};
 
 use base_kinds::{Limits, default_limits};
 use plain_texts::natural_of;
 
-/// The name and the limits of a script, where the words are those of one.
-pub fn script_words(words: &[String]) -> Option<(&str, Limits)>
-    ensures some { IfSome result (λ form. IsScript (octets_of_words words.now) form.0.now form.1) }
+/// The name and the limits behind this word, where the words are of that form.
+pub fn name_with_limits<'a>(words: &'a [String], word: &str) -> Option<(&'a str, Limits)>
+    ensures some { IfSome result (λ form.
+        IsNameWithLimits word.now (octets_of_words words.now) form.0.now form.1) }
     ensures none { IfNone result ((name : List ℕ) (limits : LogLimits) →
-        IsScript (octets_of_words words.now) name limits → ⊥) }
+        IsNameWithLimits word.now (octets_of_words words.now) name limits → ⊥) }
 {
     match words {
-        [word, name] => {
-            if word.as_str() == "script" {
+        [first, name] => {
+            if first.as_str() == word {
                 return Some((name.as_str(), default_limits()));
             }
             None
         }
-        [word, name, entries, octets] => {
-            if word.as_str() == "script" {
+        [first, name, entries, octets] => {
+            if first.as_str() == word {
                 let limits = limits_of(entries.as_str(), octets.as_str())?;
                 return Some((name.as_str(), limits));
             }
@@ -30,14 +31,16 @@ pub fn script_words(words: &[String]) -> Option<(&str, Limits)>
     }
 }
 
-/// The name behind `check`, where the words are these two.
-pub fn checked_name(words: &[String]) -> Option<&str>
-    ensures name { IfSome result (λ name. IsCheck (octets_of_words words.now) name.now) }
-    ensures none { IfNone result ((name : List ℕ) → IsCheck (octets_of_words words.now) name → ⊥) }
+/// The name behind this word, where the words are these two.
+pub fn name_behind<'a>(words: &'a [String], word: &str) -> Option<&'a str>
+    ensures name { IfSome result (λ name.
+        IsName word.now (octets_of_words words.now) name.now) }
+    ensures none { IfNone result ((name : List ℕ) →
+        IsName word.now (octets_of_words words.now) name → ⊥) }
 {
     match words {
-        [word, name] => {
-            if word.as_str() == "check" {
+        [first, name] => {
+            if first.as_str() == word {
                 return Some(name.as_str());
             }
             None

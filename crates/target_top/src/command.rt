@@ -2,7 +2,7 @@ ghost use Rattle.std.specs.Prelude.{IfSome, IfNone};
 ghost use Rattle.target_top.specs.Commands.{Gives, GivesNone, octets_of_words};
 ghost use Rattle.target_top.specs.inner.ParsedCommand.{command_parsed};
 
-use crate::arguments::{checked_name, only_word, script_words};
+use crate::arguments::{name_behind, name_with_limits, only_word};
 use base_kinds::Limits;
 
 /// What the words of a run ask for.
@@ -10,6 +10,8 @@ use base_kinds::Limits;
 pub enum Command<'a> {
     Check { schema: &'a str },
     Script { schema: &'a str, limits: Limits },
+    Init { journal: &'a str, limits: Limits },
+    Log { journal: &'a str },
     Help,
     Version,
 }
@@ -20,11 +22,17 @@ pub fn command_of(words: &[String]) -> Option<Command<'_>>
         Gives (octets_of_words words.now) (command_parsed command)) }
     ensures none { IfNone result (GivesNone (octets_of_words words.now)) }
 {
-    if let Some((schema, limits)) = script_words(words) {
+    if let Some((schema, limits)) = name_with_limits(words, "script") {
         return Some(Command::Script { schema, limits });
     }
-    if let Some(schema) = checked_name(words) {
+    if let Some((journal, limits)) = name_with_limits(words, "init") {
+        return Some(Command::Init { journal, limits });
+    }
+    if let Some(schema) = name_behind(words, "check") {
         return Some(Command::Check { schema });
+    }
+    if let Some(journal) = name_behind(words, "log") {
+        return Some(Command::Log { journal });
     }
     if only_word(words, "--help") {
         return Some(Command::Help);

@@ -1,5 +1,6 @@
 ghost use Rattle.std.specs.Prelude.{◌≡◌};
 ghost use Rattle.target_top.specs.Environment.{unread_files, files_after_ask, files_with_text, files_with_fault};
+ghost use Rattle.target_top.specs.Environment.{files_after_disk, files_with_disk_fault};
 
 use base_lists::{Remembered, Tally, remember_all};
 use std::marker::Model;
@@ -17,19 +18,24 @@ pub struct FilesRecord {
     asked: Remembered<Remembered<u8>>,
     given: Remembered<NamedText>,
     faults: Tally,
+    disks_asked: Remembered<Remembered<u8>>,
+    disk_faults: Tally,
 }
 
 impl Model for FilesRecord {
     ghost use Rattle.std.specs.Prelude.{None};
-    ghost use Rattle.target_top.specs.Environment.{TextFiles};
+    ghost use Rattle.target_top.specs.Environment.{SeenFiles};
 
-    ghost Value = { TextFiles };
+    ghost Value = { SeenFiles };
 
     ghost view = { λ r. record {
       asked = r.asked;
       given = r.given;
       faults = r.faults;
       held = None;
+      disks_asked = r.disks_asked;
+      disk_faults = r.disk_faults;
+      disks_held = None;
     } };
 }
 
@@ -41,6 +47,8 @@ impl FilesRecord {
             asked: Remembered::nothing(),
             given: Remembered::nothing(),
             faults: Tally::zero(),
+            disks_asked: Remembered::nothing(),
+            disk_faults: Tally::zero(),
         }
     }
 
@@ -65,6 +73,22 @@ impl FilesRecord {
         remember_all(&mut named.name, name.as_bytes());
         remember_all(&mut named.text, text);
         self.given.remember(&named);
+    }
+
+    /// The file with this name is asked for as a disk.
+    pub fn asked_for_disk(&mut self, name: &str)
+        ensures { self.new ≡ files_after_disk name.now self.old }
+    {
+        let mut octets = Remembered::nothing();
+        remember_all(&mut octets, name.as_bytes());
+        self.disks_asked.remember(&octets);
+    }
+
+    /// No disk was given.
+    pub fn gave_no_disk(&mut self)
+        ensures { self.new ≡ files_with_disk_fault self.old }
+    {
+        self.disk_faults.rise();
     }
 
     /// A file has failed.

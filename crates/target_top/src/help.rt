@@ -22,5 +22,5 @@ pub fn version<K: Kit>(host: &mut Host<K>) -> Ending
 fn help_text() -> &'static [u8]
     ensures { result.now ≡ help_text }
 {
-    b"check SCHEMA: print how many nodes the schema in the file SCHEMA has, or its first fault\nscript SCHEMA: run the script on standard input under the schema, and print its answers and its log\nscript SCHEMA ENTRIES OCTETS: the same, with a log of at most ENTRIES entries and OCTETS octets\n--help: print these lines\n--version: print the name and the version of the program\n"
+    b"check SCHEMA: print how many nodes the schema in the file SCHEMA has, or its first fault\ninit JOURNAL: write a journal without entries into the file JOURNAL, which must be empty or not there yet\ninit JOURNAL ENTRIES OCTETS: the same, for a log of at most ENTRIES entries and OCTETS octets\nlog JOURNAL: print the commit log in the journal in the file JOURNAL\nscript SCHEMA: run the script on standard input under the schema, and print its answers and its log\nscript SCHEMA ENTRIES OCTETS: the same, with a log of at most ENTRIES entries and OCTETS octets\n--help: print these lines\n--version: print the name and the version of the program\n"
 }

@@ -11,14 +11,17 @@ mod files;
 mod files_record;
 mod help;
 mod host;
+mod init_command;
+mod journal_file;
 mod laws;
+mod log_command;
 mod printing;
 mod program;
 mod schema_file;
 mod script_command;
 
 pub use ending::Ending;
-pub use files::{Files, MemFiles};
+pub use files::{DiskFile, Files, MemFiles};
 pub use files_record::{FilesRecord, NamedText};
 pub use host::{Host, Kit};
 pub use laws::{

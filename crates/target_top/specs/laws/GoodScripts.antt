@@ -1,5 +1,5 @@
 -- What a run of a script does whose every line is one of a script: words, schema and script are in their grammars.
-use Rattle.std.specs.Prelude.{◌≡◌, ℕ, List, ◌⊎◌, false, Ok}
+use Rattle.std.specs.Prelude.{◌≡◌, ℕ, List, ◌⊎◌, false, Ok, Option}
 use Rattle.edge_traits.specs.Input.{ReadsToLimit}
 use Rattle.base_kinds.specs.declared.entry.Limits.{Limits}
 use Rattle.base_kinds.specs.Limits.{most_script_octets}
@@ -13,7 +13,7 @@ use Rattle.script_run.specs.laws.ScriptLaws.{script_events}
 use Rattle.script_run.specs.laws.ScriptTexts.{AreScriptLines, events_text}
 use Rattle.target_top.specs.declared.ending.Ending.TheVariants.{Done, NoMemory}
 use Rattle.target_top.specs.Ending.{exit_status}
-use Rattle.target_top.specs.Environment.{Environment, GaveText}
+use Rattle.target_top.specs.Environment.{Environment, SeenDisk, GaveText}
 use Rattle.target_top.specs.Commands.{IsScript}
 use Rattle.target_top.specs.Run.{Run}
 use Rattle.target_top.specs.laws.RunLaws.{NothingFailed, WroteAndEnded}
@@ -34,8 +34,9 @@ pub record RanLines
 abbrev pub CompletesGoodScripts : Type 0
 CompletesGoodScripts =
     (words : List (List ℕ)) (name : List ℕ) (limits : Limits) (before after : Environment)
-    (status : ℕ) →
-    IsScript words name limits → Run words before after status → NothingFailed before after →
+    (left : Option SeenDisk) (status : ℕ) →
+    IsScript words name limits → Run words before after left status →
+    NothingFailed before after left →
     (status ≡ exit_status NoMemory)
     ⊎ ((text : List ℕ) × GaveText name text before.files after.files
     × ((schema : List SchemaNode) → schema_of text ≡ Ok schema →

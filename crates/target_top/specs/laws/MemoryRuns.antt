@@ -4,17 +4,26 @@ use Rattle.edge_traits.specs.Input.{Input, unread_input}
 use Rattle.edge_traits.specs.Output.{Output, Wrote, unwritten_output}
 use Rattle.target_top.specs.declared.ending.Ending.TheVariants.{NoMemory}
 use Rattle.target_top.specs.Ending.{exit_status}
-use Rattle.target_top.specs.Environment.{Environment, unread_files, texts_of}
+use Rattle.target_top.specs.Environment.{Environment, SeenDisk, unread_files, texts_of}
 use Rattle.target_top.specs.Run.{Run}
 use Rattle.target_top.specs.laws.RunLaws.{NothingFailed}
 use Rattle.target_top.specs.laws.WordLaws.{AreDecided}
 
--- nothing was asked for, read or written as yet; the files hold one text under this name, or none, and the input these octets
-pub record IsFreshMemory
-    (name : List ℕ) (text : Option (List ℕ)) (octets : List ℕ) (environment : Environment)
-    : Type 0 where
-  pub files : environment.files ≡ record unread_files { held = Some (texts_of name text) }
-  pub input : environment.input ≡ record unread_input { left = Some octets }
+-- what memory holds for a run: one text under its name, or none, one disk's octets under their name, or none, and the input
+pub record Memory : Type 0 where
+  pub name : List ℕ
+  pub text : Option (List ℕ)
+  pub disk_name : List ℕ
+  pub disk : Option (List ℕ)
+  pub octets : List ℕ
+
+-- nothing was asked for, read or written as yet, and files and input hold this
+pub record IsFreshMemory (memory : Memory) (environment : Environment) : Type 0 where
+  pub files : environment.files ≡ record unread_files {
+    held = Some (texts_of memory.name memory.text);
+    disks_held = Some (texts_of memory.disk_name memory.disk);
+  }
+  pub input : environment.input ≡ record unread_input { left = Some memory.octets }
   pub output : environment.output ≡ unwritten_output
 
 -- what the input has given and what it has left, together, are these octets
@@ -26,13 +35,15 @@ pub record IsInputOf (octets : List ℕ) (input : Input) : Type 0 where
 -- a run loses no octet of an input in memory: what it read and what it left are what there was
 abbrev pub LosesNoOctet : Type 0
 LosesNoOctet =
-    (words : List (List ℕ)) (octets : List ℕ) (before after : Environment) (status : ℕ) →
-    AreDecided words → Run words before after status →
+    (words : List (List ℕ)) (octets : List ℕ) (before after : Environment)
+    (left : Option SeenDisk) (status : ℕ) →
+    AreDecided words → Run words before after left status →
     IsInputOf octets before.input → IsInputOf octets after.input
 
 -- the run ended with this status, nothing failed and memory was there
-pub record WentWell (before after : Environment) (status : ℕ) : Type 0 where
-  pub quiet : NothingFailed before after
+pub record WentWell
+    (before after : Environment) (left : Option SeenDisk) (status : ℕ) : Type 0 where
+  pub quiet : NothingFailed before after left
   pub memory : status ≡ exit_status NoMemory → ⊥
 
 -- both runs wrote this text, and nothing else, and ended alike
@@ -45,8 +56,9 @@ pub record WroteAlike (one other : Output) (status status' : ℕ) : Type 0 where
 -- two runs with the same words over fresh and equal objects in memory, which both go well, write the same
 abbrev pub RunsAlike : Type 0
 RunsAlike =
-    (words : List (List ℕ)) (name : List ℕ) (text : Option (List ℕ)) (octets : List ℕ)
-    (a b c d : Environment) (status status' : ℕ) →
-    AreDecided words → IsFreshMemory name text octets a → IsFreshMemory name text octets c →
-    Run words a b status → Run words c d status' →
-    WentWell a b status → WentWell c d status' → WroteAlike b.output d.output status status'
+    (words : List (List ℕ)) (memory : Memory) (a b c d : Environment)
+    (left left' : Option SeenDisk) (status status' : ℕ) →
+    AreDecided words → IsFreshMemory memory a → IsFreshMemory memory c →
+    Run words a b left status → Run words c d left' status' →
+    WentWell a b left status → WentWell c d left' status' →
+    WroteAlike b.output d.output status status'

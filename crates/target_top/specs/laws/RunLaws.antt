@@ -1,25 +1,34 @@
 -- What follows of runs in which nothing fails: each ends as its command says, unless memory is wanting.
-use Rattle.std.specs.Prelude.{◌≡◌, ℕ, List, ◌⊎◌, Bool, Some, Result, Ok, Err}
+use Rattle.std.specs.Prelude.{◌≡◌, ℕ, List, ◌≢◌, [], ◌⊎◌, codes, Bool, Option, Some, IfSome, Result, Ok, Err}
 use Rattle.edge_traits.specs.Input.{ReadsToLimit}
 use Rattle.edge_traits.specs.Output.{Output, Wrote}
+use Rattle.base_kinds.specs.declared.entry.Entry.{Entry}
 use Rattle.base_kinds.specs.declared.entry.Limits.{Limits}
 use Rattle.base_kinds.specs.Limits.{most_script_octets}
 use Rattle.base_kinds.specs.Schema.{SchemaNode}
 use Rattle.schema_text.specs.declared.cause.SchemaFault.{SchemaFault}
 use Rattle.schema_text.specs.Schemas.{schema_of}
+use Rattle.disk_model.specs.Content.{WhereTold, Tells}
+use Rattle.journal_format.specs.Journal.{IsJournal, IsDamaged}
+use Rattle.commit_journal.specs.Writes.{Creates}
+use Rattle.commit_report.specs.Logs.{log_text}
 use Rattle.script_run.specs.Scripts.{RunsScript}
 use Rattle.target_top.specs.declared.ending.Ending.TheVariants.{Done, NoMemory, NoSchema}
+use Rattle.target_top.specs.declared.ending.Ending.TheVariants.{JournalNotEmpty, JournalDamaged}
 use Rattle.target_top.specs.Ending.{exit_status}
-use Rattle.target_top.specs.Environment.{Environment, GaveText}
+use Rattle.target_top.specs.Environment.{Environment, SeenDisk, GaveText, GaveDisk}
 use Rattle.target_top.specs.CheckRun.{count_line}
-use Rattle.target_top.specs.Commands.{IsCheck, IsScript}
+use Rattle.target_top.specs.LogRun.{damage_line}
+use Rattle.target_top.specs.Commands.{IsCheck, IsScript, IsInit, IsLog}
 use Rattle.target_top.specs.Run.{Run}
 use Rattle.target_top.specs.SchemaFile.{fault_line}
 use Rattle.target_top.specs.ScriptRun.{script_ending}
 
--- no object failed in the run
-pub record NothingFailed (before after : Environment) : Type 0 where
+-- no object failed in the run, the disk that is handed back among them
+pub record NothingFailed (before after : Environment) (left : Option SeenDisk) : Type 0 where
   pub files : after.files.faults ≡ before.files.faults
+  pub disks : after.files.disk_faults ≡ before.files.disk_faults
+  pub disk : IfSome left (λ disk. disk.faults ≡ 0)
   pub input : after.input.faults ≡ before.input.faults
   pub output : after.output.faults ≡ before.output.faults
 
@@ -37,8 +46,10 @@ CheckedAs (Err fault) old new status =
 -- a check in which nothing fails writes the line of the file's text, unless memory is wanting
 abbrev pub CompletesChecks : Type 0
 CompletesChecks =
-    (words : List (List ℕ)) (name : List ℕ) (before after : Environment) (status : ℕ) →
-    IsCheck words name → Run words before after status → NothingFailed before after →
+    (words : List (List ℕ)) (name : List ℕ) (before after : Environment)
+    (left : Option SeenDisk) (status : ℕ) →
+    IsCheck words name → Run words before after left status →
+    NothingFailed before after left →
     (status ≡ exit_status NoMemory)
     ⊎ ((text : List ℕ) × GaveText name text before.files after.files
     × CheckedAs (schema_of text) before.output after.output status)
@@ -65,11 +76,50 @@ RanAs (Err fault) limits before after status =
 abbrev pub CompletesScripts : Type 0
 CompletesScripts =
     (words : List (List ℕ)) (name : List ℕ) (limits : Limits) (before after : Environment)
-    (status : ℕ) →
-    IsScript words name limits → Run words before after status → NothingFailed before after →
+    (left : Option SeenDisk) (status : ℕ) →
+    IsScript words name limits → Run words before after left status →
+    NothingFailed before after left →
     (status ≡ exit_status NoMemory)
     ⊎ ((text : List ℕ) × GaveText name text before.files after.files
     × RanAs (schema_of text) limits before after status)
+
+-- the journal was made on an empty disk, or the disk holds octets and was left as it was; and the one or the other was said
+abbrev pub PreparedAs : Limits → SeenDisk → SeenDisk → Output → Output → ℕ → Type 0
+PreparedAs limits given disk old new status =
+    (WhereTold given.told disk.told (Creates limits)
+    × WroteAndEnded (codes "journal ready\n") (exit_status Done) old new status)
+    ⊎ (Tells given.told (λ content. content.seen ≢ []) × (disk ≡ given)
+    × WroteAndEnded (codes "journal not empty\n") (exit_status JournalNotEmpty) old new status)
+
+-- `init` in which nothing fails does so, unless memory is wanting
+abbrev pub CompletesInits : Type 0
+CompletesInits =
+    (words : List (List ℕ)) (name : List ℕ) (limits : Limits) (before after : Environment)
+    (left : Option SeenDisk) (status : ℕ) →
+    IsInit words name limits → Run words before after left status →
+    NothingFailed before after left →
+    (status ≡ exit_status NoMemory)
+    ⊎ ((given : SeenDisk) × (disk : SeenDisk) × GaveDisk name given before.files after.files
+    × (left ≡ Some disk) × PreparedAs limits given disk before.output after.output status)
+
+-- the octets of the disk are a journal, and its log was written; or they are none, and the first place of damage was
+abbrev pub ListedAs : SeenDisk → Output → Output → ℕ → Type 0
+ListedAs given old new status =
+    ((limits : Limits) × (history : List Entry)
+    × Tells given.told (λ content. IsJournal content.seen limits history)
+    × WroteAndEnded (log_text history) (exit_status Done) old new status)
+    ⊎ ((place : ℕ) × Tells given.told (λ content. IsDamaged content.seen place)
+    × WroteAndEnded (damage_line place) (exit_status JournalDamaged) old new status)
+
+-- `log` in which nothing fails does so, unless memory is wanting
+abbrev pub CompletesLogs : Type 0
+CompletesLogs =
+    (words : List (List ℕ)) (name : List ℕ) (before after : Environment)
+    (left : Option SeenDisk) (status : ℕ) →
+    IsLog words name → Run words before after left status → NothingFailed before after left →
+    (status ≡ exit_status NoMemory)
+    ⊎ ((given : SeenDisk) × GaveDisk name given before.files after.files
+    × ListedAs given before.output after.output status)
 
 -- of an input that tells what is left the whole is answered: what is not read changes nothing
 abbrev pub AnswersWhole : Type 0

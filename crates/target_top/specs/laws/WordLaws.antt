@@ -1,8 +1,8 @@
 -- What the words of a run decide.
-use Rattle.std.specs.Prelude.{◌≡◌, ℕ, List, ◌⊎◌, codes}
+use Rattle.std.specs.Prelude.{◌≡◌, ℕ, List, ◌⊎◌, codes, Option}
 use Rattle.target_top.specs.declared.ending.Ending.TheVariants.{Done, BadWords}
 use Rattle.target_top.specs.Ending.{exit_status}
-use Rattle.target_top.specs.Environment.{Environment}
+use Rattle.target_top.specs.Environment.{Environment, SeenDisk}
 use Rattle.target_top.specs.Commands.{Command, Help, Version, Gives, GivesNone}
 use Rattle.target_top.specs.HelpRun.{help_text, version_text}
 use Rattle.target_top.specs.Run.{Run}
@@ -21,8 +21,10 @@ GiveOneCommand =
 -- a run that needs nothing of the environment but the output writes this text, where that doesn't fail
 abbrev pub CompletesAlone : Command → List ℕ → Type 0
 CompletesAlone command text =
-    (words : List (List ℕ)) (before after : Environment) (status : ℕ) →
-    Gives words command → Run words before after status → NothingFailed before after →
+    (words : List (List ℕ)) (before after : Environment)
+    (left : Option SeenDisk) (status : ℕ) →
+    Gives words command → Run words before after left status →
+    NothingFailed before after left →
     WroteAndEnded text (exit_status Done) before.output after.output status
 
 abbrev pub CompletesHelp : Type 0
@@ -34,6 +36,8 @@ CompletesVersion = CompletesAlone Version version_text
 -- words that give no command are answered with `bad words`, where the output doesn't fail
 abbrev pub CompletesRefusals : Type 0
 CompletesRefusals =
-    (words : List (List ℕ)) (before after : Environment) (status : ℕ) →
-    GivesNone words → Run words before after status → NothingFailed before after →
+    (words : List (List ℕ)) (before after : Environment)
+    (left : Option SeenDisk) (status : ℕ) →
+    GivesNone words → Run words before after left status →
+    NothingFailed before after left →
     WroteAndEnded (codes "bad words\n") (exit_status BadWords) before.output after.output status

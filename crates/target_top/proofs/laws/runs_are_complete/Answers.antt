@@ -1,6 +1,6 @@
 use Rattle.target_top.proofs.GoodScripts.{good_scripts_complete}
 use Rattle.target_top.proofs.WordLaws.{help_completes, version_completes, refusals_complete}
-use Rattle.target_top.proofs.RunLaws.{checks_complete, scripts_complete}
+use Rattle.target_top.proofs.RunLaws.{checks_complete, scripts_complete, inits_complete, logs_complete}
 use Rattle.target_top.proofs.laws.runs_are_complete.Goals as goal
 
 pub returns-clause-checks : goal.returns-clause-checks
@@ -8,6 +8,12 @@ returns-clause-checks c = checks_complete
 
 pub returns-clause-scripts : goal.returns-clause-scripts
 returns-clause-scripts c = scripts_complete
+
+pub returns-clause-inits : goal.returns-clause-inits
+returns-clause-inits c = inits_complete
+
+pub returns-clause-logs : goal.returns-clause-logs
+returns-clause-logs c = logs_complete
 
 pub returns-clause-help : goal.returns-clause-help
 returns-clause-help c = help_completes

@@ -1,0 +1,9 @@
+use Rattle.std.proofs.Common.{rules, inl, inr}
+use Rattle.target_top.proofs.init_command.prepare.Goals as goal
+
+pub returns-in-Err-NotEmpty : goal.returns-in-Err-NotEmpty
+returns-in-Err-NotEmpty g c = inr (inl (record {
+  octets = c.in-Err-NotEmpty.ensures.not_empty (search rules);
+  same = search rules;
+  output = c.print-in-Err-NotEmpty.ensures;
+}))
