@@ -27,7 +27,9 @@ use Rattle.book_port.proofs.Answering.{quiet_expiry, expires_once, step_again, s
 use Rattle.commit_core.specs.CoreView.{CoreView, EndsTrial, IsNext}
 use Rattle.book_core.specs.Moments.{IsAttempted, GoesThrough}
 use Rattle.book_port.specs.Answers.{look_stages, set_stages, AnswersSet}
-use Rattle.book_core.specs.Calls.{expiry_calls}
+use Rattle.disk_model.specs.Calls.{Fuse}
+use Rattle.book_core.specs.Calls.{append_calls, expiry_entry, expiry_calls, answer_entry}
+use Rattle.book_core.specs.inner.Parts.{CallsOfPart}
 use Rattle.book_core.specs.Views.{BookView, history_in}
 use Rattle.book_core.proofs.Answering.{with_entry, accepted_now, refused_now, attempted_behind, last_again}
 use Rattle.book_core.proofs.Exits.{history_entered}
@@ -72,6 +74,9 @@ module _ {D : Type 0} (told : D → Option Content) (faults : D → ℕ) (opened
     pub expiry_attempted : IsAttempted (look_stages (history_of chronicle) now) (history_of chronicle) (Some entry)
     expiry_attempted = inr (inl (sym clock_here))
 
+    pub expiry_appended : expiry_entry (history_of chronicle) now ≡ Some entry
+    expiry_appended = rw due_here (ap (λ e. Some e) (sym here))
+
     pub expiry_four : 4 ≡ expiry_calls (history_of chronicle) now
     expiry_four = rw due_here refl
 
@@ -83,6 +88,15 @@ module _ {D : Type 0} (told : D → Option Content) (faults : D → ℕ) (opened
   module _ (now author : ℕ) (ask : Ask) (quiet : is_due (history_of chronicle) now ≡ false) (entry : Entry) (judged : judge (rules_of core.schema core.limits) core.entries now author ask ≡ Ok entry) (given : Gives (rules_of core.schema core.limits) core.entries entry) where
     pub judged_here : judge (rules_in opened) (history_of chronicle) now author ask ≡ Ok entry
     judged_here = subst (λ rules. judge rules (history_of chronicle) now author ask ≡ Ok entry) rules_are (subst (λ h. judge (rules_of core.schema core.limits) h now author ask ≡ Ok entry) entries_are judged)
+
+    stepped : step (rules_in opened) (history_of chronicle) now author ask ≡ Ok entry
+    stepped = ap (λ es. judge (rules_in opened) es now author ask) (quiet_expiry (history_of chronicle) now quiet) ∙ judged_here
+
+    pub ask_appended : answer_entry (step (rules_in opened) (history_of chronicle) now author ask) ≡ Some entry
+    ask_appended = ap (λ r. answer_entry r) stepped
+
+    pub ask_four : 4 ≡ append_calls (answer_entry (step (rules_in opened) (history_of chronicle) now author ask))
+    ask_four = ap (λ e. append_calls e) (sym ask_appended)
 
     pub ask_given : Gives (rules_in opened) (history_of chronicle) entry
     ask_given = subst (λ rules. Gives rules (history_of chronicle) entry) rules_are (subst (λ h. Gives (rules_of core.schema core.limits) h entry) entries_are given)
@@ -142,6 +156,18 @@ module _ {D : Type 0} (told : D → Option Content) (start mid at : BookView D) 
   pub set_attempted : (left : List Entry) (doubt : Option Entry) → IsAttempted (stages at) left doubt → IsAttempted (stages start) left doubt
   set_attempted left doubt attempted = attempted_behind (rules_in start.opened) (history_in start) now author ask left doubt
       (subst (λ (o : Opened). IsAttempted (set_stages (rules_in o) (after_expiry (history_in start) now) now author ask) left doubt) opened_as (subst (λ h. IsAttempted (set_stages (rules_in at.opened) h now author ask) left doubt) at_clock_of attempted))
+
+  asked_same : answer_entry (step (rules_in at.opened) (history_in at) now author ask) ≡ answer_entry (step (rules_in start.opened) (history_in start) now author ask)
+  asked_same =
+      ap (λ (o : Opened). answer_entry (step (rules_in o) (history_in at) now author ask)) opened_as
+      ∙ ap (λ h. answer_entry (step (rules_in start.opened) h now author ask)) at_clock_of
+      ∙ ap (λ r. answer_entry r) (step_again (rules_in start.opened) (history_in start) now author ask)
+
+  pub set_made : (result : Result ℕ Refusal) (left : List Entry) (doubt : Option Entry) (old new : Fuse) → CallsOfPart (answer_entry (step (rules_in at.opened) (history_in at) now author ask)) (history_in at) left doubt old new result
+      → CallsOfPart (answer_entry (step (rules_in start.opened) (history_in start) now author ask)) (after_expiry (history_in start) now) left doubt old new result
+  set_made result left doubt old new made =
+      subst (λ h. CallsOfPart (answer_entry (step (rules_in start.opened) (history_in start) now author ask)) h left doubt old new result) at_clock_of
+      (subst (λ e. CallsOfPart e (history_in at) left doubt old new result) asked_same made)
 
   pub clock_moments : LeavesOnly (IsJournalOfAny mid.opened.limits (look_stages (history_in mid) now)) (told mid.disk) (told at.disk) → LeavesOnly (IsJournalOfAny mid.opened.limits (stages mid)) (told mid.disk) (told at.disk)
   clock_moments moments = leaves_weaker _ _ (told mid.disk) (told at.disk) (look_in_set mid.opened.limits (history_in mid) (after_expiry (history_in mid) now) _) moments

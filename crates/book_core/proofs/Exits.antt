@@ -6,14 +6,14 @@ use Rattle.base_kinds.specs.declared.entry.Limits.{Limits}
 use Rattle.base_kinds.specs.declared.refusal.Refusal.{Refusal}
 use Rattle.base_kinds.specs.declared.refusal.Refusal.TheVariants as refusals
 use Rattle.base_kinds.specs.Legal.{Gives}
-use Rattle.disk_model.specs.Calls.{Fuse, CallsPassed, FailsWithin}
+use Rattle.disk_model.specs.Calls.{Fuse, CallsPassed}
 use Rattle.disk_model.specs.Content.{Content}
 use Rattle.disk_model.specs.Moments.{Leaves, LeavesNow, LeavesOnly}
 use Rattle.disk_model.proofs.Calls.{passed_none}
 use Rattle.disk_model.proofs.Moving.{leaves_weaker, leaves_same}
 use Rattle.edge_traits.specs.Faults.{Rose}
 use Rattle.commit_journal.specs.Images.{IsJournalOr, IsJournalOfAny}
-use Rattle.commit_journal.specs.Ledgers.{LedgerView}
+use Rattle.commit_journal.specs.Ledgers.{LedgerView, FailsAppending}
 use Rattle.journal_format.specs.Histories.{MayFollow, IsJournalHistory}
 use Rattle.journal_format.proofs.Following.{given_may_follow}
 use Rattle.journal_format.proofs.Histories.{legal_more}
@@ -26,7 +26,9 @@ use Rattle.book_port.proofs.Runs.{run_on}
 use Rattle.book_core.specs.inner.Books.{IsBook, KeepsRules}
 use Rattle.book_core.specs.inner.Parts.{GoesOn, CallsOfPart}
 use Rattle.commit_core.specs.CoreView.{CoreView}
+use Rattle.book_core.specs.Calls.{append_calls}
 use Rattle.book_core.specs.Moments.{IsAttempted}
+use Rattle.book_core.proofs.Calling.{fails_first}
 use Rattle.book_core.specs.Views.{BookView, history_in, most_marks}
 
 now_weaker : (P Q : List ℕ → Type 0) (told : Option Content) → ((octets : List ℕ) → P octets → Q octets) → LeavesNow P told → LeavesNow Q told
@@ -122,14 +124,14 @@ module _ {D : Type 0} (told : D → Option Content) (faults : D → ℕ) (opened
 
   -- ---- the ends of an append
 
-  module _ {T : Type 0} (fuse : D → Fuse) (author : ℕ) (stages : BookView D → List (List Entry)) (calls : BookView D → ℕ) (start : BookView D) (is : shown ≡ start) where
+  module _ {T : Type 0} (fuse : D → Fuse) (author : ℕ) (stages : BookView D → List (List Entry)) (appended : BookView D → Option Entry) (start : BookView D) (is : shown ≡ start) where
     pub part_entered : (value : T) (entry : Entry) (later : List Happening) (left : LedgerView D) (after : CoreView)
         → IsBy author entry → ((octets : List ℕ) → IsJournalOr opened.limits (history_of chronicle) (Some entry) octets → IsJournalOfAny opened.limits (stages shown) octets)
         → later ≡ chronicle ++ Entered entry ∷ [] → left.doubt ≡ None → LeavesOnly (IsJournalOr ledger.limits ledger.history (Some entry)) (told ledger.disk) (told left.disk)
-        → CallsPassed (calls shown) (fuse ledger.disk) (fuse left.disk)
-        → IsBook told faults opened later after left marks → GoesOn {T = T} told fuse author (stages start) (calls start) (Ok value) start (left_as later left)
+        → CallsPassed (append_calls (appended shown)) (fuse ledger.disk) (fuse left.disk)
+        → IsBook told faults opened later after left marks → GoesOn {T = T} told fuse author (stages start) (appended start) (Ok value) start (left_as later left)
     part_entered value entry later left after by through later_is settled moments passed book =
-        subst (λ (b : BookView D). GoesOn {T = T} told fuse author (stages b) (calls b) (Ok value) b (left_as later left)) is (record {
+        subst (λ (b : BookView D). GoesOn {T = T} told fuse author (stages b) (appended b) (Ok value) b (left_as later left)) is (record {
           opened = refl;
           adds = record { entries = entry ∷ []; by = (by, tt); whole = later_is };
           moments = leaves_weaker _ _ (told ledger.disk) (told left.disk) through (in_book (Some entry) (told ledger.disk) (told left.disk) moments);
@@ -143,24 +145,24 @@ module _ {D : Type 0} (told : D → Option Content) (faults : D → ℕ) (opened
         → ((octets : List ℕ) → IsJournalOr opened.limits (history_of chronicle) (Some entry) octets → IsJournalOfAny opened.limits (stages shown) octets)
         → IsAttempted (stages shown) (history_of chronicle) (Some entry)
         → later ≡ chronicle ++ Marked author ∷ [] → (left.doubt ≡ None) ⊎ (left.doubt ≡ Some entry) → LeavesOnly (IsJournalOr ledger.limits ledger.history (Some entry)) (told ledger.disk) (told left.disk)
-        → FailsWithin (calls shown) (fuse ledger.disk) (fuse left.disk)
-        → IsBook told faults opened later after left more → GoesOn {T = T} told fuse author (stages start) (calls start) (Err refusals.DiskFault) start (left_as later left)
-    part_failed entry later left after more through attempted later_is doubt moments failed book =
+        → appended shown ≡ Some entry → FailsAppending entry left.doubt (fuse ledger.disk) (fuse left.disk)
+        → IsBook told faults opened later after left more → GoesOn {T = T} told fuse author (stages start) (appended start) (Err refusals.DiskFault) start (left_as later left)
+    part_failed entry later left after more through attempted later_is doubt moments is_appended failed book =
         let h_is : history_of later ≡ history_of chronicle = ap history_of later_is ∙ history_marked chronicle author in
-        subst (λ (b : BookView D). GoesOn {T = T} told fuse author (stages b) (calls b) (Err refusals.DiskFault) b (left_as later left)) is (record {
+        subst (λ (b : BookView D). GoesOn {T = T} told fuse author (stages b) (appended b) (Err refusals.DiskFault) b (left_as later left)) is (record {
           opened = refl;
           adds = record { entries = []; by = tt; whole = later_is };
           moments = leaves_weaker _ _ (told ledger.disk) (told left.disk) through (in_book (Some entry) (told ledger.disk) (told left.disk) moments);
           images = book.images;
           doubt = subst (λ h. IsAttempted (stages shown) h left.doubt) (sym h_is) (elim doubt [ inl none ↦ subst (λ d. IsAttempted (stages shown) (history_of chronicle) d) (sym none) tt | inr some ↦ subst (λ d. IsAttempted (stages shown) (history_of chronicle) d) (sym some) attempted ]);
           run = book.run;
-          made = failed;
+          made = fails_first entry (appended shown) (history_of chronicle) (history_of later) left.doubt (fuse ledger.disk) (fuse left.disk) is_appended h_is failed;
         })
 
     -- nothing was written
-    pub part_idle : (result : Result T Refusal) → mark_after author result ≡ [] → ledger.doubt ≡ None → (others : List (List Entry)) → stages shown ≡ history_of chronicle ∷ others → CallsOfPart (calls shown) (fuse ledger.disk) (fuse ledger.disk) result → GoesOn told fuse author (stages start) (calls start) result start shown
+    pub part_idle : (result : Result T Refusal) → mark_after author result ≡ [] → ledger.doubt ≡ None → (others : List (List Entry)) → stages shown ≡ history_of chronicle ∷ others → CallsOfPart (appended shown) (history_of chronicle) (history_of chronicle) ledger.doubt (fuse ledger.disk) (fuse ledger.disk) result → GoesOn told fuse author (stages start) (appended start) result start shown
     part_idle result unmarked settled others stages_are made =
-        subst (λ (b : BookView D). GoesOn told fuse author (stages b) (calls b) result b shown) is (record {
+        subst (λ (b : BookView D). GoesOn told fuse author (stages b) (appended b) result b shown) is (record {
           opened = refl;
           adds = record { entries = []; by = tt; whole = sym (ap (λ ms. chronicle ++ ms) unmarked ∙ append-nil chronicle) };
           moments = leaves_same _ (told ledger.disk) (idle_images settled others stages_are);
@@ -180,15 +182,15 @@ module _ {D : Type 0} (told : D → Option Content) (faults : D → ℕ) (opened
         → ((octets : List ℕ) → IsJournalOr opened.limits (history_of chronicle) (Some entry) octets → IsJournalOfAny opened.limits (stages shown) octets)
         → IsAttempted (stages shown) (history_of chronicle) (Some entry)
         → later ≡ chronicle ++ Marked author ∷ [] → (left.doubt ≡ None) ⊎ (left.doubt ≡ Some entry) → LeavesOnly (IsJournalOr ledger.limits ledger.history (Some entry)) (told ledger.disk) (told left.disk)
-        → FailsWithin (calls shown) (fuse ledger.disk) (fuse left.disk)
-        → IsBook told faults opened later after left more → GoesOn {T = T} told fuse author (stages start) (calls start) (Err refusal) start (left_as later left)
-    part_failed_as refusal fault entry later left after more through attempted later_is doubt moments failed book =
-        subst (λ (r : Refusal). GoesOn {T = T} told fuse author (stages start) (calls start) (Err r) start (left_as later left)) (sym fault) (part_failed entry later left after more through attempted later_is doubt moments failed book)
+        → appended shown ≡ Some entry → FailsAppending entry left.doubt (fuse ledger.disk) (fuse left.disk)
+        → IsBook told faults opened later after left more → GoesOn {T = T} told fuse author (stages start) (appended start) (Err refusal) start (left_as later left)
+    part_failed_as refusal fault entry later left after more through attempted later_is doubt moments is_appended failed book =
+        subst (λ (r : Refusal). GoesOn {T = T} told fuse author (stages start) (appended start) (Err r) start (left_as later left)) (sym fault) (part_failed entry later left after more through attempted later_is doubt moments is_appended failed book)
 
     -- memory was wanting, and nothing was written
-    pub part_starved : (result : Result T Refusal) → mark_after author result ≡ [] → (later : List Happening) (left : LedgerView D) → later ≡ chronicle → left.disk ≡ ledger.disk → left.doubt ≡ ledger.doubt → ledger.doubt ≡ None → (others : List (List Entry)) → stages shown ≡ history_of chronicle ∷ others → CallsOfPart (calls shown) (fuse ledger.disk) (fuse ledger.disk) result → GoesOn told fuse author (stages start) (calls start) result start (left_as later left)
+    pub part_starved : (result : Result T Refusal) → mark_after author result ≡ [] → (later : List Happening) (left : LedgerView D) → later ≡ chronicle → left.disk ≡ ledger.disk → left.doubt ≡ ledger.doubt → ledger.doubt ≡ None → (others : List (List Entry)) → stages shown ≡ history_of chronicle ∷ others → CallsOfPart (appended shown) (history_of chronicle) (history_of chronicle) ledger.doubt (fuse ledger.disk) (fuse ledger.disk) result → GoesOn told fuse author (stages start) (appended start) result start (left_as later left)
     part_starved result unmarked later left later_is disk_is doubt_is settled others stages_are made =
-        subst (λ (b : BookView D). GoesOn told fuse author (stages start) (calls start) result start b) same (part_idle result unmarked settled others stages_are made)
+        subst (λ (b : BookView D). GoesOn told fuse author (stages start) (appended start) result start b) same (part_idle result unmarked settled others stages_are made)
       where
         same : shown ≡ left_as later left
         same = λ i. record { disk = sym disk_is i; opened = opened; chronicle = sym later_is i; doubt = sym doubt_is i }

@@ -1,5 +1,5 @@
 -- What an opening gives, from what its ledger and its core give.
-use Rattle.std.proofs.Common.{◌≡◌, ◌⊎◌, inl, inr, ℕ, ◌+◌, ◌<◌, ◌≤◌, List, [], ◌∷◌, ◌++◌, true, false, Option, Some, None, IfSome, length, refl, sym, ap, ◌∙◌, subst, arith}
+use Rattle.std.proofs.Common.{◌≡◌, ◌⊎◌, inl, inr, ℕ, ◌+◌, ◌<◌, ◌≤◌, List, [], ◌∷◌, ◌++◌, true, false, Option, Some, None, IfSome, IsSome, length, refl, sym, ap, ◌∙◌, subst, arith}
 use Rattle.base_kinds.specs.declared.entry.Entry.{Entry}
 use Rattle.base_kinds.specs.declared.entry.Limits.{Limits}
 use Rattle.base_kinds.specs.Bases.{IsSound}
@@ -8,9 +8,11 @@ use Rattle.base_kinds.specs.Schema.{SchemaNode}
 use Rattle.edge_traits.specs.Faults.{Rose}
 use Rattle.disk_model.specs.Arming.{Arming}
 use Rattle.disk_model.specs.Calls.{Fuse, CallsPassed, FailsWithin, PassesWithin, WhereArmed}
+use Rattle.book_core.specs.Calls.{FailsBehind, append_calls}
+use Rattle.base_kinds.specs.Step.{is_open}
 use Rattle.disk_model.specs.Content.{Content, WhereTold, Tells}
 use Rattle.disk_model.specs.Moments.{LeavesNow, LeavesOnly}
-use Rattle.disk_model.proofs.Calls.{passed_then, fails_within_then, fails_within_more, passes_within}
+use Rattle.disk_model.proofs.Calls.{passed_then, passes_within}
 use Rattle.disk_model.proofs.Moving.{leaves_weaker, moved_on}
 use Rattle.journal_format.specs.Histories.{IsJournalHistory}
 use Rattle.journal_format.specs.Journal.{IsJournal}
@@ -23,11 +25,12 @@ use Rattle.book_port.specs.Chronicles.{history_of, marks_of, entered}
 use Rattle.book_port.specs.Opened.{Opened, IsRun, reopened}
 use Rattle.book_port.proofs.Chronicled.{history_of_entered, marks_of_entered}
 use Rattle.commit_core.specs.CoreView.{CoreView}
-use Rattle.book_core.specs.Openings.{SyncsThen, HasJournal, opening_stages, restart_calls, IsReady, IsUnfit, IsCutAtRestart, IsFaulty, IsStarved}
+use Rattle.book_core.specs.Openings.{SyncsThen, HasJournal, opening_stages, restart_calls, IsReady, IsUnfit, IsUnread, IsCutAtRestart, IsFaulty, IsStarved}
 use Rattle.book_core.specs.Views.{BookView}
 use Rattle.book_core.specs.inner.Books.{IsBook, opened_with}
-use Rattle.book_core.specs.inner.Restarts.{IsRestartOf, with_one, append_calls}
-use Rattle.book_core.proofs.Openings.{with_restart, restart_made, restart_through, legal_with, opened_run}
+use Rattle.book_core.specs.inner.Restarts.{IsRestartOf, with_one}
+use Rattle.book_core.proofs.Calling.{fails_behind}
+use Rattle.book_core.proofs.Openings.{with_restart, restart_open, restart_made, restart_through, legal_with, opened_run}
 
 armed_map : {P Q : Content → Type 0} (arming : Option Arming) (told : Option Content) → ((c : Content) → P c → Q c) → IfSome arming (λ _. Tells told P) → IfSome arming (λ _. Tells told Q)
 armed_map None told weaker is = tt
@@ -75,11 +78,18 @@ module _ {D : Type 0} (told : D → Option Content) (faults : D → ℕ) (fuse :
         (leaves_weaker _ _ (told ledger.disk) (told new.disk) (restart_through entries now ledger.limits restart is) (subst (λ h. LeavesOnly (IsJournalOr ledger.limits h restart) (told ledger.disk) (told new.disk)) ready.history_is moments))
         (λ o m n synced throughout. record { between = m; was_synced = synced; then_on = throughout })
 
-    pub faulty_here : Rose (faults ledger.disk) (faults new.disk) → FailsWithin 4 (fuse ledger.disk) (fuse new.disk) → IsFaulty told faults fuse given schema now new.disk
-    faulty_here rose failed = record {
+    pub faulty_here : IsSome restart → IsSound schema (world_of (reopened entries now)).tree → Rose (faults ledger.disk) (faults new.disk) → FailsBehind 0 4 (fuse ledger.disk) (fuse new.disk) → IsFaulty told faults fuse given schema now new.disk
+    faulty_here some sound rose failed = record {
       rose = omega (arith, rose, ready.quiet);
-      moments = inr (inr (record { limits = ledger.limits; found = entries; has_journal = record { journal = ready.journal; legal = ready.legal }; moments = synced_then }));
-      calls = armed_map (fuse given).arming (told given) (λ c passed. fails_within_then (opening_calls (length c.seen)) 4 _ _ _ passed failed) calls;
+      cause = inr (record {
+        limits = ledger.limits;
+        found = entries;
+        has_journal = record { journal = ready.journal; legal = ready.legal };
+        was_open = restart_open entries now restart is some;
+        sound = sound;
+        moments = synced_then;
+        calls = armed_map (fuse given).arming (told given) (λ c passed. fails_behind (opening_calls (length c.seen)) 4 _ _ _ passed failed) calls;
+      });
     }
 
     module _ (core : CoreView) (chronicle : List Happening) (core_schema : core.schema ≡ schema) (core_limits : core.limits ≡ ledger.limits) (core_entries : core.entries ≡ reopened entries now) (chronicle_is : chronicle ≡ entered core.entries) (sound : IsSound schema (world_of (reopened entries now)).tree) (history : new.history ≡ with_one ledger.history restart) (settled : new.doubt ≡ None) (quiet : faults new.disk ≡ faults ledger.disk) (images : LeavesNow (IsJournalOr new.limits new.history new.doubt) (told new.disk)) where
@@ -139,8 +149,7 @@ module _ {D : Type 0} (told : D → Option Content) (faults : D → ℕ) (fuse :
   pub fault_of_ledger : Rose (faults given) (faults left) × ((told left ≡ told given) ⊎ WhereTold (told given) (told left) IsSynced) → WhereArmed (fuse given) (told given) (λ c. FailsWithin (opening_calls (length c.seen)) (fuse given) (fuse left)) → IsFaulty told faults fuse given schema now left
   fault_of_ledger fault calls = record {
     rose = fault.0;
-    moments = elim fault.1 [ inl same ↦ inl same | inr synced ↦ inr (inl synced) ];
-    calls = armed_map (fuse given).arming (told given) (λ c failed. fails_within_more (opening_calls (length c.seen)) (opening_calls (length c.seen) + 4) _ _ (omega arith) failed) calls;
+    cause = inl (record { moments = fault.1; calls = calls });
   }
 
   pub want_of_ledger : WhereTold (told given) (told left) IsSynced × (faults left ≡ faults given) → WhereArmed (fuse given) (told given) (λ c. PassesWithin (opening_calls (length c.seen)) (fuse given) (fuse left)) → IsStarved told faults fuse given schema now left

@@ -1,5 +1,5 @@
 -- What an opening goes on from.
-use Rattle.std.proofs.Common.{◌≡◌, ◌⊎◌, inl, inr, ℕ, ◌+◌, ◌<◌, ◌≤◌, List, [], ◌∷◌, ◌++◌, true, false, cond, Option, Some, None, IfSome, IfSome, length, refl, sym, ap, ◌∙◌, subst, arith}
+use Rattle.std.proofs.Common.{◌≡◌, ◌⊎◌, inl, inr, ℕ, ◌+◌, ◌<◌, ◌≤◌, List, [], ◌∷◌, ◌++◌, true, false, cond, Option, Some, None, IfSome, IsSome, true≢false, length, refl, sym, ap, ◌∙◌, subst, arith}
 use Rattle.base_kinds.specs.declared.path.Elem.{Elem}
 use Rattle.base_kinds.specs.declared.operation.Row.{Row}
 use Rattle.base_kinds.specs.declared.entry.Entry.{Entry}
@@ -24,7 +24,8 @@ use Rattle.book_port.specs.Opened.{Opened, IsFounded, IsRun, reopened, restart_e
 use Rattle.book_port.proofs.Runs.{founded_is_run, reopened_has_no_trial}
 use Rattle.commit_core.specs.CoreView.{IsReplayable}
 use Rattle.book_core.specs.Openings.{opening_stages, restart_calls}
-use Rattle.book_core.specs.inner.Restarts.{IsRestartOf, with_one, append_calls}
+use Rattle.book_core.specs.Calls.{append_calls}
+use Rattle.book_core.specs.inner.Restarts.{IsRestartOf, with_one}
 
 -- ---- the root covers every row
 
@@ -66,6 +67,10 @@ module _ (h : List Entry) (now : ℕ) where
   pub restart_short : (room : ℕ) → 14 ≤ room → (restart : Option Entry) → IsRestartOf h now restart → IfSome restart (λ e. record_octets e + 1 ≤ room)
   restart_short room least None is = tt
   restart_short room least (Some entry) is = let short : record_octets entry ≡ 13 = ap record_octets is.1 in omega (arith, short, least)
+
+  pub restart_open : (restart : Option Entry) → IsRestartOf h now restart → IsSome restart → is_open (world_of h).trial ≡ true
+  restart_open None is some = absurd (true≢false (sym some))
+  restart_open (Some entry) is some = is.0
 
   pub restart_made : (restart : Option Entry) → IsRestartOf h now restart → append_calls restart ≡ restart_calls h
   restart_made None is = rw is refl

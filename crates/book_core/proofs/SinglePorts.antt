@@ -53,13 +53,14 @@ module _ {D T : Type 0} (now : ℕ) (old : SingleView D) (kept : IsSingle old.bo
 
   pub single_turn : TakesTurn (port_of old) its_turn result (port_of new)
   single_turn = record {
+    own = kept.some;
     begins = nobody_went_on old.author (history_in old.book) (history_in old.book) refl;
     alone = λ yes. refl;
     found_run = run;
     left_run = subst (λ (o : Opened). IsRun o (history_in book)) opened run_on;
     more = adds.entries;
     goes_on = left_is;
-    new_is = λ i. record { opened = opened i; book = 0; author = old.author; is_alone = true; start = history_in old.start; seen = history_in book; finds = finds_are i; made = made_is i; marks = marks_are i };
+    new_is = λ i. record { opened = opened i; book = 0; author = old.author; is_alone = true; start = history_in old.start; seen = history_in book; finds = finds_are i; made = made_is i; marks = marks_are i; met = [] };
   }
 
   -- and the chronicle still goes on with the start's

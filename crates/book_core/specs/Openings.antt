@@ -1,5 +1,5 @@
 -- What the opening of a book gives.
-use Rattle.std.specs.Prelude.{◌≡◌, ◌⊎◌, ℕ, ◌+◌, List, [], ◌∷◌, Option, Some, None, length, if◌then◌else◌}
+use Rattle.std.specs.Prelude.{◌≡◌, ◌⊎◌, ℕ, ◌+◌, List, [], ◌∷◌, true, Option, Some, None, length, if◌then◌else◌}
 use Rattle.base_kinds.specs.declared.entry.Entry.{Entry}
 use Rattle.base_kinds.specs.declared.entry.Limits.{Limits}
 use Rattle.base_kinds.specs.Bases.{IsSound}
@@ -18,6 +18,7 @@ use Rattle.book_port.specs.Chronicles.{entered}
 use Rattle.book_port.specs.Opened.{IsRun, reopened}
 use Rattle.book_core.specs.declared.opening.BookOpening.{BookOpening}
 use Rattle.book_core.specs.declared.opening.BookOpening.TheVariants.{Ready, Damaged, Unfit, DiskFault, NoMemory}
+use Rattle.book_core.specs.Calls.{FailsBehind}
 use Rattle.book_core.specs.Views.{BookView}
 
 -- the disk was synced, and from then on each image is a journal of one of these histories
@@ -76,20 +77,28 @@ module _ {D : Type 0} (told : D → Option Content) (faults : D → ℕ) (fuse :
     pub calls : WhereArmed (fuse disk) (told disk) (λ c.
         CallsPassed (opening_calls (length c.seen)) (fuse disk) (fuse left))
 
-  -- the entry that ends an open trial wasn't sure to be written
+  -- the sync, the length or a read failed, and nothing was written
+  pub record IsUnread (left : D) : Type 0 where
+    pub moments : (told left ≡ told disk) ⊎ WhereTold (told disk) (told left) IsSynced
+    pub calls : WhereArmed (fuse disk) (told disk) (λ c.
+        FailsWithin (opening_calls (length c.seen)) (fuse disk) (fuse left))
+
+  -- A trial was open, and the entry that ends it wasn't sure to be written. It is written only where
+  -- the tree behind it keeps to the schema and isn't too large.
   pub record IsCutAtRestart (left : D) : Type 0 where
     pub limits : Limits
     pub found : List Entry
     pub has_journal : HasJournal (told disk) limits found
+    pub was_open : is_open (world_of found).trial ≡ true
+    pub sound : IsSound schema (world_of (reopened found now)).tree
     pub moments : WhereTold (told disk) (told left) (SyncsThen limits (opening_stages found now))
+    pub calls : WhereArmed (fuse disk) (told disk) (λ c.
+        FailsBehind (opening_calls (length c.seen)) 4 (fuse disk) (fuse left))
 
-  -- a call of the disk failed: the sync, the length or a read, or one for that entry
+  -- a call of the disk failed
   pub record IsFaulty (left : D) : Type 0 where
     pub rose : Rose (faults disk) (faults left)
-    pub moments : (told left ≡ told disk)
-        ⊎ (WhereTold (told disk) (told left) IsSynced ⊎ IsCutAtRestart left)
-    pub calls : WhereArmed (fuse disk) (told disk) (λ c.
-        FailsWithin (opening_calls (length c.seen) + 4) (fuse disk) (fuse left))
+    pub cause : IsUnread left ⊎ IsCutAtRestart left
 
   -- memory was wanting, and nothing was written
   pub record IsStarved (left : D) : Type 0 where

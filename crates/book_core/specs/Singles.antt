@@ -1,5 +1,5 @@
 -- A port of a book that nobody else has.
-use Rattle.std.specs.Prelude.{◌≡◌, ℕ, ◌<◌, ◌-◌, List, ◌++◌, true, map, length, drop, Option, refl}
+use Rattle.std.specs.Prelude.{◌≡◌, ℕ, ◌<◌, ◌-◌, List, [], ◌++◌, true, map, length, drop, Option, refl}
 use Rattle.std.specs.Coded.{Coded, code_by, coded×, coded_ℕ, coded_list}
 use Rattle.base_kinds.specs.declared.entry.Entry.{Entry}
 use Rattle.book_port.specs.declared.happening.Happening.{Happening}
@@ -29,6 +29,7 @@ module _ {D : Type 0} where
     made = entries_by single.author
         (drop (length (history_in single.start)) (history_in single.book));
     marks = length (marks_of single.book.chronicle) - length (marks_of single.start.chronicle);
+    met = [];
   }
 
 -- what came since goes on with what was there

@@ -1,17 +1,18 @@
 ghost use Rattle.std.specs.Prelude.{◌≡◌, ◌⊎◌, ◌<◌, ◌≤◌, ◌+◌, ◌^◌, [], ◌∷◌, ◌++◌, Ok, Some, None, true, false, length, IsSome, IfErr, OnOk, OnErr, IsErrOf};
 ghost use Rattle.base_kinds.specs.Legal.{IsFit};
 ghost use Rattle.base_kinds.specs.Records.{record_octets};
-ghost use Rattle.base_kinds.specs.Step.{after_expiry, is_due};
+ghost use Rattle.base_kinds.specs.Step.{after_expiry, is_due, step};
 ghost use Rattle.edge_traits.specs.Faults.{Rose};
-ghost use Rattle.disk_model.specs.Calls.{CallsEnd, CallsPassed, FailsWithin};
+ghost use Rattle.disk_model.specs.Calls.{CallsEnd, CallsPassed};
 ghost use Rattle.disk_model.specs.Moments.{LeavesNow, LeavesOnly};
 ghost use Rattle.journal_format.specs.Histories.{MayFollow};
 ghost use Rattle.commit_journal.specs.Images.{IsJournalOr};
+ghost use Rattle.commit_journal.specs.Ledgers.{FailsAppending};
 ghost use Rattle.book_port.specs.declared.happening.Happening.TheVariants.{Entered, Marked};
 ghost use Rattle.book_port.specs.Answers.{AnswersSet, AnswersLook, set_stages, look_stages};
 ghost use Rattle.book_port.specs.Chronicles.{marks_of, Adds};
 ghost use Rattle.book_port.specs.Opened.{IsRun, rules_in};
-ghost use Rattle.book_core.specs.Calls.{CallsFor, repair_calls, expiry_calls, calls_before};
+ghost use Rattle.book_core.specs.Calls.{CallsFor, repair_calls, expiry_entry, answer_entry};
 ghost use Rattle.commit_core.specs.CoreView.{EndsTrial, IsNext};
 ghost use Rattle.book_core.specs.Moments.{GoesThrough, IsDoubted};
 ghost use Rattle.book_core.specs.Views.{BookView, history_in, most_marks};
@@ -138,7 +139,8 @@ fn enter<D: Disk, T: TreeLike + Drop>(
     ensures passed { OnOk result
         (CallsPassed 4 (D.fuse ledger.old.disk) (D.fuse ledger.new.disk)) }
     ensures failed { IsErrOf result Refusal.DiskFault
-        → FailsWithin 4 (D.fuse ledger.old.disk) (D.fuse ledger.new.disk) }
+        → FailsAppending entry ledger.new.doubt (D.fuse ledger.old.disk)
+        (D.fuse ledger.new.disk) }
 {
     match ledger.append(&entry) {
         Ok(()) => {
@@ -197,7 +199,7 @@ impl<D: Disk, T: TreeLike + Drop> Book<D, T> {
             × (self.new.doubt ≡ None)) }
         ensures err { OnErr result (history_in self.new ≡ history_in self.old) }
         ensures part { GoesOn D.told D.fuse author (look_stages (history_in self.old) now)
-            (expiry_calls (history_in self.old) now) result self.old self.new }
+            (expiry_entry (history_in self.old) now) result self.old self.new }
         ensures refusal { IfErr result (λ refusal. refusal ≡ Refusal.DiskFault) }
         ensures fault { OnErr result (Rose (D.faults self.old.disk) (D.faults self.new.disk)) }
         ensures quiet { OnOk result (D.faults self.new.disk ≡ D.faults self.old.disk) }
@@ -223,8 +225,9 @@ impl<D: Disk, T: TreeLike + Drop> Book<D, T> {
         ensures answer { AnswersSet (rules_in self.old.opened) (history_in self.old) now author ask
             result (history_in self.new) }
         ensures part { let rules = rules_in self.old.opened in
-            GoesOn D.told D.fuse author (set_stages rules (history_in self.old) now author ask) 4
-            result self.old self.new }
+            GoesOn D.told D.fuse author (set_stages rules (history_in self.old) now author ask)
+            (answer_entry (step rules (history_in self.old) now author ask)) result self.old
+            self.new }
         ensures settled { ¬ (IsErrOf result Refusal.DiskFault) → self.new.doubt ≡ None }
         ensures closes { IsErrOf result Refusal.NoMemory → EndsTrial ask → ⊥ }
         ensures fault { IsErrOf result Refusal.DiskFault
@@ -283,8 +286,11 @@ impl<D: Disk, T: TreeLike + Drop> Book<D, T> {
             → Rose (D.faults self.old.disk) (D.faults self.new.disk) }
         ensures quiet { ¬ (IsErrOf result Refusal.DiskFault)
             → D.faults self.new.disk ≡ D.faults self.old.disk }
-        // how many calls of the disk it makes
-        ensures calls { CallsFor (calls_before self.old.doubt (history_in self.old) now) 4
+        // how many calls of the disk it makes, and what one that fails leaves
+        ensures calls { let rules = rules_in self.old.opened in
+            CallsFor self.old.doubt (history_in self.old) now
+            (answer_entry (step rules (history_in self.old) now author ask))
+            (history_in self.new) self.new.doubt
             (D.fuse self.old.disk) (D.fuse self.new.disk) result }
     {
         if self.marks == MOST_MARKS {
@@ -335,8 +341,9 @@ impl<D: Disk, T: TreeLike + Drop> Book<D, T> {
             → Rose (D.faults self.old.disk) (D.faults self.new.disk) }
         ensures quiet { ¬ (IsErrOf result Refusal.DiskFault)
             → D.faults self.new.disk ≡ D.faults self.old.disk }
-        // how many calls of the disk it makes
-        ensures calls { CallsFor (calls_before self.old.doubt (history_in self.old) now) 0
+        // how many calls of the disk it makes, and what one that fails leaves
+        ensures calls { CallsFor self.old.doubt (history_in self.old) now None
+            (history_in self.new) self.new.doubt
             (D.fuse self.old.disk) (D.fuse self.new.disk) result }
     {
         if self.marks == MOST_MARKS {

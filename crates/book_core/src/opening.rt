@@ -1,9 +1,9 @@
-ghost use Rattle.std.specs.Prelude.{◌≡◌, ◌↔◌, ◌≤◌, ◌+◌, [], Some, None, IsTrue, length, IfOk, IfSome, OnOk, OnErr, IsErrOf};
+ghost use Rattle.std.specs.Prelude.{◌≡◌, ◌↔◌, ◌≤◌, ◌+◌, [], Some, None, IsTrue, length, IfOk, IfSome, IsSome, OnOk, OnErr, IsErrOf};
 ghost use Rattle.base_kinds.specs.Bases.{IsSound};
 ghost use Rattle.base_kinds.specs.History.{world_of};
 ghost use Rattle.base_kinds.specs.Records.{record_octets};
 ghost use Rattle.edge_traits.specs.Faults.{Rose};
-ghost use Rattle.disk_model.specs.Calls.{CallsPassed, FailsWithin, WhereArmed};
+ghost use Rattle.disk_model.specs.Calls.{CallsPassed, WhereArmed};
 ghost use Rattle.disk_model.specs.Moments.{LeavesNow, LeavesOnly};
 ghost use Rattle.journal_format.specs.Histories.{MayFollow};
 ghost use Rattle.commit_journal.specs.Images.{IsJournalOr};
@@ -11,9 +11,10 @@ ghost use Rattle.commit_journal.specs.Openings.{IsReady, opening_calls};
 ghost use Rattle.book_port.specs.Chronicles.{entered};
 ghost use Rattle.book_port.specs.Opened.{reopened};
 ghost use Rattle.commit_core.specs.CoreView.{CoreView, IsReplayable};
+ghost use Rattle.book_core.specs.Calls.{FailsBehind, append_calls};
 ghost use Rattle.book_core.specs.Openings.{Opens};
 ghost use Rattle.book_core.specs.inner.Books.{KeepsRules};
-ghost use Rattle.book_core.specs.inner.Restarts.{IsRestartOf, with_one, append_calls};
+ghost use Rattle.book_core.specs.inner.Restarts.{IsRestartOf, with_one};
 
 use crate::book::Book;
 use crate::chronicle::Chronicle;
@@ -114,7 +115,7 @@ fn restore<T: TreeLike + Drop>(
 }
 
 /// Appends the entry, where there is one.
-#[tactic(auto, using(crate::proofs::Openings::leaves_with))]
+#[tactic(auto, using(crate::proofs::Openings::leaves_with, crate::proofs::Calling::behind_none))]
 fn append_one<D: Disk>(ledger: &mut Ledger<D>, entry: Option<Entry>) -> Result<(), LedgerFault>
     requires settled { ledger.old.doubt ≡ None }
     requires next { IfSome entry (λ e. MayFollow ledger.old.limits ledger.old.history e) }
@@ -126,6 +127,7 @@ fn append_one<D: Disk>(ledger: &mut Ledger<D>, entry: Option<Entry>) -> Result<(
     ensures limits { ledger.new.limits ≡ ledger.old.limits }
     ensures room { ledger.old.room ≤ ledger.new.room }
     ensures memory { ¬ (IsErrOf result LedgerFault.NoMemory) }
+    ensures some { OnErr result (IsSome entry) }
     ensures any_moment { LeavesOnly (IsJournalOr ledger.old.limits ledger.old.history entry)
         (D.told ledger.old.disk) (D.told ledger.new.disk) }
     ensures images { LeavesNow
@@ -136,7 +138,7 @@ fn append_one<D: Disk>(ledger: &mut Ledger<D>, entry: Option<Entry>) -> Result<(
     ensures passed { OnOk result (CallsPassed (append_calls entry) (D.fuse ledger.old.disk)
         (D.fuse ledger.new.disk)) }
     ensures failed { OnErr result
-        (FailsWithin 4 (D.fuse ledger.old.disk) (D.fuse ledger.new.disk)) }
+        (FailsBehind 0 4 (D.fuse ledger.old.disk) (D.fuse ledger.new.disk)) }
 {
     match entry {
         None => Ok(()),

@@ -1,4 +1,14 @@
-ghost use Rattle.std.specs.Prelude.{◌≡◌, ◌<◌, []};
+ghost use Rattle.std.specs.Prelude.{◌≡◌, ◌<◌, [], ◌∷◌, ◌++◌, None};
+ghost use Rattle.base_kinds.specs.Legal.{IsFit};
+ghost use Rattle.base_kinds.specs.Step.{step};
+ghost use Rattle.book_port.specs.Answers.{set_stages, look_stages};
+ghost use Rattle.book_port.specs.Chronicles.{Adds};
+ghost use Rattle.book_port.specs.Opened.{rules_in};
+ghost use Rattle.book_port.specs.Ports.{SetsOnce, LooksOnce};
+ghost use Rattle.book_core.specs.Calls.{answer_entry};
+ghost use Rattle.book_core.specs.Singles.{SingleView, port_of};
+ghost use Rattle.book_core.specs.Uses.{UsesDisk};
+ghost use Rattle.book_core.specs.Views.{history_in};
 
 use crate::book::Book;
 use base_kinds::{Ask, Paths, Refusal, TreeLike, View};
@@ -66,12 +76,37 @@ impl<D: Disk + Drop, T: TreeLike + Drop> BookPort for Single<D, T> {
 
     ghost port = { port_of };
 
-    fn set(&mut self, alloc: Global, now: u64, ask: Ask) -> Result<u64, Refusal> {
+    fn set(&mut self, alloc: Global, now: u64, ask: Ask) -> Result<u64, Refusal>
+        requires { IsFit ask }
+        ensures once { SetsOnce (port_of self.old) now ask result (port_of self.new) }
+        ensures kept { self.new ≡ record self.old {
+          book = self.new.book;
+          finds = self.old.finds ++ self.old.book ∷ [];
+        } }
+        ensures adds { Adds self.old.author result self.old.book.chronicle
+            self.new.book.chronicle }
+        ensures disk { let rules = rules_in self.old.book.opened in
+            let h = history_in self.old.book in
+            UsesDisk D.told D.faults D.fuse now (set_stages rules h now self.old.author ask)
+            (answer_entry (step rules h now self.old.author ask)) result
+            self.old.book self.new.book }
+    {
         self.finds.remember(&self.book);
         self.book.set(alloc, now, self.author, ask)
     }
 
-    fn look(&mut self, alloc: Global, now: u64, patterns: &Paths) -> Result<View, Refusal> {
+    fn look(&mut self, alloc: Global, now: u64, patterns: &Paths) -> Result<View, Refusal>
+        ensures once { LooksOnce (port_of self.old) now patterns.now result (port_of self.new) }
+        ensures kept { self.new ≡ record self.old {
+          book = self.new.book;
+          finds = self.old.finds ++ self.old.book ∷ [];
+        } }
+        ensures adds { Adds self.old.author result self.old.book.chronicle
+            self.new.book.chronicle }
+        ensures disk { let h = history_in self.old.book in
+            UsesDisk D.told D.faults D.fuse now (look_stages h now) None result
+            self.old.book self.new.book }
+    {
         self.finds.remember(&self.book);
         self.book.look(alloc, now, self.author, patterns)
     }

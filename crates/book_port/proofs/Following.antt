@@ -40,7 +40,7 @@ follows_goes_on author seen (turn ∷ turns) last all is =
 others_of : (author : ℕ) (seen h : List Entry) → OthersWentOn author seen h → entries_by author h ≡ entries_by author seen
 others_of author seen h went = ap (entries_by author) went.whole ∙ entries_by_more author seen went.others ∙ ap (λ l. entries_by author seen ++ l) went.none ∙ append-nil (entries_by author seen)
 
-dropped : (xs ys : List Entry) → drop (length xs) (xs ++ ys) ≡ ys
+pub dropped : (xs ys : List Entry) → drop (length xs) (xs ++ ys) ≡ ys
 dropped [] ys = refl
 dropped (x ∷ xs) ys = dropped xs ys
 

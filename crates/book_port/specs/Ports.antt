@@ -11,6 +11,15 @@ use Rattle.book_port.specs.Chronicles.{entries_by}
 use Rattle.book_port.specs.Follows.{Turn, OthersWentOn}
 use Rattle.book_port.specs.Opened.{Opened, IsRun, rules_in}
 
+-- a port that has ended, as it was then
+pub record PortEnd : Type 0 where
+  pub author : ℕ
+  pub start : List Entry
+  pub seen : List Entry
+  pub finds : List (List Entry)
+  pub made : List Entry
+  pub marks : ℕ
+
 pub record PortView : Type 0 where
   pub opened : Opened
   -- which book it is of, among those that have several ports
@@ -27,6 +36,18 @@ pub record PortView : Type 0 where
   pub made : List Entry
   -- how many of its calls a fault of the disk ended
   pub marks : ℕ
+  -- the ports that ended by meeting it, each behind those that had met that one
+  pub met : List PortEnd
+
+abbrev pub end_of : PortView → PortEnd
+end_of port = record {
+  author = port.author;
+  start = port.start;
+  seen = port.seen;
+  finds = port.finds;
+  made = port.made;
+  marks = port.marks;
+}
 
 -- one more behind a call that a fault of the disk ended
 abbrev pub marks_after : {T : Type 0} → ℕ → Result T Refusal → ℕ
@@ -34,8 +55,9 @@ marks_after marks (Ok value) = marks
 marks_after marks (Err refusals.DiskFault) = marks + 1
 marks_after marks (Err refusal) = marks
 
--- One turn: it finds a history that begins with the one seen, and leaves one, which is then seen.
+-- One turn: it finds a history that begins with the one seen, and leaves one, which is then seen. Its author isn't the target.
 pub record TakesTurn {T : Type 0} (old : PortView) (turn : Turn) (result : Result T Refusal) (new : PortView) : Type 0 where
+  pub own : 0 < old.author
   pub begins : OthersWentOn old.author old.seen turn.found
   pub alone : IsTrue old.is_alone → turn.found ≡ old.seen
   pub found_run : IsRun old.opened turn.found
@@ -63,10 +85,23 @@ pub record LooksOnce (old : PortView) (now : ℕ) (patterns : List (List Elem)) 
   pub taken : TakesTurn old turn result new
   pub answer : AnswersLook turn.found now patterns result turn.left
 
+-- one turn of a Set or of a look
+abbrev pub TakesOne : PortView → Turn → PortView → Type 0
+TakesOne old turn new =
+    ((result : Result ℕ Refusal) × TakesTurn old turn result new)
+    ⊎ ((result : Result View Refusal) × TakesTurn old turn result new)
+
+-- these turns, one after the other
+abbrev pub TakesTurns : PortView → List Turn → PortView → Type 0
+TakesTurns old [] new = new ≡ old
+TakesTurns old (turn ∷ turns) new =
+    (next : PortView) × TakesOne old turn next × TakesTurns next turns new
+
 -- A further port was made: it has seen what the other one has, and has another author. Neither is alone.
 pub record IsTwin (old new twin : PortView) : Type 0 where
   pub new_is : new ≡ record old { is_alone = false }
   pub other : twin.author ≢ old.author
+  pub own : 0 < old.author
   pub some : 0 < twin.author
   pub twin_is : twin ≡ record {
     opened = old.opened;
@@ -78,6 +113,7 @@ pub record IsTwin (old new twin : PortView) : Type 0 where
     finds = [];
     made = [];
     marks = 0;
+    met = [];
   }
 
 -- both are ports of one book
@@ -86,9 +122,9 @@ pub record CanMeet (port other : PortView) : Type 0 where
   pub shared : port.is_alone ≡ false
   pub other_shared : other.is_alone ≡ false
 
--- The other port has ended. What either has seen, this one has seen then: the longer history.
+-- The other port has ended, and what it was is kept. What either has seen, this one has seen then: the longer history.
 pub record Meets (old other new : PortView) : Type 0 where
   pub seen : (new.seen ≡ old.seen) ⊎ (new.seen ≡ other.seen)
   pub has_own : OthersWentOn old.author old.seen new.seen
   pub has_other : OthersWentOn other.author other.seen new.seen
-  pub new_is : new ≡ record old { seen = new.seen }
+  pub new_is : new ≡ record old { seen = new.seen; met = old.met ++ (other.met ++ end_of other ∷ []) }

@@ -1,6 +1,6 @@
 // Laws of the definitions, each as the contract of a function that does nothing.
 ghost use Rattle.book_port.specs.laws.BookLaws.{HistoryGoesOn, MarksGoOn, CountedWhole, ReopenedHasNoTrial, ReopenedOnce, FoundedIsRun, RunGoesOn, RunAtExpiry, RunAccepts, RunIsBase, ExpiresOnce, AnsweredBehindExpiry, JudgedWithoutDisk};
-ghost use Rattle.book_port.specs.laws.TurnLaws.{AloneFollows, OneMoreFollows, OthersFollow, FollowsGoesOn, OwnEntriesAreMade};
+ghost use Rattle.book_port.specs.laws.TurnLaws.{AloneFollows, OneMoreFollows, OthersFollow, FollowsGoesOn, OwnEntriesAreMade, TakenAlone, TakenFollow, TakenGoOn, TakenAreFound, TakenAreMade, TakenOneMore};
 
 /// What is added to a chronicle, and how long it is.
 pub fn chronicles_are_counted()
@@ -38,4 +38,14 @@ pub fn turns_follow()
     ensures others { OthersFollow }
     ensures goes_on { FollowsGoesOn }
     ensures own { OwnEntriesAreMade }
+{}
+
+/// What a port shows behind turns that it took one after the other, and which histories these found.
+pub fn turns_are_taken()
+    ensures alone { TakenAlone }
+    ensures follow { TakenFollow }
+    ensures go_on { TakenGoOn }
+    ensures found { TakenAreFound }
+    ensures made { TakenAreMade }
+    ensures one_more { TakenOneMore }
 {}

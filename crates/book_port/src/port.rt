@@ -14,12 +14,12 @@ pub trait BookPort: Sized {
     /// Makes what is asked the next entry, at this reading of the clock in nanoseconds since 1970. The answer is its stamp.
     fn set(&mut self, alloc: Global, now: u64, ask: Ask) -> Result<u64, Refusal>
         requires { IsFit ask }
-        ensures { SetsOnce (port self.old) now ask result (port self.new) };
+        ensures once { SetsOnce (port self.old) now ask result (port self.new) };
 
     /// The rows that some pattern covers, at this reading of the clock. It is refused for a fault of the disk, and for want of
     /// memory, alone.
     fn look(&mut self, alloc: Global, now: u64, patterns: &Paths) -> Result<View, Refusal>
-        ensures { LooksOnce (port self.old) now patterns.now result (port self.new) };
+        ensures once { LooksOnce (port self.old) now patterns.now result (port self.new) };
 }
 
 /// Why there is no further port.

@@ -1,8 +1,9 @@
 -- A ledger as its callers see it, and how an append fails.
-use Rattle.std.specs.Prelude.{◌≡◌, ◌⊎◌, ℕ, List, Option, Some, None, refl}
+use Rattle.std.specs.Prelude.{◌≡◌, ◌⊎◌, ℕ, ◌<◌, ◌≤◌, List, Option, Some, None, refl}
 use Rattle.std.specs.Coded.{Coded, code_by, coded×}
 use Rattle.base_kinds.specs.declared.entry.Entry.{Entry}
 use Rattle.base_kinds.specs.declared.entry.Limits.{Limits}
+use Rattle.disk_model.specs.Calls.{Fuse, CallsFailed}
 use Rattle.disk_model.specs.Content.{Content, WhereTold}
 use Rattle.commit_journal.specs.Writes.{FailsAtRecord, AppendsInDoubt}
 
@@ -22,6 +23,19 @@ abbrev pub FailedAppend : Limits → List Entry → Entry → Option Entry
 FailedAppend limits h entry doubt old new =
     ((doubt ≡ None) × WhereTold old new (FailsAtRecord limits h entry))
     ⊎ ((doubt ≡ Some entry) × WhereTold old new (AppendsInDoubt limits h entry))
+
+-- What an append leaves in doubt whose call of this number failed, counted from 0. The first two are
+-- for the record, and leave nothing in doubt; the two for the gate leave the entry.
+abbrev pub IsDoubtAt : ℕ → Entry → Option Entry → Type 0
+IsDoubtAt call entry doubt =
+    ((call < 2) × (doubt ≡ None)) ⊎ ((2 ≤ call) × (doubt ≡ Some entry))
+
+-- of the four calls of an append one failed, and which one decides what is in doubt
+pub record FailsAppending (entry : Entry) (doubt : Option Entry) (old new : Fuse) : Type 0 where
+  pub call : ℕ
+  pub within : call < 4
+  pub failed : CallsFailed call old new
+  pub doubt_is : IsDoubtAt call entry doubt
 
 -- how a view is kept as its parts, as the toolchain asks of the value of a model
 abbrev Parts : Type 0 → Type 0

@@ -11,7 +11,7 @@ ghost use Rattle.journal_format.specs.Gates.{closed_gate};
 ghost use Rattle.journal_format.specs.Histories.{MayFollow};
 ghost use Rattle.journal_format.specs.Journal.{IsJournal};
 ghost use Rattle.commit_journal.specs.Images.{IsJournalOr};
-ghost use Rattle.commit_journal.specs.Ledgers.{LedgerView, FailedAppend};
+ghost use Rattle.commit_journal.specs.Ledgers.{LedgerView, FailedAppend, FailsAppending};
 ghost use Rattle.commit_journal.specs.Writes.{Creates, CreateFails, Appends, PutsGate, FailsAtGate, first_octets};
 
 use crate::faults::{CreateFault, LedgerFault};
@@ -189,7 +189,8 @@ impl<D: Disk> Ledger<D> {
         ensures four_calls { OnOk result
             (CallsPassed 4 (D.fuse self.old.disk) (D.fuse self.new.disk)) }
         ensures failed_call { IsErrOf result LedgerFault.DiskFault
-            → FailsWithin 4 (D.fuse self.old.disk) (D.fuse self.new.disk) }
+            → FailsAppending entry.now self.new.doubt (D.fuse self.old.disk)
+            (D.fuse self.new.disk) }
     {
         put_record(entry, &mut self.buffer)?;
         put_synced(&mut self.disk, self.gate + 1, &self.buffer)?;

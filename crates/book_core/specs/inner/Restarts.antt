@@ -14,8 +14,3 @@ IsRestartOf h now (Some entry) = (is_open (world_of h).trial ≡ true) × (entry
 abbrev pub with_one : List Entry → Option Entry → List Entry
 with_one h None = h
 with_one h (Some entry) = h ++ entry ∷ []
-
--- how many calls of the disk an append of it makes
-abbrev pub append_calls : Option Entry → ℕ
-append_calls None = 0
-append_calls (Some entry) = 4

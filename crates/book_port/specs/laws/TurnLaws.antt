@@ -1,9 +1,10 @@
 -- What holds of an author's turns in a history that others share.
-use Rattle.std.specs.Prelude.{◌≡◌, ℕ, List, [], ◌∷◌, ◌++◌}
+use Rattle.std.specs.Prelude.{◌≡◌, ℕ, List, [], ◌∷◌, ◌++◌, map, IsTrue}
 use Rattle.std.specs.List.{AllByRecursion}
 use Rattle.base_kinds.specs.declared.entry.Entry.{Entry}
 use Rattle.book_port.specs.Chronicles.{entries_by}
 use Rattle.book_port.specs.Follows.{Turn, OthersWentOn, Follows, FollowsAlone, GoesOn, made_by}
+use Rattle.book_port.specs.Ports.{PortView, TakesOne, TakesTurns}
 
 -- turns of one who is alone follow in particular
 abbrev pub AloneFollows : Type 0
@@ -29,3 +30,32 @@ FollowsGoesOn = (author : ℕ) (seen : List Entry) (turns : List Turn) (last : L
 abbrev pub OwnEntriesAreMade : Type 0
 OwnEntriesAreMade = (author : ℕ) (seen : List Entry) (turns : List Turn) (last : List Entry) → AllByRecursion GoesOn turns →
     Follows author seen turns last → entries_by author last ≡ entries_by author seen ++ made_by author turns
+
+-- the turns of a port that is alone: each finds the history that the one before it left
+abbrev pub TakenAlone : Type 0
+TakenAlone = (old new : PortView) (turns : List Turn) → IsTrue old.is_alone → TakesTurns old turns new →
+    FollowsAlone old.seen turns new.seen
+
+-- those of any port: each finds that history with others' entries behind it
+abbrev pub TakenFollow : Type 0
+TakenFollow = (old new : PortView) (turns : List Turn) → TakesTurns old turns new →
+    Follows old.author old.seen turns new.seen
+
+-- each leaves a history that begins with the one that it found
+abbrev pub TakenGoOn : Type 0
+TakenGoOn = (old new : PortView) (turns : List Turn) → TakesTurns old turns new → AllByRecursion GoesOn turns
+
+-- the port keeps the histories that they found
+abbrev pub TakenAreFound : Type 0
+TakenAreFound = (old new : PortView) (turns : List Turn) → TakesTurns old turns new →
+    new.finds ≡ old.finds ++ map (λ turn. turn.found) turns
+
+-- and the entries that they made
+abbrev pub TakenAreMade : Type 0
+TakenAreMade = (old new : PortView) (turns : List Turn) → TakesTurns old turns new →
+    new.made ≡ old.made ++ made_by old.author turns
+
+-- one more turn behind them
+abbrev pub TakenOneMore : Type 0
+TakenOneMore = (old mid new : PortView) (turns : List Turn) (turn : Turn) → TakesTurns old turns mid → TakesOne mid turn new →
+    TakesTurns old (turns ++ turn ∷ []) new

@@ -40,7 +40,7 @@ returns-in-Ok-append_one g c =
     (ready_here g.D.Disk.told g.D.Disk.faults g.D.Disk.fuse c.args.given.value c.args.core.schema c.args.now c.reserve.new.self c.args.entries (reserved g.D.Disk.told g.D.Disk.faults c.args.given.value c.args.entries c.args.ledger c.reserve.new.self _ c.reserve.ensures.same c.requires.ready) (subst (λ (l : LedgerView _). WhereArmed (g.D.Disk.fuse c.args.given.value) (g.D.Disk.told c.args.given.value) (λ x. CallsPassed (opening_calls (length x.seen)) (g.D.Disk.fuse c.args.given.value) (g.D.Disk.fuse l.disk))) (sym c.reserve.ensures.same) c.requires.calls) c.in-Ok-restore.restart c.in-Ok-restore.ensures.restart c.append_one.new.ledger c.append_one.ensures.limits c.append_one.ensures.any_moment c.restore.new.core c.chronicle_of-chronicle.result c.restore.ensures.rules.schema (c.restore.ensures.rules.limits ∙ c.requires.limits ∙ sym (ap (λ (l : LedgerView _). l.limits) c.reserve.ensures.same)) c.in-Ok-restore.ensures.entries (c.chronicle_of-chronicle.ensures ∙ ap entered c.entries-history.ensures.value) c.in-Ok-restore.ensures.sound c.in-Ok-append_one.ensures.ok.0 c.in-Ok-append_one.ensures.ok.1 c.in-Ok-append_one.ensures.quiet c.append_one.ensures.images c.in-Ok-append_one.ensures.passed)
 
 pub returns-in-Ok-restore : goal.returns-in-Ok-restore
-returns-in-Ok-restore g c = subst (λ d. IsFaulty g.D.Disk.told g.D.Disk.faults g.D.Disk.fuse c.args.given.value c.args.core.schema c.args.now d) (sym c.give-in-Err.ensures) (faulty_here g.D.Disk.told g.D.Disk.faults g.D.Disk.fuse c.args.given.value c.args.core.schema c.args.now c.reserve.new.self c.args.entries (reserved g.D.Disk.told g.D.Disk.faults c.args.given.value c.args.entries c.args.ledger c.reserve.new.self _ c.reserve.ensures.same c.requires.ready) (subst (λ (l : LedgerView _). WhereArmed (g.D.Disk.fuse c.args.given.value) (g.D.Disk.told c.args.given.value) (λ x. CallsPassed (opening_calls (length x.seen)) (g.D.Disk.fuse c.args.given.value) (g.D.Disk.fuse l.disk))) (sym c.reserve.ensures.same) c.requires.calls) c.in-Ok-restore.restart c.in-Ok-restore.ensures.restart c.append_one.new.ledger c.append_one.ensures.limits c.append_one.ensures.any_moment c.in-Err.ensures.fault c.in-Err.ensures.failed)
+returns-in-Ok-restore g c = subst (λ d. IsFaulty g.D.Disk.told g.D.Disk.faults g.D.Disk.fuse c.args.given.value c.args.core.schema c.args.now d) (sym c.give-in-Err.ensures) (faulty_here g.D.Disk.told g.D.Disk.faults g.D.Disk.fuse c.args.given.value c.args.core.schema c.args.now c.reserve.new.self c.args.entries (reserved g.D.Disk.told g.D.Disk.faults c.args.given.value c.args.entries c.args.ledger c.reserve.new.self _ c.reserve.ensures.same c.requires.ready) (subst (λ (l : LedgerView _). WhereArmed (g.D.Disk.fuse c.args.given.value) (g.D.Disk.told c.args.given.value) (λ x. CallsPassed (opening_calls (length x.seen)) (g.D.Disk.fuse c.args.given.value) (g.D.Disk.fuse l.disk))) (sym c.reserve.ensures.same) c.requires.calls) c.in-Ok-restore.restart c.in-Ok-restore.ensures.restart c.append_one.new.ledger c.append_one.ensures.limits c.append_one.ensures.any_moment c.in-Err.ensures.some c.in-Ok-restore.ensures.sound c.in-Err.ensures.fault c.in-Err.ensures.failed)
 
 pub returns-in-Err-Unfit : goal.returns-in-Err-Unfit
 returns-in-Err-Unfit g c = subst (λ d. IsUnfit g.D.Disk.told g.D.Disk.faults g.D.Disk.fuse c.args.given.value c.args.core.schema c.args.now d) (sym c.give-in-Err-Unfit.ensures) (unfit_here g.D.Disk.told g.D.Disk.faults g.D.Disk.fuse c.args.given.value c.args.core.schema c.args.now c.reserve.new.self c.args.entries (reserved g.D.Disk.told g.D.Disk.faults c.args.given.value c.args.entries c.args.ledger c.reserve.new.self _ c.reserve.ensures.same c.requires.ready) (subst (λ (l : LedgerView _). WhereArmed (g.D.Disk.fuse c.args.given.value) (g.D.Disk.told c.args.given.value) (λ x. CallsPassed (opening_calls (length x.seen)) (g.D.Disk.fuse c.args.given.value) (g.D.Disk.fuse l.disk))) (sym c.reserve.ensures.same) c.requires.calls) (c.in-Err-Unfit.ensures.unfit (ap Err c.in-Err-Unfit.field-0-is)))

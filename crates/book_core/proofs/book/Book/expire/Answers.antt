@@ -1,12 +1,12 @@
 use Rattle.std.proofs.Common.{◌≡◌, true, refl, ap, subst, sym, ◌∙◌, inl, inr, Err, [], ◌∷◌, ◌++◌, arith}
 use Rattle.base_kinds.specs.declared.refusal.Refusal.{Refusal}
-use Rattle.disk_model.specs.Calls.{CallsPassed, FailsWithin}
+use Rattle.disk_model.specs.Calls.{CallsPassed}
 use Rattle.book_port.specs.declared.happening.Happening.TheVariants.{Marked}
 use Rattle.book_port.specs.Chronicles.{history_of}
 use Rattle.book_port.specs.Answers.{look_stages}
-use Rattle.book_core.specs.Calls.{expiry_calls}
+use Rattle.book_core.specs.Calls.{expiry_entry}
 use Rattle.book_core.specs.Views.{BookView, history_in}
-use Rattle.book_core.proofs.Ends.{only_fault, expiry_given, expiry_by, expiry_short, expiry_through, expiry_attempted, expiry_four, expired}
+use Rattle.book_core.proofs.Ends.{only_fault, expiry_given, expiry_by, expiry_short, expiry_through, expiry_attempted, expiry_appended, expiry_four, expired}
 use Rattle.book_core.proofs.Exits.{may_append, kept_marked, kept_entered, few_marks, history_marked, part_entered, part_failed}
 use Rattle.book_core.proofs.book.Book.expire.Goals as goal
 
@@ -30,8 +30,8 @@ returns-in_default-clause-err g c = ap history_of (c.mark.ensures.chronicle ∙ 
 
 pub returns-in_default-clause-part : goal.returns-in_default-clause-part
 returns-in_default-clause-part g c =
-    part_failed g.D.Disk.told g.D.Disk.faults _ _ _ _ _ c.self.invariant g.D.Disk.fuse c.args.author (λ b. look_stages (history_in b) c.args.now) (λ b. expiry_calls (history_in b) c.args.now) c.args.self.now c.self.view_is c.expiry-entry.result _ _ _ _
-    (expiry_through g.D.Disk.told g.D.Disk.faults _ _ _ _ _ c.self.invariant c.args.now _ (sym c.due.ensures ∙ c.if-not-due.false) c.expiry-entry.ensures.entry) (expiry_attempted g.D.Disk.told g.D.Disk.faults _ _ _ _ _ c.self.invariant c.args.now _ (sym c.due.ensures ∙ c.if-not-due.false) c.expiry-entry.ensures.entry) (c.mark.ensures.chronicle ∙ ap (λ l. l ++ Marked c.args.author ∷ []) c.in_default.ensures.chronicle_err) c.in_default.ensures.doubt c.enter.ensures.any_moment (subst (λ n. FailsWithin n (g.D.Disk.fuse c.self.inside.ledger.disk) (g.D.Disk.fuse c.enter.new.ledger.disk)) (expiry_four g.D.Disk.told g.D.Disk.faults _ _ _ _ _ c.self.invariant c.args.now _ (sym c.due.ensures ∙ c.if-not-due.false) c.expiry-entry.ensures.entry) (c.in_default.ensures.failed (ap Err (only_fault _ c.in_default.ensures.refusals (c.in_default.ensures.within (expiry_short g.D.Disk.told g.D.Disk.faults _ _ _ _ _ c.self.invariant c.args.now _ (sym c.due.ensures ∙ c.if-not-due.false) c.expiry-entry.ensures.entry)))))) (invariant_of-self-in_default g c)
+    part_failed g.D.Disk.told g.D.Disk.faults _ _ _ _ _ c.self.invariant g.D.Disk.fuse c.args.author (λ b. look_stages (history_in b) c.args.now) (λ b. expiry_entry (history_in b) c.args.now) c.args.self.now c.self.view_is c.expiry-entry.result _ _ _ _
+    (expiry_through g.D.Disk.told g.D.Disk.faults _ _ _ _ _ c.self.invariant c.args.now _ (sym c.due.ensures ∙ c.if-not-due.false) c.expiry-entry.ensures.entry) (expiry_attempted g.D.Disk.told g.D.Disk.faults _ _ _ _ _ c.self.invariant c.args.now _ (sym c.due.ensures ∙ c.if-not-due.false) c.expiry-entry.ensures.entry) (c.mark.ensures.chronicle ∙ ap (λ l. l ++ Marked c.args.author ∷ []) c.in_default.ensures.chronicle_err) c.in_default.ensures.doubt c.enter.ensures.any_moment (expiry_appended g.D.Disk.told g.D.Disk.faults _ _ _ _ _ c.self.invariant c.args.now _ (sym c.due.ensures ∙ c.if-not-due.false) c.expiry-entry.ensures.entry) (c.in_default.ensures.failed (ap Err (only_fault _ c.in_default.ensures.refusals (c.in_default.ensures.within (expiry_short g.D.Disk.told g.D.Disk.faults _ _ _ _ _ c.self.invariant c.args.now _ (sym c.due.ensures ∙ c.if-not-due.false) c.expiry-entry.ensures.entry))))) (invariant_of-self-in_default g c)
 
 pub returns-clause-ok : goal.returns-clause-ok
 returns-clause-ok g c =
@@ -39,6 +39,6 @@ returns-clause-ok g c =
 
 pub returns-clause-part : goal.returns-clause-part
 returns-clause-part g c =
-    part_entered g.D.Disk.told g.D.Disk.faults _ _ _ _ _ c.self.invariant g.D.Disk.fuse c.args.author (λ b. look_stages (history_in b) c.args.now) (λ b. expiry_calls (history_in b) c.args.now) c.args.self.now c.self.view_is _ c.expiry-entry.result _ _ _
+    part_entered g.D.Disk.told g.D.Disk.faults _ _ _ _ _ c.self.invariant g.D.Disk.fuse c.args.author (λ b. look_stages (history_in b) c.args.now) (λ b. expiry_entry (history_in b) c.args.now) c.args.self.now c.self.view_is _ c.expiry-entry.result _ _ _
     (expiry_by g.D.Disk.told g.D.Disk.faults _ _ _ _ _ c.self.invariant c.args.now _ (sym c.due.ensures ∙ c.if-not-due.false) c.expiry-entry.ensures.entry c.args.author)
     (expiry_through g.D.Disk.told g.D.Disk.faults _ _ _ _ _ c.self.invariant c.args.now _ (sym c.due.ensures ∙ c.if-not-due.false) c.expiry-entry.ensures.entry) c.in-Ok.ensures.chronicle_ok c.in-Ok.ensures.ledger_ok.1 c.enter.ensures.any_moment (subst (λ n. CallsPassed n (g.D.Disk.fuse c.self.inside.ledger.disk) (g.D.Disk.fuse c.enter.new.ledger.disk)) (expiry_four g.D.Disk.told g.D.Disk.faults _ _ _ _ _ c.self.invariant c.args.now _ (sym c.due.ensures ∙ c.if-not-due.false) c.expiry-entry.ensures.entry) c.in-Ok.ensures.passed) (invariant_of-self g c)

@@ -1,11 +1,11 @@
-use Rattle.std.proofs.Common.{◌≡◌, ℕ, true, false, refl, ap, subst, sym, ◌∙◌, inl, inr, Ok, Err, [], ◌∷◌, ◌++◌, arith}
+use Rattle.std.proofs.Common.{◌≡◌, ℕ, true, false, refl, ap, subst, sym, ◌∙◌, inl, inr, None, Ok, Err, [], ◌∷◌, ◌++◌, arith}
 use Rattle.base_kinds.specs.declared.refusal.Refusal.TheVariants.{DiskFault, NoMemory}
 use Rattle.base_kinds.specs.Step.{after_expiry}
 use Rattle.book_port.specs.Chronicles.{history_of}
 use Rattle.book_core.specs.Moments.{GoesThrough}
 use Rattle.book_port.specs.Answers.{look_stages, AnswersLook}
 use Rattle.base_kinds.specs.declared.entry.View.{View}
-use Rattle.book_core.specs.Calls.{CallsFor, repair_calls, expiry_calls, calls_before}
+use Rattle.book_core.specs.Calls.{CallsFor}
 use Rattle.book_core.specs.Views.{BookView, history_in}
 use Rattle.book_core.proofs.Calling.{none_for, repair_failed, expiry_fails, before_asked, looked, looked_starved}
 use Rattle.book_core.proofs.Answering.{error_is}
@@ -40,17 +40,17 @@ returns-clause-any_moment g c =
 
 pub returns-then-self-clause-calls : goal.returns-then-self-clause-calls
 returns-then-self-clause-calls g c =
-    subst (λ (b : BookView _). CallsFor {T = View} (calls_before b.doubt (history_in b) c.args.now) 0 (g.D.Disk.fuse b.disk) (g.D.Disk.fuse b.disk) (Err NoMemory)) c.self.view_is (none_for View _ 0 _)
+    none_for View c.args.self.now.doubt (history_in c.args.self.now) c.args.now None (history_in c.args.self.now) c.args.self.now.doubt (g.D.Disk.fuse c.args.self.now.disk)
 
 pub returns-in_err-settle-clause-calls : goal.returns-in_err-settle-clause-calls
 returns-in_err-settle-clause-calls g c =
-    subst (λ r. CallsFor {T = View} (calls_before c.args.self.now.doubt (history_in c.args.self.now) c.args.now) 0 (g.D.Disk.fuse c.args.self.now.disk) (g.D.Disk.fuse c.settle.new.self.disk) r) (sym (error_is c.from_residual.result c.in_err-settle.field-0.0 c.from_residual.ensures.1 ∙ ap Err c.in_err-settle.ensures.refusal))
-    (repair_failed View (repair_calls c.args.self.now.doubt) (expiry_calls (history_in c.args.self.now) c.args.now) 0 _ _ c.in_err-settle.ensures.calls)
+    subst (λ r. CallsFor {T = View} c.args.self.now.doubt (history_in c.args.self.now) c.args.now None (history_in c.settle.new.self) c.settle.new.self.doubt (g.D.Disk.fuse c.args.self.now.disk) (g.D.Disk.fuse c.settle.new.self.disk) r) (sym (error_is c.from_residual.result c.in_err-settle.field-0.0 c.from_residual.ensures.1 ∙ ap Err c.in_err-settle.ensures.refusal))
+    (repair_failed c.args.self.now.doubt (history_in c.args.self.now) c.args.now None (history_in c.settle.new.self) c.settle.new.self.doubt View _ _ c.in_err-settle.ensures.calls (ap (λ (b : BookView _). history_in b) c.in_err-settle.ensures.err ∙ history_marked c.args.self.now.chronicle c.args.author) (ap (λ (b : BookView _). b.doubt) c.in_err-settle.ensures.err))
 
 pub returns-in_err-expire-clause-calls : goal.returns-in_err-expire-clause-calls
 returns-in_err-expire-clause-calls g c =
-    subst (λ r. CallsFor {T = View} (calls_before c.args.self.now.doubt (history_in c.args.self.now) c.args.now) 0 (g.D.Disk.fuse c.args.self.now.disk) (g.D.Disk.fuse c.expire.new.self.disk) r) (sym (error_is c.from_residual-in_err-expire.result c.in_err-expire.field-0.0 c.from_residual-in_err-expire.ensures.1 ∙ ap Err c.in_err-expire.ensures.refusal))
-    (expiry_fails g.D.Disk.fuse c.args.self.now c.settle.new.self c.args.now c.in_ok-settle.ensures.ok c.in_ok-settle.ensures.calls (Unit {0}) View 0 _ c.in_err-expire.field-0.0 c.in_err-expire.ensures.refusal c.in_err-expire.ensures.part.made)
+    subst (λ r. CallsFor {T = View} c.args.self.now.doubt (history_in c.args.self.now) c.args.now None (history_in c.expire.new.self) c.expire.new.self.doubt (g.D.Disk.fuse c.args.self.now.disk) (g.D.Disk.fuse c.expire.new.self.disk) r) (sym (error_is c.from_residual-in_err-expire.result c.in_err-expire.field-0.0 c.from_residual-in_err-expire.ensures.1 ∙ ap Err c.in_err-expire.ensures.refusal))
+    (expiry_fails g.D.Disk.fuse c.args.self.now c.settle.new.self c.args.now c.in_ok-settle.ensures.ok c.in_ok-settle.ensures.calls (Unit {0}) View None (history_in c.expire.new.self) c.expire.new.self.doubt _ c.in_err-expire.field-0.0 c.in_err-expire.ensures.refusal c.in_err-expire.ensures.part.made)
 
 pub returns-clause-calls : goal.returns-clause-calls
 returns-clause-calls g c =
@@ -58,4 +58,4 @@ returns-clause-calls g c =
 
 pub returns-in_default-clause-calls : goal.returns-in_default-clause-calls
 returns-in_default-clause-calls g c =
-    looked_starved View _ _ _ (before_asked g.D.Disk.fuse c.args.self.now c.settle.new.self c.args.now c.in_ok-settle.ensures.ok c.in_ok-settle.ensures.calls _ c.in_ok-expire.ensures.part.made)
+    looked_starved c.args.self.now.doubt (history_in c.args.self.now) c.args.now None (history_in c.expire.new.self) c.expire.new.self.doubt View _ _ (before_asked g.D.Disk.fuse c.args.self.now c.settle.new.self c.args.now c.in_ok-settle.ensures.ok c.in_ok-settle.ensures.calls _ c.in_ok-expire.ensures.part.made)

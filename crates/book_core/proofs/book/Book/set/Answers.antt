@@ -1,16 +1,16 @@
 use Rattle.std.proofs.Common.{◌≡◌, ℕ, length, true, false, refl, ap, subst, sym, ◌∙◌, inl, inr, Ok, Err, [], ◌∷◌, ◌++◌, arith}
 use Rattle.base_kinds.specs.declared.refusal.Refusal.TheVariants.{DiskFault, NoMemory}
-use Rattle.base_kinds.specs.Step.{after_expiry}
+use Rattle.base_kinds.specs.Step.{after_expiry, step}
 use Rattle.book_port.specs.Chronicles.{history_of, marks_of, Adds}
 use Rattle.book_core.specs.Moments.{GoesThrough, IsAttempted}
 use Rattle.book_port.specs.Answers.{look_stages, set_stages, AnswersSet}
 use Rattle.book_port.specs.Opened.{rules_in}
-use Rattle.book_core.specs.Calls.{CallsFor, repair_calls, expiry_calls, calls_before}
+use Rattle.book_core.specs.Calls.{CallsFor, answer_entry}
 use Rattle.book_core.specs.Views.{BookView, history_in}
 use Rattle.book_core.proofs.Calling.{none_for, repair_failed, expiry_fails, before_asked, asked_then}
 use Rattle.book_core.proofs.Answering.{marks_same, error_is, adds_then, attempted_look}
 use Rattle.disk_model.proofs.Moving.{leaves_weaker}
-use Rattle.book_core.proofs.Ends.{set_closes, quiet_now, set_answers, set_moments, set_attempted}
+use Rattle.book_core.proofs.Ends.{set_closes, quiet_now, set_answers, set_moments, set_attempted, set_made}
 use Rattle.book_core.proofs.Exits.{history_marked}
 use Rattle.book_core.proofs.Passing.{nothing_done, behind_repair, look_in_set}
 use Rattle.book_core.proofs.book.Book.set.Goals as goal
@@ -65,18 +65,19 @@ returns-clause-closes g c = λ is few. set_closes g.D.Disk.told c.args.self.now 
 
 pub returns-then-self-clause-calls : goal.returns-then-self-clause-calls
 returns-then-self-clause-calls g c =
-    subst (λ (b : BookView _). CallsFor {T = ℕ} (calls_before b.doubt (history_in b) c.args.now) 4 (g.D.Disk.fuse b.disk) (g.D.Disk.fuse b.disk) (Err NoMemory)) c.self.view_is (none_for ℕ _ 4 _)
+    none_for ℕ c.args.self.now.doubt (history_in c.args.self.now) c.args.now (answer_entry (step (rules_in c.args.self.now.opened) (history_in c.args.self.now) c.args.now c.args.author c.args.ask)) (history_in c.args.self.now) c.args.self.now.doubt (g.D.Disk.fuse c.args.self.now.disk)
 
 pub returns-in_err-settle-clause-calls : goal.returns-in_err-settle-clause-calls
 returns-in_err-settle-clause-calls g c =
-    subst (λ r. CallsFor {T = ℕ} (calls_before c.args.self.now.doubt (history_in c.args.self.now) c.args.now) 4 (g.D.Disk.fuse c.args.self.now.disk) (g.D.Disk.fuse c.settle.new.self.disk) r) (sym (error_is c.from_residual.result c.in_err-settle.field-0.0 c.from_residual.ensures.1 ∙ ap Err c.in_err-settle.ensures.refusal))
-    (repair_failed ℕ (repair_calls c.args.self.now.doubt) (expiry_calls (history_in c.args.self.now) c.args.now) 4 _ _ c.in_err-settle.ensures.calls)
+    subst (λ r. CallsFor {T = ℕ} c.args.self.now.doubt (history_in c.args.self.now) c.args.now (answer_entry (step (rules_in c.args.self.now.opened) (history_in c.args.self.now) c.args.now c.args.author c.args.ask)) (history_in c.settle.new.self) c.settle.new.self.doubt (g.D.Disk.fuse c.args.self.now.disk) (g.D.Disk.fuse c.settle.new.self.disk) r) (sym (error_is c.from_residual.result c.in_err-settle.field-0.0 c.from_residual.ensures.1 ∙ ap Err c.in_err-settle.ensures.refusal))
+    (repair_failed c.args.self.now.doubt (history_in c.args.self.now) c.args.now (answer_entry (step (rules_in c.args.self.now.opened) (history_in c.args.self.now) c.args.now c.args.author c.args.ask)) (history_in c.settle.new.self) c.settle.new.self.doubt ℕ _ _ c.in_err-settle.ensures.calls (ap (λ (b : BookView _). history_in b) c.in_err-settle.ensures.err ∙ history_marked c.args.self.now.chronicle c.args.author) (ap (λ (b : BookView _). b.doubt) c.in_err-settle.ensures.err))
 
 pub returns-in_err-expire-clause-calls : goal.returns-in_err-expire-clause-calls
 returns-in_err-expire-clause-calls g c =
-    subst (λ r. CallsFor {T = ℕ} (calls_before c.args.self.now.doubt (history_in c.args.self.now) c.args.now) 4 (g.D.Disk.fuse c.args.self.now.disk) (g.D.Disk.fuse c.expire.new.self.disk) r) (sym (error_is c.from_residual-in_err-expire.result c.in_err-expire.field-0.0 c.from_residual-in_err-expire.ensures.1 ∙ ap Err c.in_err-expire.ensures.refusal))
-    (expiry_fails g.D.Disk.fuse c.args.self.now c.settle.new.self c.args.now c.in_ok-settle.ensures.ok c.in_ok-settle.ensures.calls (Unit {0}) ℕ 4 _ c.in_err-expire.field-0.0 c.in_err-expire.ensures.refusal c.in_err-expire.ensures.part.made)
+    subst (λ r. CallsFor {T = ℕ} c.args.self.now.doubt (history_in c.args.self.now) c.args.now (answer_entry (step (rules_in c.args.self.now.opened) (history_in c.args.self.now) c.args.now c.args.author c.args.ask)) (history_in c.expire.new.self) c.expire.new.self.doubt (g.D.Disk.fuse c.args.self.now.disk) (g.D.Disk.fuse c.expire.new.self.disk) r) (sym (error_is c.from_residual-in_err-expire.result c.in_err-expire.field-0.0 c.from_residual-in_err-expire.ensures.1 ∙ ap Err c.in_err-expire.ensures.refusal))
+    (expiry_fails g.D.Disk.fuse c.args.self.now c.settle.new.self c.args.now c.in_ok-settle.ensures.ok c.in_ok-settle.ensures.calls (Unit {0}) ℕ (answer_entry (step (rules_in c.args.self.now.opened) (history_in c.args.self.now) c.args.now c.args.author c.args.ask)) (history_in c.expire.new.self) c.expire.new.self.doubt _ c.in_err-expire.field-0.0 c.in_err-expire.ensures.refusal c.in_err-expire.ensures.part.made)
 
 pub returns-clause-calls : goal.returns-clause-calls
 returns-clause-calls g c =
-    asked_then _ 4 _ (g.D.Disk.fuse c.expire.new.self.disk) _ c.commit.result (before_asked g.D.Disk.fuse c.args.self.now c.settle.new.self c.args.now c.in_ok-settle.ensures.ok c.in_ok-settle.ensures.calls _ c.in_ok-expire.ensures.part.made) c.commit.ensures.part.made
+    asked_then c.args.self.now.doubt (history_in c.args.self.now) c.args.now (answer_entry (step (rules_in c.args.self.now.opened) (history_in c.args.self.now) c.args.now c.args.author c.args.ask)) (history_in c.commit.new.self) c.commit.new.self.doubt _ (g.D.Disk.fuse c.expire.new.self.disk) _ c.commit.result (before_asked g.D.Disk.fuse c.args.self.now c.settle.new.self c.args.now c.in_ok-settle.ensures.ok c.in_ok-settle.ensures.calls _ c.in_ok-expire.ensures.part.made)
+    (set_made g.D.Disk.told c.args.self.now c.settle.new.self c.expire.new.self c.args.now c.args.author c.args.ask c.in_ok-settle.ensures.ok c.expire.ensures.part.opened c.in_ok-expire.ensures.ok.0 c.commit.result _ _ _ _ c.commit.ensures.part.made)

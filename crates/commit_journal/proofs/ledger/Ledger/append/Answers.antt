@@ -1,6 +1,5 @@
 use Rattle.std.proofs.Common.{◌≡◌, ◌+◌, ◌<◌, ◌^◌, [], ◌∷◌, ◌++◌, true, false, Some, inl, inr, length, vec_capacity, refl, ap, ◌∙◌, arith}
-use Rattle.disk_model.proofs.Calls.{fails_within_then}
-use Rattle.commit_journal.proofs.AppendCalls.{fails_of}
+use Rattle.commit_journal.proofs.AppendCalls.{fails_at_record, fails_at_gate}
 use Rattle.base_kinds.specs.Records.{record_octets}
 use Rattle.journal_record.specs.Spelling.{record_of}
 use Rattle.commit_journal.specs.Ledgers.{LedgerView}
@@ -79,5 +78,10 @@ returns-in_default-clause-failed g c = λ is.
       (ends_at_gate (g.D.Disk.told) c.self.view_is c.self.invariant _ c.requires.settled c.requires.next _ (c.deref.ensures.value ∙ c.in_ok-put_record.ensures.ok) c.in_ok-put_record.ensures.kept _ _ c.in_ok-put_synced.ensures.ok _ _ c.of.ensures refl c.in_default.ensures.err).moved,
     )
 
+pub returns-in_err-put_synced-clause-failed_call : goal.returns-in_err-put_synced-clause-failed_call
+returns-in_err-put_synced-clause-failed_call g c = λ is.
+    fails_at_record (g.D.Disk.fuse) c.self.view_is c.args.entry.now _ _ (undoubted (g.D.Disk.told) c.self.view_is c.self.invariant c.args.entry.now c.requires.settled c.requires.next) c.in_err-put_synced.ensures.calls
+
 pub returns-in_default-clause-failed_call : goal.returns-in_default-clause-failed_call
-returns-in_default-clause-failed_call g c = λ is. fails_of (g.D.Disk.fuse) c.self.view_is 4 _ (fails_within_then 2 2 _ _ _ c.in_ok-put_synced.ensures.calls c.in_default.ensures.calls)
+returns-in_default-clause-failed_call g c = λ is.
+    fails_at_gate (g.D.Disk.fuse) c.self.view_is c.args.entry.now _ _ _ (ap Some c.of.ensures) c.in_ok-put_synced.ensures.calls c.in_default.ensures.calls
