@@ -1,14 +1,16 @@
 -- What a call makes of a wire, from what it made of the connection and the sink.
-use Rattle.std.proofs.Common.{◌≡◌, Bool, true, false, List, [], ◌∷◌, ◌++◌, Result, Ok, Err, refl, sym, ap, ◌∙◌, subst}
+use Rattle.std.proofs.Common.{◌≡◌, Bool, true, false, ℕ, List, [], ◌∷◌, ◌++◌, map, Result, Ok, Err, refl, sym, ap, ◌∙◌, subst}
 use Rattle.std.specs.Result.{IsErrAnd}
 use Rattle.edge_traits.specs.Output.{Output, FailedWithin}
 use Rattle.edge_traits.specs.declared.streams.Failed.{Failed}
 use Rattle.h2_frame.specs.Frames.{Frame}
 use Rattle.h2_windows.specs.Written.{octets_of, Writes}
-use Rattle.h2_events.specs.declared.event.RecvEvent.{RecvEvent}
+use Rattle.h2_events.specs.declared.port.Ready.TheVariants.{Free}
+use Rattle.h2_send.specs.Inputs.{Input, input_of}
+use Rattle.h2_send.specs.declared.given.Given.{Given}
 use Rattle.h2_send.specs.Lines.{Line, first_line}
-use Rattle.h2_send.specs.Acting.{Acted, acted}
-use Rattle.h2_send.specs.Wires.{WireView, Does, Responds, IsFolded, condition_after, answered, line_after}
+use Rattle.h2_send.specs.Acting.{Acted, handled}
+use Rattle.h2_send.specs.Wires.{WireView, Does, Responds, IsFolded, condition_after, answered, line_after, readiness}
 use Rattle.h2_send.specs.declared.condition.Condition.{Condition}
 use Rattle.h2_send.specs.declared.condition.Condition.TheVariants as condition
 use Rattle.h2_send.specs.declared.fault.WireFaultOut.{WireFaultOut}
@@ -24,25 +26,40 @@ pub unwritten : (wants : Bool) (a : Acted) (line : Line) (old new : Output) (res
 unwritten wants a line old new (Ok x) is failed = absurd is
 unwritten wants a line old new (Err e) is failed = subst (λ f. Responds wants a (Err f) line old new) (sym is) failed
 
-pub line_after_one : (line : Line) (events : List RecvEvent) (event : RecvEvent) → line_after line (events ++ event ∷ []) ≡ (acted event (line_after line events)).line
-line_after_one line [] event = refl
-line_after_one line (e ∷ events) event = line_after_one (acted e line).line events event
+pub line_after_one : (line : Line) (inputs : List Input) (input : Input) → line_after line (inputs ++ input ∷ []) ≡ (handled input (line_after line inputs)).line
+line_after_one line [] input = refl
+line_after_one line (i ∷ inputs) input = line_after_one (handled i line).line inputs input
 
 -- what a call does, where the wire has this behind it
-pub does : {S : Type 0} (seen : S → Output) (wants : Bool) (next : Condition) (events heard : List RecvEvent) (a : Acted) (old : WireView S) (result : Result (Unit {0}) WireFaultOut) (sink : S) (line : Line) (state : Condition) → heard ≡ old.heard ++ events → state ≡ condition_after next result → Responds wants a result line (seen old.sink) (seen sink) → Does seen wants next events a result old (record { sink = sink; line = line; heard = heard; condition = state })
-does {S} seen wants next events heard a old (Ok tt) sink line state more is (wrote, same) = (wrote, ap (λ l. let w : WireView S = record { sink = sink; line = l; heard = heard; condition = state } in w) same ∙ ap (λ h. let w : WireView S = record { sink = sink; line = a.line; heard = h; condition = state } in w) more ∙ ap (λ c. let w : WireView S = record { sink = sink; line = a.line; heard = old.heard ++ events; condition = c } in w) is)
-does {S} seen wants next events heard a old (Err fault.WriteFault) sink line state more is failed = (failed, more, is)
-does {S} seen wants next events heard a old (Err fault.NoMemory) sink line state more is (may, same) = (may, same, more, is)
-does {S} seen wants next events heard a old (Err fault.Overflow) sink line state more is never = absurd never
+pub does : {S : Type 0} (seen : S → Output) (wants : Bool) (next : Condition) (more given : List Input) (a : Acted) (old : WireView S) (result : Result (Unit {0}) WireFaultOut) (sink : S) (line : Line) (state : Condition) → given ≡ old.inputs ++ more → state ≡ condition_after next result → Responds wants a result line (seen old.sink) (seen sink) → Does seen wants next more a result old (record { sink = sink; line = line; inputs = given; condition = state })
+does {S} seen wants next more given a old (Ok tt) sink line state grows is (wrote, same) = (wrote, ap (λ l. let w : WireView S = record { sink = sink; line = l; inputs = given; condition = state } in w) same ∙ ap (λ h. let w : WireView S = record { sink = sink; line = a.line; inputs = h; condition = state } in w) grows ∙ ap (λ c. let w : WireView S = record { sink = sink; line = a.line; inputs = old.inputs ++ more; condition = c } in w) is)
+does {S} seen wants next more given a old (Err fault.WriteFault) sink line state grows is failed = (failed, grows, is)
+does {S} seen wants next more given a old (Err fault.NoMemory) sink line state grows is (may, same) = (may, same, grows, is)
+does {S} seen wants next more given a old (Err fault.Overflow) sink line state grows is never = absurd never
 
 -- what is written without taking memory
 pub answers : (done : Result (Unit {0}) Failed) (frames : List Frame) (line : Line) (old new : Output) → Writes done frames old new → Responds false (record { frames = frames; line = line }) (answered done) line old new
 answers (Ok tt) frames line old new wrote = (wrote, refl)
 answers (Err e) frames line old new failed = failed
 
--- the line stays what the events make of the first one
-pub folds : (wants : Bool) (event : RecvEvent) (before now : Line) (heard : List RecvEvent) (result : Result (Unit {0}) WireFaultOut) (old new : Output) → before ≡ line_after first_line heard → Responds wants (acted event before) result now old new → IsFolded (condition_after condition.Open result) now (heard ++ event ∷ [])
-folds wants event before now heard (Ok tt) old new is (wrote, line) = λ _. line ∙ ap (λ l. (acted event l).line) is ∙ sym (line_after_one first_line heard event)
-folds wants event before now heard (Err fault.WriteFault) old new is failed = λ c. absurd cc
-folds wants event before now heard (Err fault.NoMemory) old new is failed = λ c. absurd cc
-folds wants event before now heard (Err fault.Overflow) old new is never = absurd never
+-- the line stays what the inputs make of the first one
+pub folds : (wants : Bool) (input : Input) (before now : Line) (inputs : List Input) (result : Result (Unit {0}) WireFaultOut) (old new : Output) → before ≡ line_after first_line inputs → Responds wants (handled input before) result now old new → IsFolded (condition_after condition.Open result) now (inputs ++ input ∷ [])
+folds wants input before now inputs (Ok tt) old new is (wrote, line) = λ _. line ∙ ap (λ l. (handled input l).line) is ∙ sym (line_after_one first_line inputs input)
+folds wants input before now inputs (Err fault.WriteFault) old new is failed = λ c. absurd cc
+folds wants input before now inputs (Err fault.NoMemory) old new is failed = λ c. absurd cc
+folds wants input before now inputs (Err fault.Overflow) old new is never = absurd never
+
+-- one input more is noted
+pub grown : (given : List Given) (more : Given) (now : List Given) → now ≡ given ++ more ∷ [] → map input_of now ≡ map input_of given ++ input_of more ∷ []
+grown given more now is = ap (map input_of) is ∙ joined given
+  where
+    joined : (before : List Given) → map input_of (before ++ more ∷ []) ≡ map input_of before ++ input_of more ∷ []
+    joined [] = refl
+    joined (g ∷ before) = ap (λ is. input_of g ∷ is) (joined before)
+
+-- where something can be said the wire is open
+pub free_open : (state : Condition) (id : ℕ) (line : Line) → readiness state id line ≡ Free → state ≡ condition.Open
+free_open condition.Open id line is = refl
+free_open condition.Finished id line is = absurd cc
+free_open condition.WriteFault id line is = absurd cc
+free_open condition.NoMemory id line is = absurd cc

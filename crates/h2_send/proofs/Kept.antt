@@ -1,6 +1,6 @@
 -- What is written for an event keeps within the windows.
 use Rattle.std.proofs.Common.{◌≡◌, ℕ, zero, suc, Bool, true, false, List, [], ◌∷◌, ◌++◌, ℤ, refl, sym, ap, ◌∙◌, subst}
-use Rattle.std.specs.Prelude.{nat_eq}
+use Rattle.std.specs.Prelude.{nat_eq, Option, Some, None}
 use Rattle.std.specs.List.{AllByRecursion}
 use Rattle.h2_frame.specs.Frames.{Frame}
 use Rattle.h2_windows.specs.Pacing.{Passing, Within, window_after, is_data, is_data_on}
@@ -11,8 +11,13 @@ use Rattle.h2_windows.proofs.Counted.{Within-append, window_after-append, connec
 use Rattle.h2_windows.proofs.StreamWindows.{stream_kept, others_sent}
 use Rattle.h2_events.specs.declared.event.RecvEvent.{RecvEvent}
 use Rattle.h2_events.specs.declared.event.RecvEvent.TheVariants as event
-use Rattle.h2_send.specs.Lines.{Line, told}
-use Rattle.h2_send.specs.Acting.{replies, acted}
+use Rattle.h2_events.specs.declared.said.Said.TheVariants.{Message, Finish, Status}
+use Rattle.base_kinds.specs.declared.refusal.Refusal.{Refusal}
+use Rattle.h2_replies.specs.Headers.{opening, ending, status_answer}
+use Rattle.h2_send.specs.Inputs.{Input, Event, Speech}
+use Rattle.h2_send.specs.Lines.{Line}
+use Rattle.h2_send.specs.Offers.{has_begun}
+use Rattle.h2_send.specs.Acting.{replies, first_frames, taken_in, handled}
 
 pub behind : (counts : Frame → Bool) (a b c : ℤ) (xs ys : List Frame) → Passing counts a b xs → Passing counts b c ys → Passing counts a c (xs ++ ys)
 behind counts a b c xs ys first second = record {
@@ -58,19 +63,51 @@ module _ (window : ℤ) where
   replies_pass on (event.StreamFault id code) = record { within = (never, tt); is_after = refl }
   replies_pass on event.GoAway = none (is_data_on on) window
 
-pub acted_kept : (e : RecvEvent) (line : Line) → Passing is_data (told e line).window (acted e line).line.window (acted e line).frames
-acted_kept e line =
-    let l = told e line in
-    behind is_data l.window l.window (acted e line).line.window (replies e) (sent l.initial l.window l.streams).frames (replies_kept l.window e) (connection_kept l.initial l.window l.streams)
+-- Nor have the HEADERS of what is said.
+module _ (window : ℤ) where
+  opening_kept : (begun owes : Bool) (id : ℕ) → Passing is_data window window (opening begun owes id)
+  opening_kept true owes id = none is_data window
+  opening_kept false owes id = record { within = (never, tt); is_after = refl }
 
-pub own_kept : (e : RecvEvent) (line : Line) (before : List Stream) (s : Stream) (after : List Stream) → (told e line).streams ≡ before ++ s ∷ after → AllByRecursion (λ t. nat_eq t.id s.id ≡ false) before → AllByRecursion (λ t. nat_eq t.id s.id ≡ false) after → (n : ℕ) × Passing (is_data_on s.id) (window_of (told e line).initial s) (window_of (told e line).initial (after_sending n s)) (acted e line).frames
-own_kept e line before s after is first second =
-    let l = told e line in
+  ending_kept : (begun owes : Bool) (id : ℕ) (refusal : Option Refusal) → Passing is_data window window (ending begun owes id refusal)
+  ending_kept true owes id refusal = record { within = (never, tt); is_after = refl }
+  ending_kept false owes id (Some refusal) = record { within = (never, tt); is_after = refl }
+  ending_kept false owes id None = record { within = (never, (never, tt)); is_after = refl }
+
+  opening_passes : (on : ℕ) (begun owes : Bool) (id : ℕ) → Passing (is_data_on on) window window (opening begun owes id)
+  opening_passes on true owes id = none (is_data_on on) window
+  opening_passes on false owes id = record { within = (never, tt); is_after = refl }
+
+  ending_passes : (on : ℕ) (begun owes : Bool) (id : ℕ) (refusal : Option Refusal) → Passing (is_data_on on) window window (ending begun owes id refusal)
+  ending_passes on true owes id refusal = record { within = (never, tt); is_after = refl }
+  ending_passes on false owes id (Some refusal) = record { within = (never, tt); is_after = refl }
+  ending_passes on false owes id None = record { within = (never, (never, tt)); is_after = refl }
+
+  pub first_kept : (input : Input) (line : Line) → Passing is_data window window (first_frames input line)
+  first_kept (Event event) line = replies_kept window event
+  first_kept (Speech id (Message octets)) line = opening_kept (has_begun id line.streams) line.owes_update id
+  first_kept (Speech id (Finish refusal)) line = ending_kept (has_begun id line.streams) line.owes_update id refusal
+  first_kept (Speech id (Status status)) line = record { within = (never, tt); is_after = refl }
+
+  pub first_passes : (on : ℕ) (input : Input) (line : Line) → Passing (is_data_on on) window window (first_frames input line)
+  first_passes on (Event event) line = replies_pass window on event
+  first_passes on (Speech id (Message octets)) line = opening_passes on (has_begun id line.streams) line.owes_update id
+  first_passes on (Speech id (Finish refusal)) line = ending_passes on (has_begun id line.streams) line.owes_update id refusal
+  first_passes on (Speech id (Status status)) line = record { within = (never, tt); is_after = refl }
+
+pub handled_kept : (input : Input) (line : Line) → Passing is_data (taken_in input line).window (handled input line).line.window (handled input line).frames
+handled_kept input line =
+    let l = taken_in input line in
+    behind is_data l.window l.window (handled input line).line.window (first_frames input line) (sent l.initial l.window l.streams).frames (first_kept l.window input line) (connection_kept l.initial l.window l.streams)
+
+pub own_kept : (input : Input) (line : Line) (before : List Stream) (s : Stream) (after : List Stream) → (taken_in input line).streams ≡ before ++ s ∷ after → AllByRecursion (λ t. nat_eq t.id s.id ≡ false) before → AllByRecursion (λ t. nat_eq t.id s.id ≡ false) after → (n : ℕ) × Passing (is_data_on s.id) (window_of (taken_in input line).initial s) (window_of (taken_in input line).initial (after_sending n s)) (handled input line).frames
+own_kept input line before s after is first second =
+    let l = taken_in input line in
     let (n, kept) = stream_kept l.initial l.window before s after first second in
     let frames = subst (λ ss. Passing (is_data_on s.id) (window_of l.initial s) (window_of l.initial (after_sending n s)) (sent l.initial l.window ss).frames) (sym is) kept in
-    (n, behind (is_data_on s.id) (window_of l.initial s) (window_of l.initial s) (window_of l.initial (after_sending n s)) (replies e) (sent l.initial l.window l.streams).frames (replies_pass (window_of l.initial s) s.id e) frames)
+    (n, behind (is_data_on s.id) (window_of l.initial s) (window_of l.initial s) (window_of l.initial (after_sending n s)) (first_frames input line) (sent l.initial l.window l.streams).frames (first_passes (window_of l.initial s) s.id input line) frames)
 
-pub others_kept : (e : RecvEvent) (line : Line) (id : ℕ) (own : ℤ) → AllByRecursion (λ t. nat_eq t.id id ≡ false) (told e line).streams → Passing (is_data_on id) own own (acted e line).frames
-others_kept e line id own differ =
-    let l = told e line in
-    behind (is_data_on id) own own own (replies e) (sent l.initial l.window l.streams).frames (replies_pass own id e) (others_sent l.initial id l.window own l.streams differ)
+pub others_kept : (input : Input) (line : Line) (id : ℕ) (own : ℤ) → AllByRecursion (λ t. nat_eq t.id id ≡ false) (taken_in input line).streams → Passing (is_data_on id) own own (handled input line).frames
+others_kept input line id own differ =
+    let l = taken_in input line in
+    behind (is_data_on id) own own own (first_frames input line) (sent l.initial l.window l.streams).frames (first_passes own id input line) (others_sent l.initial id l.window own l.streams differ)

@@ -1,5 +1,6 @@
 pub mod Closing
+pub mod Fitting
 pub mod Kept
+pub mod Loading
 pub mod Orders
 pub mod Rising
-pub mod Fitting

@@ -1,5 +1,6 @@
--- The order that events make.
-use Rattle.std.proofs.Common.{◌≡◌, ℕ, zero, suc, true, false, List, [], ◌∷◌, ◌++◌, length, take, drop, map, ℤ, pos, ◌-ℤ◌, refl, sym, ap, ◌∙◌, append_assoc, append-nil}
+-- The order that inputs make.
+use Rattle.std.proofs.Common.{◌≡◌, ℕ, zero, suc, Bool, true, false, List, [], ◌∷◌, ◌++◌, length, take, drop, map, ℤ, pos, ◌-ℤ◌, refl, sym, ap, ◌∙◌, append_assoc, append-nil}
+use Rattle.std.specs.Prelude.{Option, Some, None}
 use Rattle.std.specs.List.{filter, flat_map}
 use Rattle.std.proofs.lemmas.List.Elements.{filter-append}
 use Rattle.h2_frame.specs.Frames.{Frame}
@@ -11,8 +12,13 @@ use Rattle.h2_events.specs.declared.event.RecvEvent.TheVariants as event
 use Rattle.h2_events.specs.Items.{Item, heard, written}
 use Rattle.h2_events.specs.Items as item
 use Rattle.h2_events.proofs.Orders.{heard-append, written-append}
-use Rattle.h2_send.specs.Lines.{Line, told}
-use Rattle.h2_send.specs.Acting.{acted, replies}
+use Rattle.h2_events.specs.declared.said.Said.TheVariants.{Message, Finish, Status}
+use Rattle.base_kinds.specs.declared.refusal.Refusal.{Refusal}
+use Rattle.h2_replies.specs.Headers.{opening, ending, status_answer}
+use Rattle.h2_send.specs.Inputs.{Input, Event, Speech, item_of, events_of}
+use Rattle.h2_send.specs.Lines.{Line}
+use Rattle.h2_send.specs.Offers.{has_begun}
+use Rattle.h2_send.specs.Acting.{replies, first_frames, taken_in, handled}
 use Rattle.h2_send.specs.Wires.{line_after, order_after, is_control}
 
 -- DATA answers nothing.
@@ -43,11 +49,31 @@ replies_answer (event.Reset id) = refl
 replies_answer (event.StreamFault id code) = refl
 replies_answer event.GoAway = refl
 
-acted_answers : (e : RecvEvent) (line : Line) → filter is_control (acted e line).frames ≡ replies e
-acted_answers e line =
-    let l = told e line in
+opening_answers_nothing : (begun owes : Bool) (id : ℕ) → filter is_control (opening begun owes id) ≡ []
+opening_answers_nothing true owes id = refl
+opening_answers_nothing false owes id = refl
+
+ending_answers_nothing : (begun owes : Bool) (id : ℕ) (refusal : Option Refusal) → filter is_control (ending begun owes id refusal) ≡ []
+ending_answers_nothing true owes id refusal = refl
+ending_answers_nothing false owes id (Some refusal) = refl
+ending_answers_nothing false owes id None = refl
+
+-- what answers events, among what is written for an input
+abbrev control : Input → List Frame
+control (Event event) = replies event
+control (Speech id said) = []
+
+first_answers : (input : Input) (line : Line) → filter is_control (first_frames input line) ≡ control input
+first_answers (Event event) line = replies_answer event
+first_answers (Speech id (Message octets)) line = opening_answers_nothing (has_begun id line.streams) line.owes_update id
+first_answers (Speech id (Finish refusal)) line = ending_answers_nothing (has_begun id line.streams) line.owes_update id refusal
+first_answers (Speech id (Status status)) line = refl
+
+handled_answers : (input : Input) (line : Line) → filter is_control (handled input line).frames ≡ control input
+handled_answers input line =
+    let l = taken_in input line in
     let frames = (sent l.initial l.window l.streams).frames in
-    filter-append is_control (replies e) frames ∙ ap (λ fs. filter is_control (replies e) ++ fs) (sent_answers_nothing l.initial l.window l.streams) ∙ append-nil (filter is_control (replies e)) ∙ replies_answer e
+    filter-append is_control (first_frames input line) frames ∙ ap (λ fs. filter is_control (first_frames input line) ++ fs) (sent_answers_nothing l.initial l.window l.streams) ∙ append-nil (filter is_control (first_frames input line)) ∙ first_answers input line
 
 pub written_all : (frames : List Frame) → written (map item.Wrote frames) ≡ frames
 written_all [] = refl
@@ -57,23 +83,40 @@ unheard : (frames : List Frame) → heard (map item.Wrote frames) ≡ []
 unheard [] = refl
 unheard (f ∷ frames) = unheard frames
 
-pub answered : (line : Line) (events : List RecvEvent) → filter is_control (written (order_after line events)) ≡ flat_map replies events
-answered line [] = refl
-answered line (e ∷ events) =
-    let frames = (acted e line).frames in
-    let others = order_after (acted e line).line events in
-    ap (λ fs. filter is_control fs) (written-append (map item.Wrote frames) others) ∙ filter-append is_control (written (map item.Wrote frames)) (written others) ∙ ap (λ fs. filter is_control fs ++ filter is_control (written others)) (written_all frames) ∙ ap (λ fs. fs ++ filter is_control (written others)) (acted_answers e line) ∙ ap (λ fs. replies e ++ fs) (answered (acted e line).line events)
+-- nothing is written by an input itself
+pub written_input : (input : Input) (items : List Item) → written (item_of input ∷ items) ≡ written items
+written_input (Event event) items = refl
+written_input (Speech id said) items = refl
 
-pub heard_again : (line : Line) (events : List RecvEvent) → heard (order_after line events) ≡ events
+controls : (inputs : List Input) → flat_map control inputs ≡ flat_map replies (events_of inputs)
+controls [] = refl
+controls (Event event ∷ inputs) = ap (λ fs. replies event ++ fs) (controls inputs)
+controls (Speech id said ∷ inputs) = controls inputs
+
+answered_on : (line : Line) (inputs : List Input) → filter is_control (written (order_after line inputs)) ≡ flat_map control inputs
+answered_on line [] = refl
+answered_on line (i ∷ inputs) =
+    let frames = (handled i line).frames in
+    let others = order_after (handled i line).line inputs in
+    ap (λ fs. filter is_control fs) (written_input i (map item.Wrote frames ++ others) ∙ written-append (map item.Wrote frames) others) ∙ filter-append is_control (written (map item.Wrote frames)) (written others) ∙ ap (λ fs. filter is_control fs ++ filter is_control (written others)) (written_all frames) ∙ ap (λ fs. fs ++ filter is_control (written others)) (handled_answers i line) ∙ ap (λ fs. control i ++ fs) (answered_on (handled i line).line inputs)
+
+pub answered : (line : Line) (inputs : List Input) → filter is_control (written (order_after line inputs)) ≡ flat_map replies (events_of inputs)
+answered line inputs = answered_on line inputs ∙ controls inputs
+
+heard_behind : (line : Line) (i : Input) (inputs : List Input) → heard (order_after (handled i line).line inputs) ≡ events_of inputs → heard (map item.Wrote (handled i line).frames ++ order_after (handled i line).line inputs) ≡ events_of inputs
+heard_behind line i inputs is =
+    let frames = (handled i line).frames in
+    let others = order_after (handled i line).line inputs in
+    heard-append (map item.Wrote frames) others ∙ ap (λ es. es ++ heard others) (unheard frames) ∙ is
+
+pub heard_again : (line : Line) (inputs : List Input) → heard (order_after line inputs) ≡ events_of inputs
 heard_again line [] = refl
-heard_again line (e ∷ events) =
-    let frames = (acted e line).frames in
-    let others = order_after (acted e line).line events in
-    ap (λ es. e ∷ es) (heard-append (map item.Wrote frames) others ∙ ap (λ es. es ++ heard others) (unheard frames) ∙ heard_again (acted e line).line events)
+heard_again line (Event event ∷ inputs) = ap (λ es. event ∷ es) (heard_behind line (Event event) inputs (heard_again (handled (Event event) line).line inputs))
+heard_again line (Speech id said ∷ inputs) = heard_behind line (Speech id said) inputs (heard_again (handled (Speech id said) line).line inputs)
 
-pub grows : (line : Line) (events : List RecvEvent) (e : RecvEvent) → order_after line (events ++ e ∷ []) ≡ order_after line events ++ item.Meant e ∷ map item.Wrote (acted e (line_after line events)).frames
-grows line [] e = ap (λ items. item.Meant e ∷ items) (append-nil (map item.Wrote (acted e line).frames))
-grows line (x ∷ events) e =
-    let first = map item.Wrote (acted x line).frames in
-    let next = (acted x line).line in
-    ap (λ items. item.Meant x ∷ first ++ items) (grows next events e) ∙ ap (λ items. item.Meant x ∷ items) (sym (append_assoc first (order_after next events) (item.Meant e ∷ map item.Wrote (acted e (line_after next events)).frames)))
+pub grows : (line : Line) (inputs : List Input) (i : Input) → order_after line (inputs ++ i ∷ []) ≡ order_after line inputs ++ item_of i ∷ map item.Wrote (handled i (line_after line inputs)).frames
+grows line [] i = ap (λ items. item_of i ∷ items) (append-nil (map item.Wrote (handled i line).frames))
+grows line (x ∷ inputs) i =
+    let first = map item.Wrote (handled x line).frames in
+    let next = (handled x line).line in
+    ap (λ items. item_of x ∷ first ++ items) (grows next inputs i) ∙ ap (λ items. item_of x ∷ items) (sym (append_assoc first (order_after next inputs) (item_of i ∷ map item.Wrote (handled i (line_after next inputs)).frames)))

@@ -1,4 +1,6 @@
 pub mod Acting
+pub mod Inputs
 pub mod Lines
+pub mod Offers
 pub mod Wires
 pub mod worked

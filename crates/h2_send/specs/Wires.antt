@@ -9,44 +9,49 @@ use Rattle.h2_windows.specs.Control.{greeting, goaway}
 use Rattle.h2_windows.specs.Written.{octets_of}
 use Rattle.h2_events.specs.Items.{Item}
 use Rattle.h2_events.specs.Items as item
-use Rattle.h2_events.specs.declared.event.RecvEvent.{RecvEvent}
+use Rattle.h2_events.specs.declared.port.Took.{Took}
+use Rattle.h2_events.specs.declared.port.Took.TheVariants as took
+use Rattle.h2_events.specs.declared.port.Ready.{Ready}
+use Rattle.h2_events.specs.declared.port.Ready.TheVariants as ready
+use Rattle.h2_send.specs.Offers.{ready_on}
+use Rattle.h2_send.specs.Inputs.{Input, item_of}
 use Rattle.h2_send.specs.Lines.{Line, first_line}
-use Rattle.h2_send.specs.Acting.{Acted, acted}
+use Rattle.h2_send.specs.Acting.{Acted, handled}
 use Rattle.h2_send.specs.declared.condition.Condition.{Condition}
 use Rattle.h2_send.specs.declared.condition.Condition.TheVariants as condition
 use Rattle.h2_send.specs.declared.fault.WireFaultOut.{WireFaultOut}
 use Rattle.h2_send.specs.declared.fault.WireFaultOut.TheVariants as fault
 
--- the sink, what is known of the connection, the events so far, and whether the wire is open
+-- the sink, what is known of the connection, the inputs so far, and whether the wire is open
 pub record WireView (S : Type 0) : Type 0 where
   pub sink : S
   pub line : Line
-  pub heard : List RecvEvent
+  pub inputs : List Input
   pub condition : Condition
 
 module _ {S : Type 0} where
-  abbrev pub view_code : Coded S → Coded (Line × (List RecvEvent × Condition)) → Coded (WireView S)
+  abbrev pub view_code : Coded S → Coded (Line × (List Input × Condition)) → Coded (WireView S)
   view_code sink parts =
-      code_by (S × (Line × (List RecvEvent × Condition))) (coded× sink parts)
-      (λ v. (v.sink, (v.line, (v.heard, v.condition))))
-      (λ p. record { sink = p.0; line = p.1.0; heard = p.1.1.0; condition = p.1.1.1 })
+      code_by (S × (Line × (List Input × Condition))) (coded× sink parts)
+      (λ v. (v.sink, (v.line, (v.inputs, v.condition))))
+      (λ p. record { sink = p.0; line = p.1.0; inputs = p.1.1.0; condition = p.1.1.1 })
       (λ _. refl)
 
--- The line is what the events make of the first one, each in turn,
-abbrev pub line_after : Line → List RecvEvent → Line
+-- The line is what the inputs make of the first one, each in turn,
+abbrev pub line_after : Line → List Input → Line
 line_after line [] = line
-line_after line (event ∷ events) = line_after (acted event line).line events
+line_after line (input ∷ inputs) = line_after (handled input line).line inputs
 
 -- and the order has behind each the frames that are written for it.
-abbrev pub order_after : Line → List RecvEvent → List Item
+abbrev pub order_after : Line → List Input → List Item
 order_after line [] = []
-order_after line (event ∷ events) =
-    let a = acted event line in
-    item.Meant event ∷ map item.Wrote a.frames ++ order_after a.line events
+order_after line (input ∷ inputs) =
+    let a = handled input line in
+    item_of input ∷ map item.Wrote a.frames ++ order_after a.line inputs
 
 -- of a connection
-abbrev pub order_of : List RecvEvent → List Item
-order_of events = order_after first_line events
+abbrev pub order_of : List Input → List Item
+order_of inputs = order_after first_line inputs
 
 -- what is answered from then on
 abbrev pub answer_of : Condition → Result (Unit {0}) WireFaultOut
@@ -57,20 +62,20 @@ answer_of condition.NoMemory = Err fault.NoMemory
 
 -- What a call on an open wire does. Where it answers Ok the frames are written, all of them. A write fault comes behind a
 -- proper front of their octets, and want of memory, which only some calls can have, before any. Both close the wire.
-abbrev pub Does : {S : Type 0} → (S → Output) → Bool → Condition → List RecvEvent → Acted → Result (Unit {0}) WireFaultOut → WireView S → WireView S → Type 0
-Does seen wants_memory next events a (Ok tt) old new =
+abbrev pub Does : {S : Type 0} → (S → Output) → Bool → Condition → List Input → Acted → Result (Unit {0}) WireFaultOut → WireView S → WireView S → Type 0
+Does seen wants_memory next inputs a (Ok tt) old new =
     Wrote (octets_of a.frames) (seen old.sink) (seen new.sink)
-    × (new ≡ record { sink = new.sink; line = a.line; heard = old.heard ++ events; condition = next })
-Does seen wants_memory next events a (Err fault.WriteFault) old new =
+    × (new ≡ record { sink = new.sink; line = a.line; inputs = old.inputs ++ inputs; condition = next })
+Does seen wants_memory next inputs a (Err fault.WriteFault) old new =
     FailedWithin (octets_of a.frames) (seen old.sink) (seen new.sink)
-    × (new.heard ≡ old.heard ++ events)
+    × (new.inputs ≡ old.inputs ++ inputs)
     × (new.condition ≡ condition.WriteFault)
-Does seen wants_memory next events a (Err fault.NoMemory) old new =
+Does seen wants_memory next inputs a (Err fault.NoMemory) old new =
     (wants_memory ≡ true)
     × (seen new.sink ≡ seen old.sink)
-    × (new.heard ≡ old.heard ++ events)
+    × (new.inputs ≡ old.inputs ++ inputs)
     × (new.condition ≡ condition.NoMemory)
-Does seen wants_memory next events a (Err fault.Overflow) old new = ⊥
+Does seen wants_memory next inputs a (Err fault.Overflow) old new = ⊥
 
 -- The same of the connection and the sink alone.
 abbrev pub Responds : Bool → Acted → Result (Unit {0}) WireFaultOut → Line → Output → Output → Type 0
@@ -86,9 +91,31 @@ condition_after next (Err fault.WriteFault) = condition.WriteFault
 condition_after next (Err fault.NoMemory) = condition.NoMemory
 condition_after next (Err fault.Overflow) = condition.Open
 
--- While a wire is open its line is what its events make of the first one.
-abbrev pub IsFolded : Condition → Line → List RecvEvent → Type 0
-IsFolded state line heard = state ≡ condition.Open → line ≡ line_after first_line heard
+-- what becomes of a piece that is taken
+abbrev pub took_of : Result (Unit {0}) WireFaultOut → Took
+took_of (Ok tt) = took.Taken
+took_of (Err fault.WriteFault) = took.WriteFault
+took_of (Err fault.NoMemory) = took.NoMemory
+took_of (Err fault.Overflow) = took.Gone
+
+-- Whether something can be said on a stream: never once the wire is closed.
+abbrev pub readiness : Condition → ℕ → Line → Ready
+readiness condition.Open id line = ready_on id line.streams
+readiness _ id line = ready.Gone
+
+-- What saying something on a stream that is free does.
+abbrev pub Says : {S : Type 0} → (S → Output) → Input → Took → WireView S → WireView S → Type 0
+Says seen input took.Taken old new =
+    Does seen true condition.Open (input ∷ []) (handled input old.line) (Ok tt) old new
+Says seen input took.WriteFault old new =
+    Does seen true condition.Open (input ∷ []) (handled input old.line) (Err fault.WriteFault) old new
+Says seen input took.NoMemory old new =
+    Does seen true condition.Open (input ∷ []) (handled input old.line) (Err fault.NoMemory) old new
+Says seen input _ old new = ⊥
+
+-- While a wire is open its line is what its inputs make of the first one.
+abbrev pub IsFolded : Condition → Line → List Input → Type 0
+IsFolded state line inputs = state ≡ condition.Open → line ≡ line_after first_line inputs
 
 -- the greeting, which changes nothing
 abbrev pub greeted : Line → Acted

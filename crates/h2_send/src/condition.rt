@@ -1,8 +1,9 @@
 ghost use Rattle.std.specs.Prelude.{◌≡◌};
-ghost use Rattle.h2_send.specs.Wires.{answer_of, answered, condition_after};
+ghost use Rattle.h2_send.specs.Wires.{answer_of, answered, condition_after, took_of};
 
 use crate::fault::WireFaultOut;
 use edge_traits::Failed;
+use h2_events::Took;
 
 /// Whether a wire still writes, and if not, what closed it.
 #[derive(Clone, Copy, Debug, PartialEq, Eq)]
@@ -45,5 +46,17 @@ pub(crate) fn answered(done: Result<(), Failed>) -> Result<(), WireFaultOut>
     match done {
         Ok(()) => Ok(()),
         Err(_) => Err(WireFaultOut::WriteFault),
+    }
+}
+
+/// What became of a piece that was taken.
+pub(crate) fn took_of(done: &Result<(), WireFaultOut>) -> Took
+    ensures { result ≡ took_of done.now }
+{
+    match done {
+        Ok(()) => Took::Taken,
+        Err(WireFaultOut::WriteFault) => Took::WriteFault,
+        Err(WireFaultOut::NoMemory) => Took::NoMemory,
+        Err(WireFaultOut::Overflow) => Took::Gone,
     }
 }

@@ -1,13 +1,21 @@
 //! What a sender knows of its connection.
-ghost use Rattle.std.specs.Prelude.{◌≡◌, ◌<◌, true, false, length, OnOk, OnErr};
+ghost use Rattle.std.specs.Prelude.{◌≡◌, ◌++◌, true, false, OnOk, OnErr, IfOk};
 ghost use Rattle.h2_events.specs.Events.{highest_with};
-ghost use Rattle.h2_windows.specs.Written.{Writes};
+ghost use Rattle.h2_windows.specs.Written.{Writes, WritesOctets, octets_of};
+ghost use Rattle.h2_windows.specs.Streams.{without};
+ghost use Rattle.h2_events.specs.Items.{said_by};
+ghost use Rattle.h2_events.specs.declared.said.Said.TheVariants as Said;
+ghost use Rattle.h2_events.specs.Ports.{FitsMessage};
+ghost use Rattle.h2_send.specs.Offers.{ready_on};
 ghost use Rattle.h2_send.specs.Lines.{Line, first_line, told, changed, overflows, is_new_stream, with_increment, increment_passes};
-ghost use Rattle.h2_send.specs.Acting.{flushed};
+ghost use Rattle.h2_send.specs.Acting.{flushed, headers_for, spoken};
 
-use base_lists::NoMemory;
-use edge_traits::{Failed, Sink};
-use h2_events::RecvEvent;
+use crate::offers::{has_begun, load, ready_on};
+use base_lists::{Bytes, NoMemory};
+use edge_traits::{Failed, Sink, write_whole};
+use grpc_core::frame_message;
+use h2_events::{Piece, Ready, RecvEvent};
+use h2_replies::{ending, opening, status_answer};
 use h2_windows::{Stream, Window, close, grant, initial_passes, open, send_allowed, stream_passes};
 use std::alloc::Global;
 use std::marker::Model;
@@ -128,6 +136,90 @@ impl Connection {
         self.change(alloc, event)?;
         self.highest = highest_with(self.highest, event);
         Ok(())
+    }
+
+    /// Whether something can be said on the stream.
+    pub(crate) fn ready(&self, stream: u32) -> Ready
+        ensures { result ≡ ready_on stream self.now.streams }
+    {
+        ready_on(stream, &self.streams)
+    }
+
+    /// The octets of the HEADERS that a piece wants.
+    pub(crate) fn headers_for(
+        &self,
+        alloc: Global,
+        stream: u32,
+        piece: &Piece,
+    ) -> Result<Bytes, NoMemory>
+        ensures { IfOk result (λ octets. octets
+            ≡ octets_of (headers_for stream (said_by piece.now) self.now)) }
+    {
+        let begun = has_begun(stream, &self.streams);
+        match piece {
+            Piece::Message(_) => opening(alloc, begun, self.owes_update, stream),
+            Piece::Finish(refusal) => ending(alloc, begun, self.owes_update, stream, *refusal),
+        }
+    }
+
+    /// The octets of a status of HTTP.
+    pub(crate) fn status_for(
+        &self,
+        alloc: Global,
+        stream: u32,
+        status: u16,
+    ) -> Result<Bytes, NoMemory>
+        ensures { IfOk result (λ octets. octets
+            ≡ octets_of (headers_for stream (Said.Status status) self.now)) }
+    {
+        status_answer(alloc, self.owes_update, stream, status)
+    }
+
+    /// This side ends the stream, with a header block.
+    pub(crate) fn end(&mut self, stream: u32)
+        ensures { self.new ≡ record self.old {
+          owes_update = false;
+          streams = without stream self.old.streams;
+        } }
+    {
+        self.owes_update = false;
+        close(stream, &mut self.streams);
+    }
+
+    /// Takes in what a piece says. A message waits on its stream then.
+    pub(crate) fn speak(
+        &mut self,
+        alloc: Global,
+        stream: u32,
+        piece: &Piece,
+    ) -> Result<(), NoMemory>
+        requires size { FitsMessage piece.now }
+        ensures { OnOk result (self.new ≡ spoken stream (said_by piece.now) self.old) }
+    {
+        match piece {
+            Piece::Message(message) => {
+                let mut octets = Bytes::empty(alloc);
+                frame_message(message.items(), &mut octets)?;
+                self.owes_update = self.owes_update && has_begun(stream, &self.streams);
+                load(stream, octets, &mut self.streams);
+            }
+            Piece::Finish(_) => self.end(stream),
+        }
+        Ok(())
+    }
+
+    /// Writes octets, and sends what the windows let through.
+    pub(crate) fn put_and_flush<S: Sink>(
+        &mut self,
+        octets: &[u8],
+        sink: &mut S,
+    ) -> Result<(), Failed>
+        ensures writes { WritesOctets result (octets.now ++ octets_of (flushed self.old).frames)
+            (S.seen sink.old) (S.seen sink.new) }
+        ensures line { OnOk result (self.new ≡ (flushed self.old).line) }
+    {
+        write_whole(sink, octets)?;
+        self.flush(sink)
     }
 
     /// Sends what the windows let through.

@@ -1,17 +1,20 @@
-//! The sending half of an HTTP/2 connection (RFC 9113): what this side writes for each event, within the peer's windows.
-//! Start with `Wire` and specs/Wires.antt; what an event tells is specs/Lines.antt, and what is written for it
-//! specs/Acting.antt.
+//! The sending half of an HTTP/2 connection (RFC 9113): what this side writes for each event and for what is said on a
+//! stream, within the peer's windows. Start with `Wire` and specs/Wires.antt; what an event tells is specs/Lines.antt, and
+//! what is written for an input specs/Acting.antt.
 #![tactic(auto)]
 
 mod condition;
 mod connection;
 mod fault;
+mod given;
 mod laws;
+mod offers;
 mod wire;
 
 pub use condition::Condition;
 pub use fault::WireFaultOut;
+pub use given::Given;
 pub use laws::{
-    frames_of_events_fit, lines_of_events, order_of_events, paced_after_each_event, windows_kept,
+    frames_of_inputs_fit, lines_of_inputs, order_of_inputs, paced_after_each_input, windows_kept,
 };
 pub use wire::Wire;

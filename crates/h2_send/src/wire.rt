@@ -2,33 +2,41 @@
 ghost use Rattle.std.specs.Prelude.{◌≡◌, ◌≢◌, true, false, [], ◌∷◌, Err};
 ghost use Rattle.h2_windows.specs.Written.{Writes};
 ghost use Rattle.h2_send.specs.Lines.{first_line, overflows, is_new_stream};
-ghost use Rattle.h2_send.specs.Acting.{acted, replies};
-ghost use Rattle.h2_send.specs.Wires.{Does, Responds, answer_of, greeted, finished, farewell};
+ghost use Rattle.h2_events.specs.Items.{said_by};
+ghost use Rattle.h2_events.specs.Ports.{FitsMessage};
+ghost use Rattle.h2_events.specs.declared.said.Said.TheVariants as Said;
+ghost use Rattle.h2_send.specs.Inputs.{Event, Speech};
+ghost use Rattle.h2_send.specs.Acting.{acted, handled, replies};
+ghost use Rattle.h2_send.specs.Wires.{Does, Responds, Says, answer_of, greeted, finished, farewell, readiness};
 
-use crate::condition::{Condition, answer_of, answered, condition_after};
+use crate::condition::{Condition, answer_of, answered, condition_after, took_of};
 use crate::connection::Connection;
 use crate::fault::WireFaultOut;
+use crate::given::Given;
 use base_lists::Remembered;
 use edge_traits::{Failed, Sink};
-use h2_events::RecvEvent;
+use h2_events::{Piece, Ready, RecvEvent, Took};
 use h2_windows::{
     put_goaway, put_grants, put_greeting, put_ping_ack, put_rst_stream, put_settings_ack,
 };
 use std::alloc::Global;
 use std::marker::Model;
+use std::snapshot::Snapshot;
 
 /// The sending half of a connection, over the sink that its octets go to.
 #[derive(Drop)]
 pub struct Wire<S: Sink> {
     sink: S,
     connection: Connection,
-    /// The events so far, for contracts alone.
-    heard: Remembered<RecvEvent>,
+    /// The inputs so far, for contracts alone.
+    given: Remembered<Given>,
     condition: Condition,
 }
 
 impl<S: Sink> Model for Wire<S> {
     ghost use Rattle.std.specs.Coded.{codes};
+    ghost use Rattle.std.specs.Prelude.{map};
+    ghost use Rattle.h2_send.specs.Inputs.{input_of};
     ghost use Rattle.h2_send.specs.Wires.{WireView, view_code, IsFolded};
 
     ghost Value = { WireView S };
@@ -38,11 +46,11 @@ impl<S: Sink> Model for Wire<S> {
     ghost view = { λ w. record {
       sink = w.sink;
       line = w.connection;
-      heard = w.heard;
+      inputs = map input_of w.given;
       condition = w.condition;
     } };
 
-    ghost invariant = { λ w. IsFolded w.condition w.connection w.heard };
+    ghost invariant = { λ w. IsFolded w.condition w.connection (map input_of w.given) };
 }
 
 fn put_replies<S: Sink>(event: &RecvEvent, sink: &mut S) -> Result<(), Failed>
@@ -74,6 +82,40 @@ fn respond<S: Sink>(
     Ok(())
 }
 
+/// Writes what a piece wants on a stream that is free, and sends what the windows then let through.
+fn say_piece<S: Sink>(
+    alloc: Global,
+    stream: u32,
+    piece: &Piece,
+    connection: &mut Connection,
+    sink: &mut S,
+) -> Result<(), WireFaultOut>
+    requires size { FitsMessage piece.now }
+    ensures { Responds true (handled (Speech stream (said_by piece.now)) connection.old) result
+        connection.new (S.seen sink.old) (S.seen sink.new) }
+{
+    let octets = connection.headers_for(alloc, stream, piece)?;
+    connection.speak(alloc, stream, piece)?;
+    connection.put_and_flush(octets.items(), sink)?;
+    Ok(())
+}
+
+fn say_status<S: Sink>(
+    alloc: Global,
+    stream: u32,
+    status: u16,
+    connection: &mut Connection,
+    sink: &mut S,
+) -> Result<(), WireFaultOut>
+    ensures { Responds true (handled (Speech stream (Said.Status status)) connection.old) result
+        connection.new (S.seen sink.old) (S.seen sink.new) }
+{
+    let octets = connection.status_for(alloc, stream, status)?;
+    connection.end(stream);
+    connection.put_and_flush(octets.items(), sink)?;
+    Ok(())
+}
+
 fn put_farewell<S: Sink>(sink: &mut S, connection: &Connection, code: u32) -> Result<(), Failed>
     ensures { Writes result (farewell code connection.now) (S.seen sink.old) (S.seen sink.new) }
 {
@@ -86,12 +128,12 @@ fn put_farewell<S: Sink>(sink: &mut S, connection: &Connection, code: u32) -> Re
 impl<S: Sink> Wire<S> {
     /// A wire on which nothing was written. Takes no memory.
     pub fn make(alloc: Global, sink: S) -> Wire<S>
-        ensures { result ≡ record { sink = sink; line = first_line; heard = []; condition = Condition.Open } }
+        ensures { result ≡ record { sink = sink; line = first_line; inputs = []; condition = Condition.Open } }
     {
         Wire {
             sink,
             connection: Connection::new(alloc),
-            heard: Remembered::nothing(),
+            given: Remembered::nothing(),
             condition: Condition::Open,
         }
     }
@@ -118,7 +160,7 @@ impl<S: Sink> Wire<S> {
     /// answers the fault that closed it, and Ok where none did.
     pub fn act(&mut self, alloc: Global, event: &RecvEvent) -> Result<(), WireFaultOut>
         ensures acts { self.old.condition ≡ Condition.Open → overflows event.now self.old.line ≡ false
-            → Does S.seen (is_new_stream event.now) Condition.Open (event.now ∷ [])
+            → Does S.seen (is_new_stream event.now) Condition.Open (Event event.now ∷ [])
             (acted event.now self.old.line) result self.old self.new }
         // A window that would be larger than it may be is left to the caller, and nothing is changed.
         ensures overflow { self.old.condition ≡ Condition.Open → overflows event.now self.old.line ≡ true
@@ -133,9 +175,65 @@ impl<S: Sink> Wire<S> {
             return Err(WireFaultOut::Overflow);
         }
         let done = respond(alloc, event, &mut self.connection, &mut self.sink);
-        self.heard.remember(event);
+        self.given.remember(&Given::Event(Snapshot::of(event)));
         self.condition = condition_after(Condition::Open, &done);
         done
+    }
+
+    /// Whether something can be said on the stream now.
+    pub fn readiness(&self, stream: u32) -> Ready
+        ensures { result ≡ readiness self.now.condition stream self.now.line }
+    {
+        if self.condition == Condition::Open {
+            self.connection.ready(stream)
+        } else {
+            Ready::Gone
+        }
+    }
+
+    /// Says a piece on a stream that is free: its HEADERS where they aren't sent, and then of a message what the windows
+    /// let through. What they don't let through waits, and goes behind later events. A `Finish` ends the stream with its
+    /// trailers. Where octets wait on the stream already, or nothing goes out on it any more, nothing changes.
+    pub fn say(&mut self, alloc: Global, stream: u32, piece: &Piece) -> Took
+        requires size { FitsMessage piece.now }
+        ensures says { readiness self.old.condition stream self.old.line ≡ Ready.Free
+            → Says S.seen (Speech stream (said_by piece.now)) result self.old self.new }
+        ensures busy { readiness self.old.condition stream self.old.line ≡ Ready.Busy
+            → (result ≡ Took.Busy) × (self.new ≡ self.old) }
+        ensures gone { readiness self.old.condition stream self.old.line ≡ Ready.Gone
+            → (result ≡ Took.Gone) × (self.new ≡ self.old) }
+    {
+        match self.readiness(stream) {
+            Ready::Free => {}
+            Ready::Busy => return Took::Busy,
+            Ready::Gone => return Took::Gone,
+        }
+        let done = say_piece(alloc, stream, piece, &mut self.connection, &mut self.sink);
+        self.given
+            .remember(&Given::Piece(stream, Snapshot::of(piece)));
+        self.condition = condition_after(Condition::Open, &done);
+        took_of(&done)
+    }
+
+    /// Answers a call with a status of HTTP in place of an answer of gRPC: one HEADERS frame with the status alone, which
+    /// ends the stream. It is taken as a piece is.
+    pub fn http(&mut self, alloc: Global, stream: u32, status: u16) -> Took
+        ensures says { readiness self.old.condition stream self.old.line ≡ Ready.Free
+            → Says S.seen (Speech stream (Said.Status status)) result self.old self.new }
+        ensures busy { readiness self.old.condition stream self.old.line ≡ Ready.Busy
+            → (result ≡ Took.Busy) × (self.new ≡ self.old) }
+        ensures gone { readiness self.old.condition stream self.old.line ≡ Ready.Gone
+            → (result ≡ Took.Gone) × (self.new ≡ self.old) }
+    {
+        match self.readiness(stream) {
+            Ready::Free => {}
+            Ready::Busy => return Took::Busy,
+            Ready::Gone => return Took::Gone,
+        }
+        let done = say_status(alloc, stream, status, &mut self.connection, &mut self.sink);
+        self.given.remember(&Given::Status(stream, status));
+        self.condition = condition_after(Condition::Open, &done);
+        took_of(&done)
     }
 
     /// Ends the connection, with GOAWAY where the code isn't 0: the highest stream that was opened, and the code. Takes no

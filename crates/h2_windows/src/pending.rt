@@ -48,7 +48,7 @@ impl Pending {
         &self.octets.items()[self.sent..]
     }
 
-    /// At most 4,194,309.
+    /// At most 123,600,005.
     pub fn len(&self) -> usize
         ensures length { result ≡ length self.now }
         ensures bound { result ≤ largest_pending }

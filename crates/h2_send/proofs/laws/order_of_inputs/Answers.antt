@@ -1,12 +1,12 @@
 use Rattle.h2_send.specs.Lines.{first_line}
 use Rattle.h2_send.proofs.Orders.{answered, heard_again, grows}
-use Rattle.h2_send.proofs.laws.order_of_events.Goals as goal
+use Rattle.h2_send.proofs.laws.order_of_inputs.Goals as goal
 
 pub returns-clause-grows : goal.returns-clause-grows
-returns-clause-grows c events event = grows first_line events event
+returns-clause-grows c inputs input = grows first_line inputs input
 
 pub returns-clause-heard : goal.returns-clause-heard
-returns-clause-heard c events = heard_again first_line events
+returns-clause-heard c inputs = heard_again first_line inputs
 
 pub returns-clause-answered : goal.returns-clause-answered
-returns-clause-answered c events = answered first_line events
+returns-clause-answered c inputs = answered first_line inputs

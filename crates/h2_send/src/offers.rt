@@ -1,0 +1,56 @@
+//! Streams on which something is said.
+ghost use Rattle.std.specs.Prelude.{◌≡◌, ◌≤◌, length};
+ghost use Rattle.h2_windows.specs.Bounds.{largest_pending};
+ghost use Rattle.h2_send.specs.Offers.{ready_on, has_begun, loaded, waits};
+ghost use Rattle.std.specs.Prelude.{◌&&◌};
+ghost use Rattle.std.specs.List.{list_any};
+ghost use Rattle.h2_windows.specs.Streams.{is_stream};
+
+use base_lists::Bytes;
+use h2_events::Ready;
+use h2_windows::{Pending, Stream, place_of};
+
+fn waits_on(id: u32, streams: &[Stream]) -> bool
+    ensures { result ≡ list_any (λ s. is_stream id s && waits s) streams.now }
+{
+    streams.iter().any(|s| s.id == id && 0 < s.pending.len())
+}
+
+fn is_open(id: u32, streams: &[Stream]) -> bool
+    ensures { result ≡ list_any (is_stream id) streams.now }
+{
+    streams.iter().any(|s| s.id == id)
+}
+
+/// Whether something can be said on the stream that has the number.
+pub(crate) fn ready_on(id: u32, streams: &[Stream]) -> Ready
+    ensures { result ≡ ready_on id streams.now }
+{
+    if waits_on(id, streams) {
+        Ready::Busy
+    } else if is_open(id, streams) {
+        Ready::Free
+    } else {
+        Ready::Gone
+    }
+}
+
+/// Whether the HEADERS of the stream that has the number are sent.
+pub(crate) fn has_begun(id: u32, streams: &[Stream]) -> bool
+    ensures { result ≡ has_begun id streams.now }
+{
+    streams.iter().any(|s| s.id == id && s.begun)
+}
+
+/// Puts octets on the stream that has the number. Nothing changes where none has it.
+pub(crate) fn load(id: u32, octets: Bytes, streams: &mut Vec<Stream>)
+    requires { length octets ≤ largest_pending }
+    ensures { streams.new.items ≡ loaded id octets streams.old.items }
+{
+    let place = place_of(id, streams);
+    if place < streams.len() {
+        let stream = &mut streams[place];
+        stream.begun = true;
+        stream.pending = Pending::of(octets);
+    }
+}
