@@ -31,10 +31,10 @@ line_after_one line [] input = refl
 line_after_one line (i ∷ inputs) input = line_after_one (handled i line).line inputs input
 
 -- what a call does, where the wire has this behind it
-pub does : {S : Type 0} (seen : S → Output) (wants : Bool) (next : Condition) (more given : List Input) (a : Acted) (old : WireView S) (result : Result (Unit {0}) WireFaultOut) (sink : S) (line : Line) (state : Condition) → given ≡ old.inputs ++ more → state ≡ condition_after next result → Responds wants a result line (seen old.sink) (seen sink) → Does seen wants next more a result old (record { sink = sink; line = line; inputs = given; condition = state })
-does {S} seen wants next more given a old (Ok tt) sink line state grows is (wrote, same) = (wrote, ap (λ l. let w : WireView S = record { sink = sink; line = l; inputs = given; condition = state } in w) same ∙ ap (λ h. let w : WireView S = record { sink = sink; line = a.line; inputs = h; condition = state } in w) grows ∙ ap (λ c. let w : WireView S = record { sink = sink; line = a.line; inputs = old.inputs ++ more; condition = c } in w) is)
-does {S} seen wants next more given a old (Err fault.WriteFault) sink line state grows is failed = (failed, grows, is)
-does {S} seen wants next more given a old (Err fault.NoMemory) sink line state grows is (may, same) = (may, same, grows, is)
+pub does : {S : Type 0} (seen : S → Output) (wants : Bool) (next : Condition) (more given : List Input) (a : Acted) (old : WireView S) (result : Result (Unit {0}) WireFaultOut) (sink : S) (line : Line) (state : Condition) → given ≡ old.inputs ++ more → state ≡ condition_after next result → Responds wants a result line (seen old.sink) (seen sink) → Does seen wants next more a result old (record { sink = sink; line = line; inputs = given; condition = state; port = old.port })
+does {S} seen wants next more given a old (Ok tt) sink line state grows is (wrote, same) = (wrote, ap (λ l. let w : WireView S = record { sink = sink; line = l; inputs = given; condition = state; port = old.port } in w) same ∙ ap (λ h. let w : WireView S = record { sink = sink; line = a.line; inputs = h; condition = state; port = old.port } in w) grows ∙ ap (λ c. let w : WireView S = record { sink = sink; line = a.line; inputs = old.inputs ++ more; condition = c; port = old.port } in w) is)
+does {S} seen wants next more given a old (Err fault.WriteFault) sink line state grows is failed = (failed, grows, is, refl)
+does {S} seen wants next more given a old (Err fault.NoMemory) sink line state grows is (may, same) = (may, same, grows, is, refl)
 does {S} seen wants next more given a old (Err fault.Overflow) sink line state grows is never = absurd never
 
 -- what is written without taking memory

@@ -2,5 +2,8 @@ pub mod Closing
 pub mod Fitting
 pub mod Kept
 pub mod Loading
+pub mod Offered
 pub mod Orders
+pub mod Readiness
 pub mod Rising
+pub mod Sayable

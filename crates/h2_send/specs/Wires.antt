@@ -14,6 +14,7 @@ use Rattle.h2_events.specs.declared.port.Took.TheVariants as took
 use Rattle.h2_events.specs.declared.port.Ready.{Ready}
 use Rattle.h2_events.specs.declared.port.Ready.TheVariants as ready
 use Rattle.h2_send.specs.Offers.{ready_on}
+use Rattle.h2_send.specs.Port.{PortView}
 use Rattle.h2_send.specs.Inputs.{Input, item_of}
 use Rattle.h2_send.specs.Lines.{Line, first_line}
 use Rattle.h2_send.specs.Acting.{Acted, handled}
@@ -22,19 +23,20 @@ use Rattle.h2_send.specs.declared.condition.Condition.TheVariants as condition
 use Rattle.h2_send.specs.declared.fault.WireFaultOut.{WireFaultOut}
 use Rattle.h2_send.specs.declared.fault.WireFaultOut.TheVariants as fault
 
--- the sink, what is known of the connection, the inputs so far, and whether the wire is open
+-- the sink, what is known of the connection, the inputs so far, whether the wire is open, and what it counts as a port
 pub record WireView (S : Type 0) : Type 0 where
   pub sink : S
   pub line : Line
   pub inputs : List Input
   pub condition : Condition
+  pub port : PortView
 
 module _ {S : Type 0} where
-  abbrev pub view_code : Coded S → Coded (Line × (List Input × Condition)) → Coded (WireView S)
+  abbrev pub view_code : Coded S → Coded (Line × (List Input × (Condition × PortView))) → Coded (WireView S)
   view_code sink parts =
-      code_by (S × (Line × (List Input × Condition))) (coded× sink parts)
-      (λ v. (v.sink, (v.line, (v.inputs, v.condition))))
-      (λ p. record { sink = p.0; line = p.1.0; inputs = p.1.1.0; condition = p.1.1.1 })
+      code_by (S × (Line × (List Input × (Condition × PortView)))) (coded× sink parts)
+      (λ v. (v.sink, (v.line, (v.inputs, (v.condition, v.port)))))
+      (λ p. record { sink = p.0; line = p.1.0; inputs = p.1.1.0; condition = p.1.1.1.0; port = p.1.1.1.1 })
       (λ _. refl)
 
 -- The line is what the inputs make of the first one, each in turn,
@@ -65,16 +67,18 @@ answer_of condition.NoMemory = Err fault.NoMemory
 abbrev pub Does : {S : Type 0} → (S → Output) → Bool → Condition → List Input → Acted → Result (Unit {0}) WireFaultOut → WireView S → WireView S → Type 0
 Does seen wants_memory next inputs a (Ok tt) old new =
     Wrote (octets_of a.frames) (seen old.sink) (seen new.sink)
-    × (new ≡ record { sink = new.sink; line = a.line; inputs = old.inputs ++ inputs; condition = next })
+    × (new ≡ record old { sink = new.sink; line = a.line; inputs = old.inputs ++ inputs; condition = next })
 Does seen wants_memory next inputs a (Err fault.WriteFault) old new =
     FailedWithin (octets_of a.frames) (seen old.sink) (seen new.sink)
     × (new.inputs ≡ old.inputs ++ inputs)
     × (new.condition ≡ condition.WriteFault)
+    × (new.port ≡ old.port)
 Does seen wants_memory next inputs a (Err fault.NoMemory) old new =
     (wants_memory ≡ true)
     × (seen new.sink ≡ seen old.sink)
     × (new.inputs ≡ old.inputs ++ inputs)
     × (new.condition ≡ condition.NoMemory)
+    × (new.port ≡ old.port)
 Does seen wants_memory next inputs a (Err fault.Overflow) old new = ⊥
 
 -- The same of the connection and the sink alone.

@@ -1,13 +1,13 @@
 //! Laws of the definitions, which hold for every caller.
 ghost use Rattle.std.specs.Prelude.{◌≡◌, false, nat_eq, [], ◌∷◌, ◌++◌, List, map, ℕ, ℤ};
-ghost use Rattle.std.specs.List.{AllByRecursion, filter, flat_map};
+ghost use Rattle.std.specs.List.{AllByRecursion, filter, flat_map, list_any};
 ghost use Rattle.h2_windows.specs.declared.stream.Stream.{Stream};
 ghost use Rattle.h2_windows.specs.Pacing.{Passing, ArePaced, is_data, is_data_on};
 ghost use Rattle.h2_windows.specs.Fitting.{HaveFitHeads};
 ghost use Rattle.h2_windows.specs.Shares.{window_of};
 ghost use Rattle.h2_windows.specs.Sending.{after_sending};
-ghost use Rattle.h2_windows.specs.Streams.{AreRising};
-ghost use Rattle.h2_events.specs.Items.{Wrote, heard, written};
+ghost use Rattle.h2_windows.specs.Streams.{AreRising, is_stream};
+ghost use Rattle.h2_events.specs.Items.{Wrote, can_say, heard, written};
 ghost use Rattle.h2_send.specs.Inputs.{Input, IsSoundInput, events_of, item_of};
 ghost use Rattle.h2_send.specs.Lines.{Line, first_line};
 ghost use Rattle.h2_send.specs.Acting.{handled, replies, taken_in};
@@ -74,4 +74,11 @@ pub fn lines_of_inputs()
 pub fn frames_of_inputs_fit()
     ensures { (inputs : List Input) → AllByRecursion IsSoundInput inputs
         → HaveFitHeads (written (order_of inputs)) }
+{}
+
+/// A stream is on the line exactly where something may be said on it: it was opened, and neither reset nor ended since.
+pub fn streams_that_something_can_be_said_on()
+    ensures { (stream : ℕ) (inputs : List Input)
+        → can_say stream (order_of inputs)
+        ≡ list_any (is_stream stream) (line_after first_line inputs).streams }
 {}

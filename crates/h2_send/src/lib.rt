@@ -9,12 +9,15 @@ mod fault;
 mod given;
 mod laws;
 mod offers;
+mod port;
 mod wire;
 
 pub use condition::Condition;
 pub use fault::WireFaultOut;
 pub use given::Given;
 pub use laws::{
-    frames_of_inputs_fit, lines_of_inputs, order_of_inputs, paced_after_each_input, windows_kept,
+    frames_of_inputs_fit, lines_of_inputs, order_of_inputs, paced_after_each_input,
+    streams_that_something_can_be_said_on, windows_kept,
 };
+pub use port::Port;
 pub use wire::Wire;

@@ -1,11 +1,12 @@
 //! The wire of a connection: what is written for each event.
-ghost use Rattle.std.specs.Prelude.{◌≡◌, ◌≢◌, true, false, [], ◌∷◌, Err};
+ghost use Rattle.std.specs.Prelude.{◌≡◌, ◌≢◌, ◌≤◌, true, false, [], ◌∷◌, Err};
 ghost use Rattle.h2_windows.specs.Written.{Writes};
 ghost use Rattle.h2_send.specs.Lines.{first_line, overflows, is_new_stream};
 ghost use Rattle.h2_events.specs.Items.{said_by};
 ghost use Rattle.h2_events.specs.Ports.{FitsMessage};
 ghost use Rattle.h2_events.specs.declared.said.Said.TheVariants as Said;
 ghost use Rattle.h2_send.specs.Inputs.{Event, Speech};
+ghost use Rattle.h2_send.specs.Port.{noted, unused_port};
 ghost use Rattle.h2_send.specs.Acting.{acted, handled, replies};
 ghost use Rattle.h2_send.specs.Wires.{Does, Responds, Says, answer_of, greeted, finished, farewell, readiness};
 
@@ -13,6 +14,7 @@ use crate::condition::{Condition, answer_of, answered, condition_after, took_of}
 use crate::connection::Connection;
 use crate::fault::WireFaultOut;
 use crate::given::Given;
+use crate::port::Port;
 use base_lists::Remembered;
 use edge_traits::{Failed, Sink};
 use h2_events::{Piece, Ready, RecvEvent, Took};
@@ -31,6 +33,7 @@ pub struct Wire<S: Sink> {
     /// The inputs so far, for contracts alone.
     given: Remembered<Given>,
     condition: Condition,
+    pub(crate) port: Port,
 }
 
 impl<S: Sink> Model for Wire<S> {
@@ -48,6 +51,7 @@ impl<S: Sink> Model for Wire<S> {
       line = w.connection;
       inputs = map input_of w.given;
       condition = w.condition;
+      port = w.port;
     } };
 
     ghost invariant = { λ w. IsFolded w.condition w.connection (map input_of w.given) };
@@ -128,13 +132,20 @@ fn put_farewell<S: Sink>(sink: &mut S, connection: &Connection, code: u32) -> Re
 impl<S: Sink> Wire<S> {
     /// A wire on which nothing was written. Takes no memory.
     pub fn make(alloc: Global, sink: S) -> Wire<S>
-        ensures { result ≡ record { sink = sink; line = first_line; inputs = []; condition = Condition.Open } }
+        ensures { result ≡ record {
+          sink = sink;
+          line = first_line;
+          inputs = [];
+          condition = Condition.Open;
+          port = unused_port;
+        } }
     {
         Wire {
             sink,
             connection: Connection::new(alloc),
             given: Remembered::nothing(),
             condition: Condition::Open,
+            port: Port::unused(),
         }
     }
 
@@ -251,6 +262,14 @@ impl<S: Sink> Wire<S> {
         let done = answered(put_farewell(&mut self.sink, &self.connection, code));
         self.condition = condition_after(Condition::Finished, &done);
         done
+    }
+
+    /// A piece was offered through the port, and this became of it.
+    pub(crate) fn note(&mut self, took: Took, given: &(u32, Piece))
+        ensures is { self.new ≡ record self.old { port = noted took given.now self.old.port } }
+        ensures later { self.old.port.offers ≤ self.new.port.offers }
+    {
+        self.port.note(took, given);
     }
 
     /// Gives the sink back, as it is.
