@@ -1,6 +1,7 @@
 pub mod Fronts
 pub mod Payloads
 pub mod Turns
+pub mod Waiting
 pub mod Mapped
 pub mod Paced
 pub mod Counted

@@ -31,9 +31,9 @@ next_sends initial window s streams others n is count = ap (λ l. sent initial w
 pub frames_first : (n : ℕ) (s : Stream) (others : Sent) → octets_of (before_others n s others).frames ≡ octets_of (data_frames s.id (take n s.pending)) ++ octets_of others.frames
 frames_first n s others = flat_map-append spelled (data_frames s.id (take n s.pending)) others.frames
 
-pub with_parts : (n : ℕ) (s : Stream) (credit : ℤ) (pending : List ℕ) → credit ≡ s.credit -ℤ pos n → pending ≡ drop n s.pending → record { id = s.id; begun = s.begun; credit = credit; pending = pending } ≡ after_sending n s
+pub with_parts : (n : ℕ) (s : Stream) (credit : ℤ) (pending : List ℕ) → credit ≡ s.credit -ℤ pos n → pending ≡ drop n s.pending → record { id = s.id; begun = s.begun; credit = credit; taken = s.taken; pending = pending } ≡ after_sending n s
 with_parts n s credit pending spent advanced =
-    let P : ℤ → List ℕ → Stream = λ c p. record { id = s.id; begun = s.begun; credit = c; pending = p } in
+    let P : ℤ → List ℕ → Stream = λ c p. record { id = s.id; begun = s.begun; credit = c; taken = s.taken; pending = p } in
     ap (λ c. P c pending) spent ∙ ap (λ p. P (s.credit -ℤ pos n) p) advanced
 
 module _ (initial : ℕ) (now before : List Stream) (i : ℕ) (d : Stream) (within : i < length now) (as_long : length now ≡ length before) (left : drop i now ≡ drop i before) (window after : ℤ) (n : ℕ) (count : n ≡ share initial window (get_or now i d)) (spent : after ≡ window -ℤ pos n) where

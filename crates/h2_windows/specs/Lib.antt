@@ -1,6 +1,7 @@
 pub mod Bounds
 pub mod Control
 pub mod Fitting
+pub mod Holding
 pub mod Pacing
 pub mod Sending
 pub mod Shares

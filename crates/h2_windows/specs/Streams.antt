@@ -8,7 +8,7 @@ is_stream id s = nat_eq s.id id
 
 -- a stream on which nothing was sent, and to which nothing was granted beside the initial window
 abbrev pub fresh : ℕ → Stream
-fresh id = record { id = id; begun = false; credit = pos 0; pending = [] }
+fresh id = record { id = id; begun = false; credit = pos 0; taken = 0; pending = [] }
 
 -- with a new stream, in its place
 abbrev pub opened : ℕ → List Stream → List Stream

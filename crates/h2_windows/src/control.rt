@@ -1,12 +1,12 @@
 //! The frames that answer what was read, and those that begin and end a connection. They take no memory.
 ghost use Rattle.std.specs.Prelude.{◌≡◌, [], ◌∷◌, length};
 ghost use Rattle.h2_frame.specs.Frames.{frame_of};
-ghost use Rattle.h2_windows.specs.Written.{Writes};
+ghost use Rattle.h2_windows.specs.Written.{Writes, spelled};
 ghost use Rattle.h2_windows.specs.Control.{greeting, settings_ack, ping_ack, rst_stream, window_update, granted_again, goaway};
 
 use crate::frames::put_frame;
-use edge_traits::{Failed, Sink};
-use h2_frame::{ACK, GOAWAY, Head, PING, RST_STREAM, SETTINGS, WINDOW_UPDATE};
+use edge_traits::{Failed, Sink, write_whole};
+use h2_frame::{ACK, GOAWAY, Head, PING, RST_STREAM, SETTINGS, WINDOW_UPDATE, head_octets};
 
 /// MAX_CONCURRENT_STREAMS 32 and MAX_HEADER_LIST_SIZE 16,384 (RFC 9113 section 6.5.2).
 const GREETING: [u8; 12] = [0, 3, 0, 0, 0, 32, 0, 6, 0, 0, 64, 0];
@@ -69,9 +69,9 @@ pub fn put_rst_stream<S: Sink>(sink: &mut S, stream: u32, code: u32) -> Result<(
     put_one(sink, &head, &code.to_be_bytes())
 }
 
-fn put_window_update<S: Sink>(sink: &mut S, stream: u32, increment: u32) -> Result<(), Failed>
-    ensures { Writes result (window_update stream increment ∷ [])
-        (S.seen sink.old) (S.seen sink.new) }
+#[tactic(auto, unfolding(crate::specs::Written::spelled))]
+fn update_octets(stream: u32, increment: u32) -> [u8; 13]
+    ensures { result ≡ spelled (window_update stream increment) }
 {
     let head = Head {
         length: 4,
@@ -79,23 +79,23 @@ fn put_window_update<S: Sink>(sink: &mut S, stream: u32, increment: u32) -> Resu
         flags: 0,
         stream,
     };
-    put_one(sink, &head, &increment.to_be_bytes())
+    let [h0, h1, h2, h3, h4, h5, h6, h7, h8] = head_octets(&head);
+    let [i0, i1, i2, i3] = increment.to_be_bytes();
+    [h0, h1, h2, h3, h4, h5, h6, h7, h8, i0, i1, i2, i3]
 }
 
 /// Grants again the octets that were received, padding with them: to the connection, and to a stream that the peer
-/// hasn't ended.
-#[tactic(auto, using(crate::proofs::Fronts::wrote_nothing, crate::proofs::Grants::ended_grant))]
+/// hasn't ended. Both frames go in one piece.
+#[tactic(auto, using(crate::proofs::Fronts::wrote_nothing))]
 pub fn put_grants<S: Sink>(sink: &mut S, stream: u32, size: u32, ended: bool) -> Result<(), Failed>
     ensures { Writes result (granted_again stream size ended) (S.seen sink.old) (S.seen sink.new) }
 {
     if size == 0 {
         return Ok(());
     }
-    put_window_update(sink, 0, size)?;
-    if ended {
-        return Ok(());
-    }
-    put_window_update(sink, stream, size)
+    let both = [update_octets(0, size), update_octets(stream, size)];
+    let count = if ended { 1 } else { 2 };
+    write_whole(sink, both[..count].as_flattened())
 }
 
 /// Says that the connection ends: the highest stream that was opened, and an error code.

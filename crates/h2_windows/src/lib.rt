@@ -5,6 +5,7 @@
 
 mod control;
 mod frames;
+mod holding;
 mod laws;
 mod pending;
 mod sending;
@@ -16,6 +17,7 @@ pub use control::{
     put_goaway, put_grants, put_greeting, put_ping_ack, put_rst_stream, put_settings_ack,
 };
 pub use frames::{put_data, put_frame};
+pub use holding::held;
 pub use laws::{
     frames_fit, paced_after_sending, streams_stay_rising, within_the_connection, within_the_stream,
 };

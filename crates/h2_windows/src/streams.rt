@@ -95,6 +95,7 @@ pub fn open(alloc: Global, id: u32, streams: &mut Vec<Stream>) -> Result<(), NoM
         id,
         begun: false,
         credit: Window::of(0),
+        taken: 0,
         pending: Pending::none(alloc),
     };
     streams.insert(place, stream)?;
