@@ -10,7 +10,9 @@ use Rattle.h2_send.specs.Inputs.{Input, input_of}
 use Rattle.h2_send.specs.declared.given.Given.{Given}
 use Rattle.h2_send.specs.Lines.{Line, first_line}
 use Rattle.h2_send.specs.Acting.{Acted, handled}
-use Rattle.h2_send.specs.Wires.{WireView, Does, Responds, IsFolded, condition_after, answered, line_after, readiness}
+use Rattle.h2_send.specs.Orders.{line_after}
+use Rattle.h2_send.specs.Conditions.{condition_after, answered, readiness}
+use Rattle.h2_send.specs.Wires.{WireView, Does, Responds, IsFolded}
 use Rattle.h2_send.specs.declared.condition.Condition.{Condition}
 use Rattle.h2_send.specs.declared.condition.Condition.TheVariants as condition
 use Rattle.h2_send.specs.declared.fault.WireFaultOut.{WireFaultOut}
@@ -42,12 +44,30 @@ pub answers : (done : Result (Unit {0}) Failed) (frames : List Frame) (line : Li
 answers (Ok tt) frames line old new wrote = (wrote, refl)
 answers (Err e) frames line old new failed = failed
 
+-- a line that is what the inputs make of the first one, however the wire is
+pub any_folded : (state : Condition) (line : Line) (inputs : List Input) → line ≡ line_after first_line inputs → IsFolded state line inputs
+any_folded condition.New line inputs is = is
+any_folded condition.Open line inputs is = is
+any_folded condition.Finished line inputs is = tt
+any_folded condition.WriteFault line inputs is = tt
+any_folded condition.NoMemory line inputs is = tt
+
+pub open_line : (state : Condition) (line : Line) (inputs : List Input) → state ≡ condition.Open → IsFolded state line inputs → line ≡ line_after first_line inputs
+open_line state line inputs is folded = subst (λ s. IsFolded s line inputs) is folded
+
+pub new_line : (state : Condition) (line : Line) (inputs : List Input) → state ≡ condition.New → IsFolded state line inputs → line ≡ line_after first_line inputs
+new_line state line inputs is folded = subst (λ s. IsFolded s line inputs) is folded
+
+one_more : (wants : Bool) (input : Input) (before now : Line) (inputs : List Input) (result : Result (Unit {0}) WireFaultOut) (old new : Output) → before ≡ line_after first_line inputs → Responds wants (handled input before) result now old new → IsFolded (condition_after condition.Open result) now (inputs ++ input ∷ [])
+one_more wants input before now inputs (Ok tt) old new is (wrote, line) = line ∙ ap (λ l. (handled input l).line) is ∙ sym (line_after_one first_line inputs input)
+one_more wants input before now inputs (Err fault.WriteFault) old new is failed = tt
+one_more wants input before now inputs (Err fault.NoMemory) old new is failed = tt
+one_more wants input before now inputs (Err fault.Overflow) old new is never = absurd never
+
 -- the line stays what the inputs make of the first one
-pub folds : (wants : Bool) (input : Input) (before now : Line) (inputs : List Input) (result : Result (Unit {0}) WireFaultOut) (old new : Output) → before ≡ line_after first_line inputs → Responds wants (handled input before) result now old new → IsFolded (condition_after condition.Open result) now (inputs ++ input ∷ [])
-folds wants input before now inputs (Ok tt) old new is (wrote, line) = λ _. line ∙ ap (λ l. (handled input l).line) is ∙ sym (line_after_one first_line inputs input)
-folds wants input before now inputs (Err fault.WriteFault) old new is failed = λ c. absurd cc
-folds wants input before now inputs (Err fault.NoMemory) old new is failed = λ c. absurd cc
-folds wants input before now inputs (Err fault.Overflow) old new is never = absurd never
+pub folds : (wants : Bool) (input : Input) (was next : Condition) (before now : Line) (inputs after : List Input) (result : Result (Unit {0}) WireFaultOut) (old new : Output) → was ≡ condition.Open → IsFolded was before inputs → Responds wants (handled input before) result now old new → next ≡ condition_after condition.Open result → after ≡ inputs ++ input ∷ [] → IsFolded next now after
+folds wants input was next before now inputs after result old new is folded responds leaves grows =
+    subst (λ s. IsFolded s now after) (sym leaves) (subst (λ is. IsFolded (condition_after condition.Open result) now is) (sym grows) (one_more wants input before now inputs result old new (open_line was before inputs is folded) responds))
 
 -- one input more is noted
 pub grown : (given : List Given) (more : Given) (now : List Given) → now ≡ given ++ more ∷ [] → map input_of now ≡ map input_of given ++ input_of more ∷ []
@@ -59,6 +79,7 @@ grown given more now is = ap (map input_of) is ∙ joined given
 
 -- where something can be said the wire is open
 pub free_open : (state : Condition) (id : ℕ) (line : Line) → readiness state id line ≡ Free → state ≡ condition.Open
+free_open condition.New id line is = absurd cc
 free_open condition.Open id line is = refl
 free_open condition.Finished id line is = absurd cc
 free_open condition.WriteFault id line is = absurd cc

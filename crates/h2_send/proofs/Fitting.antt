@@ -20,7 +20,7 @@ use Rattle.h2_replies.proofs.Fitting.{opening_fits, ending_fits, status_fits}
 use Rattle.h2_send.specs.Inputs.{Input, Event, Speech, IsSoundInput}
 use Rattle.h2_send.specs.Offers.{has_begun, loaded, with_octets}
 use Rattle.h2_send.specs.Acting.{replies, first_frames, taken_in, handled}
-use Rattle.h2_send.specs.Wires.{order_after}
+use Rattle.h2_send.specs.Orders.{order_after}
 use Rattle.h2_send.proofs.Orders.{written_all, written_input}
 
 increment_numbers : (id n : ℕ) (line : Line) → HaveFitNumbers line.streams → HaveFitNumbers (with_increment id n line).streams

@@ -3,8 +3,14 @@ use Rattle.std.proofs.Common.{◌≡◌, ℕ, zero, suc, ◌+◌, ◌≤◌, Boo
 use Rattle.std.specs.Prelude.{if◌then◌else◌}
 use Rattle.std.specs.List.{position_or_len}
 use Rattle.h2_windows.specs.Streams.{is_stream}
+use Rattle.h2_windows.specs.Holding.{counted}
 use Rattle.h2_windows.specs.declared.stream.Stream.{Stream}
 use Rattle.h2_send.specs.Offers.{loaded, with_octets}
+
+-- a stream with these octets, part by part
+pub with_parts : (octets : List ℕ) (s : Stream) (taken : ℕ) (pending : List ℕ) → taken ≡ counted (s.taken + length octets) → pending ≡ octets → record { id = s.id; begun = true; credit = s.credit; taken = taken; pending = pending } ≡ with_octets octets s
+with_parts octets s taken pending counts is =
+    ap (λ n. let t : Stream = record { id = s.id; begun = true; credit = s.credit; taken = n; pending = pending } in t) counts ∙ ap (λ os. let t : Stream = record { id = s.id; begun = true; credit = s.credit; taken = counted (s.taken + length octets); pending = os } in t) is
 
 at_if : (is : Bool) (octets : List ℕ) (n m : ℕ) (s t d : Stream) (streams others : List Stream) → n ≡ cond (not is) (1 + m) 0 → t ≡ with_octets octets (get_or (s ∷ streams) n d) → (t ≡ with_octets octets (get_or streams m d) → set streams m t ≡ others) → set (s ∷ streams) n t ≡ (if is then with_octets octets s ∷ streams else s ∷ others)
 at_if true octets n m s t d streams others place value rest = ap (λ k. set (s ∷ streams) k t) place ∙ ap (λ x. x ∷ streams) (value ∙ ap (λ k. with_octets octets (get_or (s ∷ streams) k d)) place)

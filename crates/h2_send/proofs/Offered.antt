@@ -1,72 +1,137 @@
--- How streams stand behind an offer to a wire.
-use Rattle.std.proofs.Common.{◌≡◌, ◌≢◌, ℕ, Ok, Err, IsTrue, refl, sym, ap, ◌∙◌, subst}
+-- How a port sees a wire, and what an offer comes to.
+use Rattle.std.proofs.Common.{◌≡◌, ◌≢◌, ℕ, ◌<◌, ◌≤◌, true, List, [], ◌∷◌, ◌++◌, Ok, Err, IsTrue, refl, sym, ap, ◌∙◌, subst, arith, append-nil}
 use Rattle.std.proofs.lemmas.Bool.{false≢true}
-use Rattle.edge_traits.specs.Output.{Output}
-use Rattle.h2_events.specs.Items.{is_last, said_by}
-use Rattle.h2_events.specs.declared.said.Piece.{Piece}
-use Rattle.h2_events.specs.declared.said.Piece.TheVariants as piece
+use Rattle.edge_traits.specs.Output.{Output, Wrote, FailedWithin}
+use Rattle.h2_windows.specs.Written.{octets_of}
+use Rattle.h2_windows.proofs.Fronts.{wrote_nothing}
+use Rattle.h2_events.specs.Items.{is_last}
+use Rattle.h2_events.specs.declared.said.Said.{Said}
+use Rattle.h2_events.specs.declared.said.Said.TheVariants.{Message, Finish, Status}
 use Rattle.h2_events.specs.declared.port.Took.{Took}
 use Rattle.h2_events.specs.declared.port.Took.TheVariants as took
 use Rattle.h2_events.specs.declared.port.Ready.{Ready}
 use Rattle.h2_events.specs.declared.port.Ready.TheVariants as ready
-use Rattle.h2_send.specs.Inputs.{Speech}
-use Rattle.h2_send.specs.Lines.{Line}
+use Rattle.h2_send.specs.Inputs.{Input, Speech}
+use Rattle.h2_send.specs.Lines.{Line, first_line}
+use Rattle.h2_send.specs.Offers.{ready_on}
 use Rattle.h2_send.specs.Acting.{handled}
-use Rattle.h2_send.specs.Wires.{WireView, Says, readiness}
+use Rattle.h2_send.specs.Orders.{line_after}
+use Rattle.h2_send.specs.Conditions.{IsClosed, readiness}
+use Rattle.h2_send.specs.Port.{Progress, GoesOn, Takes, Tries, Offers, Asks, line_of, ready_in}
+use Rattle.h2_send.specs.Wires.{WireView, Says, IsFolded, progress_of}
 use Rattle.h2_send.specs.declared.condition.Condition.{Condition}
 use Rattle.h2_send.specs.declared.condition.Condition.TheVariants as condition
-use Rattle.h2_send.proofs.Closing.{free_open}
+use Rattle.h2_send.proofs.Closing.{free_open, open_line, line_after_one}
 use Rattle.h2_send.proofs.Readiness.{stays_gone, ended_gone}
 
-pub record IsOffered (id : ℕ) (given : Piece) (r : Took) (before after : ℕ → Ready) : Type 0 where
-  pub ended : r ≡ took.Taken → IsTrue (is_last (said_by given)) → after id ≡ ready.Gone
-  pub stays : (other : ℕ) → before other ≡ ready.Gone → after other ≡ ready.Gone
+same_many : (n : ℕ) → n ≤ n
+same_many n = omega arith
 
-last_gone : (given : Piece) (id : ℕ) (line : Line) → IsTrue (is_last (said_by given)) → readiness condition.Open id (handled (Speech id (said_by given)) line).line ≡ ready.Gone
-last_gone (piece.Message octets) id line is = absurd (false≢true is)
-last_gone (piece.Finish refusal) id line is = ended_gone id line.initial line.window line.streams
+-- nobody did anything
+pub stays : (at : Progress) → GoesOn at at
+stays at = record {
+  others = [];
+  inputs = sym (append-nil at.inputs);
+  wrote = λ old new. wrote_nothing at.output at.output refl;
+  faults = same_many at.output.faults;
+  closed = λ is. refl;
+}
 
-open_gone : (state : Condition) (other id : ℕ) (given : Piece) (line : Line) → state ≡ condition.Open → readiness state other line ≡ ready.Gone → readiness condition.Open other (handled (Speech id (said_by given)) line).line ≡ ready.Gone
-open_gone state other id given line is gone = stays_gone other id (said_by given) line (sym (ap (λ c. readiness c other line) is) ∙ gone)
+ready_is : (state : Condition) (stream : ℕ) (line : Line) (inputs : List Input) → IsFolded state line inputs → readiness state stream line ≡ readiness state stream (line_after first_line inputs)
+ready_is condition.New stream line inputs folded = refl
+ready_is condition.Open stream line inputs folded = ap (λ (l : Line). ready_on stream l.streams) folded
+ready_is condition.Finished stream line inputs folded = refl
+ready_is condition.WriteFault stream line inputs folded = refl
+ready_is condition.NoMemory stream line inputs folded = refl
 
-module _ {S : Type 0} (seen : S → Output) (id : ℕ) (given : Piece) (old new : WireView S) where
-  abbrev before : ℕ → Ready
-  before other = readiness old.condition other old.line
+module _ {S : Type 0} (seen : S → Output) (stream : ℕ) where
+  abbrev at : WireView S → Progress
+  at w = progress_of seen w
 
-  abbrev after : ℕ → Ready
-  after other = readiness new.condition other new.line
+  pub asks : (answer : Ready) (old new : WireView S) → IsFolded old.condition old.line old.inputs → answer ≡ readiness old.condition stream old.line → at new ≡ at old → Asks true answer stream (at old) (at new)
+  asks answer old new folded is same = record {
+    goes_on = subst (λ p. GoesOn (at old) p) (sym same) (stays (at old));
+    alone = λ alone. same;
+    answers = is ∙ ready_is old.condition stream old.line old.inputs folded ∙ ap (λ p. ready_in stream p) (sym same);
+  }
 
-  abbrev Offered : Took → Type 0
-  Offered r = IsOffered id given r before after
+  takes : (r : Took) (input : Input) (old new : WireView S) → old.line ≡ line_after first_line old.inputs → Says seen input r old new → Takes r input (at old) (at new)
+  takes took.Taken input old new is (wrote, same) = (subst (λ os. Wrote os (seen old.sink) (seen new.sink)) (ap (λ l. octets_of (handled input l).frames) is) wrote, ap (λ (w : WireView S). w.inputs) same, ap (λ (w : WireView S). w.condition) same)
+  takes took.WriteFault input old new is (failed, grows, state, port) = (subst (λ os. FailedWithin os (seen old.sink) (seen new.sink)) (ap (λ l. octets_of (handled input l).frames) is) failed, grows, state)
+  takes took.NoMemory input old new is (wants, same, grows, state, port) = (same, grows, state)
+  takes took.Busy input old new is never = absurd never
+  takes took.Gone input old new is never = absurd never
 
-  same_after : new ≡ old → (other : ℕ) → after other ≡ before other
-  same_after same other = ap (λ (w : WireView S). readiness w.condition other w.line) same
+  tries : (d : Ready) (r : Took) (input : Input) (old new : WireView S) → IsFolded old.condition old.line old.inputs → readiness old.condition stream old.line ≡ d → (d ≡ ready.Free → Says seen input r old new) → (d ≡ ready.Busy → (r ≡ took.Busy) × (new ≡ old)) → (d ≡ ready.Gone → (r ≡ took.Gone) × (new ≡ old)) → Tries d r input (at old) (at new)
+  tries ready.Free r input old new folded is says busy gone = takes r input old new (open_line old.condition old.line old.inputs (free_open old.condition stream old.line is) folded) (says refl)
+  tries ready.Busy r input old new folded is says busy gone = let (e, same) = busy refl in (e, ap (λ w. at w) same)
+  tries ready.Gone r input old new folded is says busy gone = let (e, same) = gone refl in (e, ap (λ w. at w) same)
 
-  -- nothing changed
-  unchanged : (r : Took) → r ≢ took.Taken → new ≡ old → Offered r
-  unchanged r not_taken same = record { ended = (λ e l. absurd (not_taken e)); stays = (λ other e. same_after same other ∙ e) }
+  pub offers : (r : Took) (said : Said) (old new : WireView S) → IsFolded old.condition old.line old.inputs → (readiness old.condition stream old.line ≡ ready.Free → Says seen (Speech stream said) r old new) → (readiness old.condition stream old.line ≡ ready.Busy → (r ≡ took.Busy) × (new ≡ old)) → (readiness old.condition stream old.line ≡ ready.Gone → (r ≡ took.Gone) × (new ≡ old)) → Offers true r stream said (at old) (at new)
+  offers r said old new folded says busy gone = record {
+    found = at old;
+    goes_on = stays (at old);
+    alone = λ alone. refl;
+    tries = subst (λ d. Tries d r (Speech stream said) (at old) (at new)) (ready_is old.condition stream old.line old.inputs folded) (tries (readiness old.condition stream old.line) r (Speech stream said) old new folded refl says busy gone);
+  }
 
-  -- the wire is closed
-  shut : (r : Took) (state : Condition) → r ≢ took.Taken → state ≢ condition.Open → new.condition ≡ state → Offered r
-  shut r condition.Open not_taken not_open is = absurd (not_open refl)
-  shut r condition.Finished not_taken not_open is = record { ended = (λ e l. absurd (not_taken e)); stays = (λ other e. ap (λ c. readiness c other new.line) is) }
-  shut r condition.WriteFault not_taken not_open is = record { ended = (λ e l. absurd (not_taken e)); stays = (λ other e. ap (λ c. readiness c other new.line) is) }
-  shut r condition.NoMemory not_taken not_open is = record { ended = (λ e l. absurd (not_taken e)); stays = (λ other e. ap (λ c. readiness c other new.line) is) }
+-- ---- what an offer tells
 
-  from_free : (r : Took) → before id ≡ ready.Free → Says seen (Speech id (said_by given)) r old new → Offered r
-  from_free took.Taken is (wrote, same) =
-      let is_open = free_open old.condition id old.line is in
-      let now : (other : ℕ) → after other ≡ readiness condition.Open other (handled (Speech id (said_by given)) old.line).line = λ other. ap (λ (w : WireView S). readiness w.condition other w.line) same in
-      record { ended = (λ e l. now id ∙ last_gone given id old.line l); stays = (λ other e. now other ∙ open_gone old.condition other id given old.line is_open e) }
-  from_free took.WriteFault is (failed, grows, state, port) = shut took.WriteFault condition.WriteFault (λ e. absurd cc) (λ e. absurd cc) state
-  from_free took.NoMemory is (wants, same, grows, state, port) = shut took.NoMemory condition.NoMemory (λ e. absurd cc) (λ e. absurd cc) state
-  from_free took.Busy is never = absurd never
-  from_free took.Gone is never = absurd never
+closed_gone : (state : Condition) (stream : ℕ) (line : Line) → IsClosed state → readiness state stream line ≡ ready.Gone
+closed_gone condition.New stream line is = absurd is
+closed_gone condition.Open stream line is = absurd is
+closed_gone condition.Finished stream line is = refl
+closed_gone condition.WriteFault stream line is = refl
+closed_gone condition.NoMemory stream line is = refl
 
-  by_readiness : (d : Ready) (r : Took) → before id ≡ d → (d ≡ ready.Free → Says seen (Speech id (said_by given)) r old new) → (d ≡ ready.Busy → (r ≡ took.Busy) × (new ≡ old)) → (d ≡ ready.Gone → (r ≡ took.Gone) × (new ≡ old)) → Offered r
-  by_readiness ready.Free r is says busy gone = from_free r is (says refl)
-  by_readiness ready.Busy r is says busy gone = let (e, same) = busy refl in subst Offered (sym e) (unchanged took.Busy (λ t. absurd cc) same)
-  by_readiness ready.Gone r is says busy gone = let (e, same) = gone refl in subst Offered (sym e) (unchanged took.Gone (λ t. absurd cc) same)
+module _ (stream : ℕ) (said : Said) (found new : Progress) where
+  abbrev before : Ready
+  before = ready_in stream found
 
-  pub offered : (r : Took) → (before id ≡ ready.Free → Says seen (Speech id (said_by given)) r old new) → (before id ≡ ready.Busy → (r ≡ took.Busy) × (new ≡ old)) → (before id ≡ ready.Gone → (r ≡ took.Gone) × (new ≡ old)) → Offered r
-  offered r says busy gone = by_readiness (before id) r refl says busy gone
+  abbrev Tried : Ready → Took → Type 0
+  Tried d r = Tries d r (Speech stream said) found new
+
+  -- Gone comes where the stream is gone, which it stays,
+  pub gone_then : (d : Ready) → before ≡ d → Tried d took.Gone → ready_in stream new ≡ ready.Gone
+  gone_then ready.Free is never = absurd never
+  gone_then ready.Busy is (e, same) = absurd cc
+  gone_then ready.Gone is (e, same) = ap (λ p. ready_in stream p) same ∙ is
+
+  -- Busy where octets wait,
+  pub busy_then : (d : Ready) → before ≡ d → Tried d took.Busy → ready_in stream new ≡ ready.Busy
+  busy_then ready.Free is never = absurd never
+  busy_then ready.Busy is (e, same) = ap (λ p. ready_in stream p) same ∙ is
+  busy_then ready.Gone is (e, same) = absurd cc
+
+  -- a fault closes the sending half,
+  pub fault_then : (d : Ready) → Tried d took.WriteFault → (new.condition ≡ condition.WriteFault) × (found.output.faults < new.output.faults)
+  fault_then ready.Free ((n, less, last), grows, state) = (state, (let e = ap (λ (o : Output). o.faults) last in omega (arith, e)))
+  fault_then ready.Busy (e, same) = absurd cc
+  fault_then ready.Gone (e, same) = absurd cc
+
+  pub starved_then : (d : Ready) → Tried d took.NoMemory → new.condition ≡ condition.NoMemory
+  starved_then ready.Free (same, grows, state) = state
+  starved_then ready.Busy (e, same) = absurd cc
+  starved_then ready.Gone (e, same) = absurd cc
+
+  last_gone : (word : Said) (line : Line) → IsTrue (is_last word) → ready_on stream (handled (Speech stream word) line).line.streams ≡ ready.Gone
+  last_gone (Message octets) line is = absurd (false≢true is)
+  last_gone (Finish refusal) line is = ended_gone stream line.initial line.window line.streams
+  last_gone (Status status) line is = ended_gone stream line.initial line.window line.streams
+
+  line_then : new.inputs ≡ found.inputs ++ Speech stream said ∷ [] → line_of new ≡ (handled (Speech stream said) (line_of found)).line
+  line_then grows = ap (λ is. line_after first_line is) grows ∙ line_after_one first_line found.inputs (Speech stream said)
+
+  -- and behind what comes last on a stream it is gone.
+  pub ended_then : (d : Ready) → Tried d took.Taken → IsTrue (is_last said) → ready_in stream new ≡ ready.Gone
+  ended_then ready.Free (wrote, grows, state) last = ap (λ c. readiness c stream (line_of new)) state ∙ ap (λ (l : Line). ready_on stream l.streams) (line_then grows) ∙ last_gone said (line_of found) last
+  ended_then ready.Busy (e, same) last = absurd cc
+  ended_then ready.Gone (e, same) last = absurd cc
+
+  pub taken_free : (d : Ready) → Tried d took.Taken → d ≡ ready.Free
+  taken_free ready.Free is = refl
+  taken_free ready.Busy (e, same) = absurd cc
+  taken_free ready.Gone (e, same) = absurd cc
+
+pub all_gone : (state : Condition) (at : Progress) (other : ℕ) → IsClosed state → at.condition ≡ state → ready_in other at ≡ ready.Gone
+all_gone state at other closed is = ap (λ c. readiness c other (line_of at)) is ∙ closed_gone state other (line_of at) closed

@@ -3,6 +3,11 @@ use Rattle.std.proofs.Common.{◌≡◌, ℕ, zero, suc, Bool, true, false, List
 use Rattle.std.specs.Prelude.{Option, Some, None}
 use Rattle.std.specs.List.{filter, flat_map}
 use Rattle.std.proofs.lemmas.List.Elements.{filter-append}
+use Rattle.std.proofs.lemmas.List.Concat.{flat_map-append}
+use Rattle.edge_traits.specs.Output.{Output, Wrote, FailedWithin}
+use Rattle.h2_windows.specs.Control.{greeting}
+use Rattle.h2_windows.specs.Written.{spelled, octets_of}
+use Rattle.h2_windows.proofs.Fronts.{wrote_both, failed_behind}
 use Rattle.h2_frame.specs.Frames.{Frame}
 use Rattle.h2_windows.specs.Shares.{share}
 use Rattle.h2_windows.specs.Sending.{sent, data_frame, data_frames, payloads_in, largest_payload}
@@ -16,10 +21,11 @@ use Rattle.h2_events.specs.declared.said.Said.TheVariants.{Message, Finish, Stat
 use Rattle.base_kinds.specs.declared.refusal.Refusal.{Refusal}
 use Rattle.h2_replies.specs.Headers.{opening, ending, status_answer}
 use Rattle.h2_send.specs.Inputs.{Input, Event, Speech, item_of, events_of}
-use Rattle.h2_send.specs.Lines.{Line}
+use Rattle.h2_send.specs.Lines.{Line, first_line}
 use Rattle.h2_send.specs.Offers.{has_begun}
 use Rattle.h2_send.specs.Acting.{replies, first_frames, taken_in, handled}
-use Rattle.h2_send.specs.Wires.{line_after, order_after, is_control}
+use Rattle.h2_send.specs.Orders.{line_after, order_after}
+use Rattle.h2_send.specs.Wires.{is_control}
 
 -- DATA answers nothing.
 data_answers_nothing : (id k : ℕ) (octets : List ℕ) → filter is_control (map (data_frame id) (payloads_in k octets)) ≡ []
@@ -120,3 +126,21 @@ grows line (x ∷ inputs) i =
     let first = map item.Wrote (handled x line).frames in
     let next = (handled x line).line in
     ap (λ items. item_of x ∷ first ++ items) (grows next inputs i) ∙ ap (λ items. item_of x ∷ items) (sym (append_assoc first (order_after next inputs) (item_of i ∷ map item.Wrote (handled i (line_after next inputs)).frames)))
+
+-- ---- what is written for one input more
+
+written_grows : (inputs : List Input) (i : Input) → written (order_after first_line (inputs ++ i ∷ [])) ≡ written (order_after first_line inputs) ++ (handled i (line_after first_line inputs)).frames
+written_grows inputs i =
+    let before = order_after first_line inputs in
+    let frames = (handled i (line_after first_line inputs)).frames in
+    ap written (grows first_line inputs i) ∙ written-append before (item_of i ∷ map item.Wrote frames) ∙ ap (λ fs. written before ++ fs) (written_input i (map item.Wrote frames) ∙ written_all frames)
+
+octets_grow : (inputs : List Input) (i : Input) → octets_of (greeting ∷ written (order_after first_line (inputs ++ i ∷ []))) ≡ octets_of (greeting ∷ written (order_after first_line inputs)) ++ octets_of (handled i (line_after first_line inputs)).frames
+octets_grow inputs i =
+    ap (λ fs. octets_of (greeting ∷ fs)) (written_grows inputs i) ∙ flat_map-append spelled (greeting ∷ written (order_after first_line inputs)) (handled i (line_after first_line inputs)).frames
+
+pub output_grows : (inputs : List Input) (i : Input) (start old new : Output) → Wrote (octets_of (greeting ∷ written (order_after first_line inputs))) start old → Wrote (octets_of (handled i (line_after first_line inputs)).frames) old new → Wrote (octets_of (greeting ∷ written (order_after first_line (inputs ++ i ∷ [])))) start new
+output_grows inputs i start old new first second = wrote_both start old new (octets_of (greeting ∷ written (order_after first_line inputs))) (octets_of (handled i (line_after first_line inputs)).frames) (octets_of (greeting ∷ written (order_after first_line (inputs ++ i ∷ [])))) (octets_grow inputs i) first second
+
+pub output_fails : (inputs : List Input) (i : Input) (start old new : Output) → Wrote (octets_of (greeting ∷ written (order_after first_line inputs))) start old → FailedWithin (octets_of (handled i (line_after first_line inputs)).frames) old new → FailedWithin (octets_of (greeting ∷ written (order_after first_line (inputs ++ i ∷ [])))) start new
+output_fails inputs i start old new first second = failed_behind start old new (octets_of (greeting ∷ written (order_after first_line inputs))) (octets_of (handled i (line_after first_line inputs)).frames) (octets_of (greeting ∷ written (order_after first_line (inputs ++ i ∷ [])))) (octets_grow inputs i) first second

@@ -16,7 +16,7 @@ use Rattle.grpc_core.specs.Messages.{framed}
 use Rattle.h2_send.specs.Inputs.{Input, Event, Speech}
 use Rattle.h2_send.specs.Offers.{loaded, with_octets}
 use Rattle.h2_send.specs.Acting.{taken_in, handled}
-use Rattle.h2_send.specs.Wires.{line_after}
+use Rattle.h2_send.specs.Orders.{line_after}
 use Rattle.h2_send.proofs.Kept.{own_kept}
 
 increment_rises : (id n : ℕ) (line : Line) → AreRising line.streams → AreRising (with_increment id n line).streams

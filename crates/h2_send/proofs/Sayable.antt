@@ -18,7 +18,7 @@ use Rattle.grpc_core.specs.Messages.{framed}
 use Rattle.h2_send.specs.Inputs.{Input, Event, Speech, item_of}
 use Rattle.h2_send.specs.Lines.{Line, first_line, told, with_increment}
 use Rattle.h2_send.specs.Acting.{handled, taken_in}
-use Rattle.h2_send.specs.Wires.{line_after, order_after}
+use Rattle.h2_send.specs.Orders.{line_after, order_after}
 use Rattle.h2_send.proofs.Readiness.{there, sent_there, loaded_there}
 
 and_true : (b : Bool) → b ≡ (b && true)

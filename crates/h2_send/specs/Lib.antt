@@ -1,7 +1,9 @@
 pub mod Acting
+pub mod Conditions
 pub mod Inputs
 pub mod Lines
 pub mod Offers
+pub mod Orders
 pub mod Port
 pub mod Wires
 pub mod worked

@@ -1,5 +1,5 @@
 ghost use Rattle.std.specs.Prelude.{◌≡◌};
-ghost use Rattle.h2_send.specs.Wires.{answer_of, answered, condition_after, took_of};
+ghost use Rattle.h2_send.specs.Conditions.{answer_of, answered, condition_after, took_of};
 
 use crate::fault::WireFaultOut;
 use edge_traits::Failed;
@@ -8,6 +8,8 @@ use h2_events::Took;
 /// Whether a wire still writes, and if not, what closed it.
 #[derive(Clone, Copy, Debug, PartialEq, Eq)]
 pub enum Condition {
+    /// The greeting, which comes before all else, isn't written yet.
+    New,
     Open,
     /// By `finish`.
     Finished,
@@ -20,6 +22,7 @@ pub(crate) fn answer_of(condition: Condition) -> Result<(), WireFaultOut>
     ensures { result ≡ answer_of condition }
 {
     match condition {
+        Condition::New => Ok(()),
         Condition::Open => Ok(()),
         Condition::Finished => Ok(()),
         Condition::WriteFault => Err(WireFaultOut::WriteFault),

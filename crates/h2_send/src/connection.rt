@@ -1,22 +1,27 @@
 //! What a sender knows of its connection.
-ghost use Rattle.std.specs.Prelude.{◌≡◌, ◌++◌, true, false, OnOk, OnErr, IfOk};
+ghost use Rattle.std.specs.Prelude.{◌≡◌, ◌≤◌, ◌*◌, ◌++◌, length, true, false, OnOk, OnErr, IfOk};
 ghost use Rattle.h2_events.specs.Events.{highest_with};
 ghost use Rattle.h2_windows.specs.Written.{Writes, WritesOctets, octets_of};
 ghost use Rattle.h2_windows.specs.Streams.{without};
 ghost use Rattle.h2_events.specs.Items.{said_by};
 ghost use Rattle.h2_events.specs.declared.said.Said.TheVariants as Said;
 ghost use Rattle.h2_events.specs.Ports.{FitsMessage};
-ghost use Rattle.h2_send.specs.Offers.{ready_on};
+ghost use Rattle.h2_send.specs.Offers.{ready_on, taken_on, has_begun};
+ghost use Rattle.h2_windows.specs.Bounds.{largest_pending};
+ghost use Rattle.h2_windows.specs.Holding.{counted, waiting};
 ghost use Rattle.h2_send.specs.Lines.{Line, first_line, told, changed, overflows, is_new_stream, with_increment, increment_passes};
 ghost use Rattle.h2_send.specs.Acting.{flushed, headers_for, spoken};
 
-use crate::offers::{has_begun, load, ready_on};
+use crate::gathered::Gathered;
+use crate::offers::{has_begun, load, ready_on, taken_on};
 use base_lists::{Bytes, NoMemory};
 use edge_traits::{Failed, Sink, write_whole};
 use grpc_core::frame_message;
 use h2_events::{Piece, Ready, RecvEvent};
 use h2_replies::{ending, opening, status_answer};
-use h2_windows::{Stream, Window, close, grant, initial_passes, open, send_allowed, stream_passes};
+use h2_windows::{
+    Stream, Window, close, grant, held, initial_passes, open, send_allowed, stream_passes,
+};
 use std::alloc::Global;
 use std::marker::Model;
 
@@ -138,6 +143,28 @@ impl Connection {
         Ok(())
     }
 
+    /// How many octets were taken on the stream, or 0 where it isn't here.
+    pub(crate) fn taken(&self, stream: u32) -> u64
+        ensures { result ≡ taken_on stream self.now.streams }
+    {
+        taken_on(stream, &self.streams)
+    }
+
+    /// How many octets wait on the streams.
+    pub(crate) fn held(&self) -> usize
+        ensures is { result ≡ counted (waiting self.now.streams) }
+        ensures bound { result ≤ largest_pending * length self.now.streams }
+    {
+        held(&self.streams)
+    }
+
+    /// Whether the HEADERS of the stream are sent.
+    pub(crate) fn has_begun(&self, stream: u32) -> bool
+        ensures { result ≡ has_begun stream self.now.streams }
+    {
+        has_begun(stream, &self.streams)
+    }
+
     /// Whether something can be said on the stream.
     pub(crate) fn ready(&self, stream: u32) -> Ready
         ensures { result ≡ ready_on stream self.now.streams }
@@ -220,6 +247,18 @@ impl Connection {
     {
         write_whole(sink, octets)?;
         self.flush(sink)
+    }
+
+    /// Octets, and behind them what the windows let through, in one piece.
+    pub(crate) fn gather(&mut self, octets: Bytes) -> Result<Bytes, NoMemory>
+        ensures ok { IfOk result (λ all. all ≡ octets ++ octets_of (flushed self.old).frames) }
+        ensures line { OnOk result (self.new ≡ (flushed self.old).line) }
+    {
+        let mut gathered = Gathered::of(octets);
+        match self.flush(&mut gathered) {
+            Ok(()) => Ok(gathered.into_octets()),
+            Err(_) => Err(NoMemory),
+        }
     }
 
     /// Sends what the windows let through.

@@ -1,11 +1,12 @@
 //! The sending half of an HTTP/2 connection (RFC 9113): what this side writes for each event and for what is said on a
 //! stream, within the peer's windows. Start with `Wire` and specs/Wires.antt; what an event tells is specs/Lines.antt, and
-//! what is written for an input specs/Acting.antt.
+//! what is written for an input specs/Acting.antt. `WirePort` (specs/Port.antt) is the port by which messages are given.
 #![tactic(auto)]
 
 mod condition;
 mod connection;
 mod fault;
+mod gathered;
 mod given;
 mod laws;
 mod offers;
@@ -16,8 +17,8 @@ pub use condition::Condition;
 pub use fault::WireFaultOut;
 pub use given::Given;
 pub use laws::{
-    frames_of_inputs_fit, lines_of_inputs, order_of_inputs, paced_after_each_input,
-    streams_that_something_can_be_said_on, windows_kept,
+    frames_of_inputs_fit, lines_go_on, lines_of_inputs, offers_and_their_answers, order_of_inputs,
+    outputs_go_on, paced_after_each_input, streams_that_something_can_be_said_on, windows_kept,
 };
-pub use port::Port;
+pub use port::{Port, WirePort};
 pub use wire::Wire;

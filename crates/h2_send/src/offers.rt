@@ -1,9 +1,8 @@
 //! Streams on which something is said.
-ghost use Rattle.std.specs.Prelude.{◌≡◌, ◌≤◌, length};
+ghost use Rattle.std.specs.Prelude.{◌≡◌, ◌≤◌, ◌&&◌, length, option_map};
 ghost use Rattle.h2_windows.specs.Bounds.{largest_pending};
-ghost use Rattle.h2_send.specs.Offers.{ready_on, has_begun, loaded, waits};
-ghost use Rattle.std.specs.Prelude.{◌&&◌};
-ghost use Rattle.std.specs.List.{list_any};
+ghost use Rattle.h2_send.specs.Offers.{ready_on, has_begun, loaded, taken_on, waits};
+ghost use Rattle.std.specs.List.{list_any, find};
 ghost use Rattle.h2_windows.specs.Streams.{is_stream};
 
 use base_lists::Bytes;
@@ -42,6 +41,22 @@ pub(crate) fn has_begun(id: u32, streams: &[Stream]) -> bool
     streams.iter().any(|s| s.id == id && s.begun)
 }
 
+fn stream_of<'a>(id: u32, streams: &'a [Stream]) -> Option<&'a Stream>
+    ensures { option_map (λ s. s.now) result ≡ find (is_stream id) streams.now }
+{
+    streams.iter().find(|stream| stream.id == id)
+}
+
+/// How many octets were taken on the stream that has the number, or 0 where none has it.
+pub(crate) fn taken_on(id: u32, streams: &[Stream]) -> u64
+    ensures { result ≡ taken_on id streams.now }
+{
+    match stream_of(id, streams) {
+        Some(stream) => stream.taken,
+        None => 0,
+    }
+}
+
 /// Puts octets on the stream that has the number. Nothing changes where none has it.
 pub(crate) fn load(id: u32, octets: Bytes, streams: &mut Vec<Stream>)
     requires { length octets ≤ largest_pending }
@@ -51,6 +66,7 @@ pub(crate) fn load(id: u32, octets: Bytes, streams: &mut Vec<Stream>)
     if place < streams.len() {
         let stream = &mut streams[place];
         stream.begun = true;
+        stream.taken = stream.taken.saturating_add(octets.len() as u64);
         stream.pending = Pending::of(octets);
     }
 }

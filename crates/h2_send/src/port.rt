@@ -1,14 +1,49 @@
-//! A wire as a port.
+//! A wire as a port, by which whoever has messages for a stream gives them.
 ghost use Rattle.std.specs.Prelude.{◌≡◌, ◌≤◌};
-ghost use Rattle.h2_events.specs.Ports.{once_more};
-ghost use Rattle.h2_send.specs.Port.{noted, unused_port};
+ghost use Rattle.h2_events.specs.Items.{said_by};
+ghost use Rattle.h2_events.specs.Ports.{FitsMessage};
+ghost use Rattle.h2_send.specs.Port.{Asks, Offers, asked, noted, unused_port};
 
 use crate::wire::Wire;
 use base_lists::Remembered;
 use edge_traits::Sink;
-use h2_events::{Piece, Ready, Took, WirePort};
+use h2_events::{Piece, Ready, Took};
 use std::alloc::Global;
 use std::marker::Model;
+
+/// A port to the sending half of a connection. Where other threads have ports to the same connection a call may find it
+/// otherwise than the port saw it last.
+pub trait WirePort {
+    ghost use Rattle.std.specs.Prelude.{Bool};
+    ghost use Rattle.h2_send.specs.Port.{PortView, Progress};
+
+    /// How far the connection had come when the port saw it last: what its sending half was given in which order, whether
+    /// it still writes, and what has gone out.
+    ghost progress: { Self → Progress };
+
+    /// Whether nobody else has a port to the connection, so that a call finds it as the port saw it last.
+    ghost is_alone: { Self → Bool };
+
+    /// What went through this port: the pieces that were taken, each with its stream, in order; how often `ready` answered
+    /// Free; how often `offer` was called. Both counts stand still at the end of a u64.
+    ghost counts: { Self → PortView };
+
+    /// Whether the stream takes a piece now: it is Gone where it was never opened, was reset or ended, or the connection is
+    /// closed; else Busy where octets wait on it, and Free where none do.
+    fn ready(&mut self, stream: u32) -> Ready
+        ensures asks { Asks (is_alone self.old) result stream (progress self.old) (progress self.new) }
+        ensures alone { is_alone self.new ≡ is_alone self.old }
+        ensures counts { counts self.new ≡ asked result (counts self.old) };
+
+    /// Says a piece on the stream where it is free; else the piece is dropped, and nothing changes.
+    fn offer(&mut self, alloc: Global, stream: u32, piece: Piece) -> Took
+        requires size { FitsMessage piece }
+        ensures offers { Offers (is_alone self.old) result stream (said_by piece)
+            (progress self.old) (progress self.new) }
+        ensures alone { is_alone self.new ≡ is_alone self.old }
+        ensures counts { counts self.new ≡ noted result (stream, piece) (counts self.old) }
+        ensures later { (counts self.old).offers ≤ (counts self.new).offers };
+}
 
 /// What a wire counts as a port.
 #[derive(Drop)]
@@ -38,10 +73,15 @@ impl Port {
         }
     }
 
-    fn count_free(&mut self)
-        ensures { self.new ≡ record self.old { frees = once_more self.old.frees } }
+    /// This was answered to how a stream stands.
+    pub(crate) fn note_answer(&mut self, ready: Ready)
+        ensures { self.new ≡ asked ready self.old }
     {
-        self.frees = self.frees.saturating_add(1);
+        match ready {
+            Ready::Free => self.frees = self.frees.saturating_add(1),
+            Ready::Busy => {}
+            Ready::Gone => {}
+        }
     }
 
     /// A piece was offered on a stream, and this became of it.
@@ -57,26 +97,18 @@ impl Port {
 }
 
 impl<S: Sink> WirePort for Wire<S> {
-    ghost use Rattle.std.specs.Prelude.{⊤};
-    ghost use Rattle.h2_send.specs.Wires.{readiness as readiness_of};
+    ghost use Rattle.std.specs.Prelude.{true};
+    ghost use Rattle.h2_send.specs.Wires.{progress_of};
 
-    ghost taken = { λ w. w.port.taken };
+    ghost progress = { λ w. progress_of S.seen w };
 
-    ghost readiness = { λ w stream. readiness_of w.condition stream w.line };
+    ghost is_alone = { λ w. true };
 
-    ghost IsAlone = { λ w. ⊤ };
-
-    ghost write_faults = { λ w. (S.seen w.sink).faults };
-
-    ghost frees = { λ w. w.port.frees };
-
-    ghost offers = { λ w. w.port.offers };
+    ghost counts = { λ w. w.port };
 
     fn ready(&mut self, stream: u32) -> Ready {
         let ready = self.readiness(stream);
-        if ready == Ready::Free {
-            self.port.count_free();
-        }
+        self.note_answer(ready);
         ready
     }
 

@@ -1,14 +1,18 @@
 //! The wire of a connection: what is written for each event.
-ghost use Rattle.std.specs.Prelude.{◌≡◌, ◌≢◌, ◌≤◌, true, false, [], ◌∷◌, Err};
+ghost use Rattle.std.specs.Prelude.{◌≡◌, ◌≢◌, ◌≤◌, ◌*◌, length, true, false, [], ◌∷◌, Err};
+ghost use Rattle.h2_windows.specs.Bounds.{largest_pending};
+ghost use Rattle.h2_windows.specs.Holding.{counted, waiting};
 ghost use Rattle.h2_windows.specs.Written.{Writes};
 ghost use Rattle.h2_send.specs.Lines.{first_line, overflows, is_new_stream};
 ghost use Rattle.h2_events.specs.Items.{said_by};
 ghost use Rattle.h2_events.specs.Ports.{FitsMessage};
 ghost use Rattle.h2_events.specs.declared.said.Said.TheVariants as Said;
 ghost use Rattle.h2_send.specs.Inputs.{Event, Speech};
-ghost use Rattle.h2_send.specs.Port.{noted, unused_port};
+ghost use Rattle.h2_send.specs.Port.{asked, noted, unused_port};
 ghost use Rattle.h2_send.specs.Acting.{acted, handled, replies};
-ghost use Rattle.h2_send.specs.Wires.{Does, Responds, Says, answer_of, greeted, finished, farewell, readiness};
+ghost use Rattle.h2_send.specs.Conditions.{answer_of, readiness};
+ghost use Rattle.h2_send.specs.Offers.{IsStatus, has_begun, taken_on};
+ghost use Rattle.h2_send.specs.Wires.{Does, IsFolded, Responds, Says, greeted, finished, farewell};
 
 use crate::condition::{Condition, answer_of, answered, condition_after, took_of};
 use crate::connection::Connection;
@@ -16,7 +20,7 @@ use crate::fault::WireFaultOut;
 use crate::given::Given;
 use crate::port::Port;
 use base_lists::Remembered;
-use edge_traits::{Failed, Sink};
+use edge_traits::{Failed, Sink, write_whole};
 use h2_events::{Piece, Ready, RecvEvent, Took};
 use h2_windows::{
     put_goaway, put_grants, put_greeting, put_ping_ack, put_rst_stream, put_settings_ack,
@@ -86,7 +90,18 @@ fn respond<S: Sink>(
     Ok(())
 }
 
-/// Writes what a piece wants on a stream that is free, and sends what the windows then let through.
+/// The octets of a message that goes out in one piece with its HEADERS.
+const SMALL: usize = 4_096;
+
+fn is_small(piece: &Piece) -> bool {
+    match piece {
+        Piece::Message(octets) => octets.len() <= SMALL,
+        Piece::Finish(_) => false,
+    }
+}
+
+/// Writes what a piece wants on a stream that is free, and sends what the windows then let through. Of a small message all
+/// goes in one piece.
 fn say_piece<S: Sink>(
     alloc: Global,
     stream: u32,
@@ -100,6 +115,11 @@ fn say_piece<S: Sink>(
 {
     let octets = connection.headers_for(alloc, stream, piece)?;
     connection.speak(alloc, stream, piece)?;
+    if is_small(piece) {
+        let all = connection.gather(octets)?;
+        write_whole(sink, all.items())?;
+        return Ok(());
+    }
     connection.put_and_flush(octets.items(), sink)?;
     Ok(())
 }
@@ -130,13 +150,13 @@ fn put_farewell<S: Sink>(sink: &mut S, connection: &Connection, code: u32) -> Re
 }
 
 impl<S: Sink> Wire<S> {
-    /// A wire on which nothing was written. Takes no memory.
+    /// A wire on which nothing is written until it is greeted. Takes no memory.
     pub fn make(alloc: Global, sink: S) -> Wire<S>
         ensures { result ≡ record {
           sink = sink;
           line = first_line;
           inputs = [];
-          condition = Condition.Open;
+          condition = Condition.New;
           port = unused_port;
         } }
     {
@@ -144,19 +164,20 @@ impl<S: Sink> Wire<S> {
             sink,
             connection: Connection::new(alloc),
             given: Remembered::nothing(),
-            condition: Condition::Open,
+            condition: Condition::New,
             port: Port::unused(),
         }
     }
 
-    /// Writes the SETTINGS frame that a server begins with. Takes no memory.
+    /// Writes the SETTINGS frame that a server begins with, and opens the wire: before it nothing else is written. Once the
+    /// wire was greeted nothing is written. Takes no memory.
     pub fn greet(&mut self) -> Result<(), WireFaultOut>
-        ensures greets { self.old.condition ≡ Condition.Open
+        ensures greets { self.old.condition ≡ Condition.New
             → Does S.seen false Condition.Open [] (greeted self.old.line) result self.old self.new }
-        ensures closed { self.old.condition ≢ Condition.Open
+        ensures once { self.old.condition ≢ Condition.New
             → (result ≡ answer_of self.old.condition) × (self.new ≡ self.old) }
     {
-        if self.condition != Condition::Open {
+        if self.condition != Condition::New {
             return answer_of(self.condition);
         }
         let done = answered(put_greeting(&mut self.sink));
@@ -167,8 +188,8 @@ impl<S: Sink> Wire<S> {
     /// Answers an event, and sends what the windows then let through: SETTINGS and PING with ACK, DATA with WINDOW_UPDATE
     /// of its length with padding, a stream error with RST_STREAM; then DATA, lowest stream first (RFC 9113 section 6).
     ///
-    /// `Overflow` comes exactly where the event would take a window above 2,147,483,647. On a wire that is closed it
-    /// answers the fault that closed it, and Ok where none did.
+    /// `Overflow` comes exactly where the event would take a window above 2,147,483,647. On a wire that isn't open it answers
+    /// the fault that closed it, and Ok where none did.
     pub fn act(&mut self, alloc: Global, event: &RecvEvent) -> Result<(), WireFaultOut>
         ensures acts { self.old.condition ≡ Condition.Open → overflows event.now self.old.line ≡ false
             → Does S.seen (is_new_stream event.now) Condition.Open (Event event.now ∷ [])
@@ -193,13 +214,31 @@ impl<S: Sink> Wire<S> {
 
     /// Whether something can be said on the stream now.
     pub fn readiness(&self, stream: u32) -> Ready
-        ensures { result ≡ readiness self.now.condition stream self.now.line }
+        ensures is { result ≡ readiness self.now.condition stream self.now.line }
+        ensures line { IsFolded self.now.condition self.now.line self.now.inputs }
     {
         if self.condition == Condition::Open {
             self.connection.ready(stream)
         } else {
             Ready::Gone
         }
+    }
+
+    /// How many octets were taken to be sent on the stream since it was opened, those before each message with them. It is 0
+    /// where the stream isn't open or this side has ended it, and stands still at the end of a u64.
+    pub fn taken(&self, stream: u32) -> u64
+        ensures { result ≡ taken_on stream self.now.line.streams }
+    {
+        self.connection.taken(stream)
+    }
+
+    /// How many octets wait: at most 123,600,005 on each stream that is open and that this side hasn't ended. That is 4 GB
+    /// for the 32 streams that a receiver lets a peer open.
+    pub fn held(&self) -> usize
+        ensures is { result ≡ counted (waiting self.now.line.streams) }
+        ensures bound { result ≤ largest_pending * length self.now.line.streams }
+    {
+        self.connection.held()
     }
 
     /// Says a piece on a stream that is free: its HEADERS where they aren't sent, and then of a message what the windows
@@ -213,6 +252,7 @@ impl<S: Sink> Wire<S> {
             → (result ≡ Took.Busy) × (self.new ≡ self.old) }
         ensures gone { readiness self.old.condition stream self.old.line ≡ Ready.Gone
             → (result ≡ Took.Gone) × (self.new ≡ self.old) }
+        ensures found { IsFolded self.old.condition self.old.line self.old.inputs }
     {
         match self.readiness(stream) {
             Ready::Free => {}
@@ -227,10 +267,16 @@ impl<S: Sink> Wire<S> {
     }
 
     /// Answers a call with a status of HTTP in place of an answer of gRPC: one HEADERS frame with the status alone, which
-    /// ends the stream. It is taken as a piece is.
+    /// ends the stream. It is taken as a piece is, but for a stream on which a message was said: no status goes out there
+    /// any more, so that it is Gone for it.
     pub fn http(&mut self, alloc: Global, stream: u32, status: u16) -> Took
+        requires status { IsStatus status }
         ensures says { readiness self.old.condition stream self.old.line ≡ Ready.Free
+            → has_begun stream self.old.line.streams ≡ false
             → Says S.seen (Speech stream (Said.Status status)) result self.old self.new }
+        ensures begun { readiness self.old.condition stream self.old.line ≡ Ready.Free
+            → has_begun stream self.old.line.streams ≡ true
+            → (result ≡ Took.Gone) × (self.new ≡ self.old) }
         ensures busy { readiness self.old.condition stream self.old.line ≡ Ready.Busy
             → (result ≡ Took.Busy) × (self.new ≡ self.old) }
         ensures gone { readiness self.old.condition stream self.old.line ≡ Ready.Gone
@@ -241,14 +287,17 @@ impl<S: Sink> Wire<S> {
             Ready::Busy => return Took::Busy,
             Ready::Gone => return Took::Gone,
         }
+        if self.connection.has_begun(stream) {
+            return Took::Gone;
+        }
         let done = say_status(alloc, stream, status, &mut self.connection, &mut self.sink);
         self.given.remember(&Given::Status(stream, status));
         self.condition = condition_after(Condition::Open, &done);
         took_of(&done)
     }
 
-    /// Ends the connection, with GOAWAY where the code isn't 0: the highest stream that was opened, and the code. Takes no
-    /// memory.
+    /// Ends the connection, with GOAWAY where the code isn't 0: the highest stream that was opened, and the code. On a wire
+    /// that isn't open nothing is written. Takes no memory.
     pub fn finish(&mut self, code: u32) -> Result<(), WireFaultOut>
         ensures finishes { self.old.condition ≡ Condition.Open
             → Does S.seen false Condition.Finished [] (finished code self.old.line) result
@@ -262,6 +311,13 @@ impl<S: Sink> Wire<S> {
         let done = answered(put_farewell(&mut self.sink, &self.connection, code));
         self.condition = condition_after(Condition::Finished, &done);
         done
+    }
+
+    /// The port was asked how a stream stands, and this was answered.
+    pub(crate) fn note_answer(&mut self, ready: Ready)
+        ensures { self.new ≡ record self.old { port = asked ready self.old.port } }
+    {
+        self.port.note_answer(ready);
     }
 
     /// A piece was offered through the port, and this became of it.

@@ -2,11 +2,11 @@
 ghost use Rattle.h2_events.specs.Ports.{FitsMessage};
 
 use crate::halves::{Came, feed};
-use base_lists::{Bytes, Texts};
+use base_lists::{Bytes, Text, Texts};
 use edge_traits::MemSink;
-use h2_events::{Piece, Ready, Took, WirePort};
+use h2_events::{Piece, Ready, RecvEvent, Took};
 use h2_recv::Recv;
-use h2_send::Wire;
+use h2_send::{Wire, WirePort};
 use std::alloc::Global;
 use std::process::Abort;
 use std::test::Fail;
@@ -33,13 +33,23 @@ const PING: &[u8] = &[0, 0, 8, 6, 0, 0, 0, 0, 0, 1, 2, 3, 4, 5, 6, 7, 8];
 
 const ACK: &[u8] = &[0, 0, 0, 4, 1, 0, 0, 0, 0];
 
-// What was written behind so many octets.
-fn behind(sink: &MemSink, count: usize) -> &[u8] {
-    sink.octets().get(count..).unwrap_or(&[])
+// SETTINGS with MAX_CONCURRENT_STREAMS 32 and MAX_HEADER_LIST_SIZE 16,384.
+const GREETING: &[u8] = b"\0\0\x0c\x04\0\0\0\0\0\0\x03\0\0\0\x20\0\x06\0\0\x40\0";
+
+// What was written behind the greeting, and behind so many octets more.
+fn written(sink: &MemSink) -> &[u8] {
+    sink.octets().strip_prefix(GREETING).unwrap_or(&[])
 }
 
+fn behind(sink: &MemSink, count: usize) -> &[u8] {
+    written(sink).get(count..).unwrap_or(&[])
+}
+
+// A wire that was greeted.
 fn new_wire(alloc: Global) -> Wire<MemSink> {
-    Wire::make(alloc, MemSink::make(alloc, Texts::empty(alloc)))
+    let mut wire = Wire::make(alloc, MemSink::make(alloc, Texts::empty(alloc)));
+    let _greeting = wire.greet();
+    wire
 }
 
 // What was written behind these octets of a client, and a status on stream 1.
@@ -57,7 +67,7 @@ fn answered(alloc: Global, settings: &[u8]) -> (Took, MemSink) {
 fn another_type_of_content_is_answered_with_415(rt: HostRuntime) -> Result<(), Fail> {
     let (took, sink) = answered(rt.alloc(), SETTINGS);
     assert_eq!(rt; took, Took::Taken);
-    assert!(rt; sink.octets().starts_with(ACK));
+    assert!(rt; written(&sink).starts_with(ACK));
     let expected: &[u8] = &[0, 0, 5, 1, 5, 0, 0, 0, 1, 8, 3, 0x34, 0x31, 0x35];
     assert_eq!(rt; behind(&sink, 9), expected);
     Ok(())
@@ -69,7 +79,7 @@ fn the_first_answer_behind_a_change_of_the_table_begins_with_a_size_update(
 ) -> Result<(), Fail> {
     let (took, sink) = answered(rt.alloc(), NO_TABLE);
     assert_eq!(rt; took, Took::Taken);
-    assert!(rt; sink.octets().starts_with(ACK));
+    assert!(rt; written(&sink).starts_with(ACK));
     let expected: &[u8] = &[0, 0, 6, 1, 5, 0, 0, 0, 1, 0x20, 8, 3, 0x34, 0x31, 0x35];
     assert_eq!(rt; behind(&sink, 9), expected);
     Ok(())
@@ -101,10 +111,10 @@ const TABLE: &[(&[u8], Came, &[u8])] = &[
 
 #[test]
 fn faults_of_the_peer_end_the_connection_with_goaway(rt: HostRuntime) -> Result<(), Fail> {
-    for (octets, expected, written) in TABLE.iter().copied() {
+    for (octets, expected, expected_octets) in TABLE.iter().copied() {
         let (all, sink) = behind_the_preface(rt.alloc(), octets);
         assert_eq!(rt; all, expected);
-        assert_eq!(rt; sink.octets(), written);
+        assert_eq!(rt; written(&sink), expected_octets);
     }
     Ok(())
 }
@@ -148,10 +158,10 @@ const BEHIND_SETTINGS: &[(&[u8], Came, &[u8])] = &[
 
 #[test]
 fn pings_are_answered_and_other_streams_and_windows_refused(rt: HostRuntime) -> Result<(), Fail> {
-    for (octets, expected, written) in BEHIND_SETTINGS.iter().copied() {
+    for (octets, expected, expected_octets) in BEHIND_SETTINGS.iter().copied() {
         let (all, sink) = behind_settings(rt.alloc(), octets);
         assert_eq!(rt; all, expected);
-        assert_eq!(rt; behind(&sink, 9), written);
+        assert_eq!(rt; behind(&sink, 9), expected_octets);
     }
     Ok(())
 }
@@ -234,10 +244,10 @@ fn replied(rt: &impl Abort, alloc: Global, steps: &[(Step, usize)]) -> (bool, Me
 
 #[test]
 fn a_reply_is_sent_as_far_as_the_windows_let_it_through(rt: HostRuntime) -> Result<(), Fail> {
-    for (place, (_, written)) in REPLY.iter().copied().enumerate() {
+    for (place, (_, count)) in REPLY.iter().copied().enumerate() {
         let (all, sink) = replied(&rt, rt.alloc(), REPLY.get(..=place).unwrap_or(&[]));
         assert!(rt; all, "step {place}");
-        assert_eq!(rt; sink.octets().len(), written, "step {place}");
+        assert_eq!(rt; behind(&sink, 0).len(), count, "step {place}");
     }
     Ok(())
 }
@@ -259,6 +269,131 @@ fn a_reply_is_headers_data_and_trailers(rt: HostRuntime) -> Result<(), Fail> {
     let (_all, sink) = replied(&rt, rt.alloc(), REPLY);
     for (place, head) in HEADS.iter().copied() {
         assert!(rt; behind(&sink, place).starts_with(head), "at {place}");
+    }
+    Ok(())
+}
+
+// ---- the greeting
+
+// What is written by these calls on a new wire: greet, act, greet, finish.
+fn begun(alloc: Global, greets_first: bool) -> MemSink {
+    let mut wire = Wire::make(alloc, MemSink::make(alloc, Texts::empty(alloc)));
+    if greets_first {
+        let _greeting = wire.greet();
+    }
+    let _ping = wire.act(alloc, &RecvEvent::Ping(1));
+    let _again = wire.greet();
+    let _end = wire.finish(0);
+    wire.give()
+}
+
+#[test]
+fn a_wire_is_greeted_once_and_writes_nothing_before(rt: HostRuntime) -> Result<(), Fail> {
+    let greeted = begun(rt.alloc(), true);
+    assert_eq!(rt; greeted.octets().len(), 38);
+    assert_eq!(rt; behind(&greeted, 0).get(3), Some(&6));
+    assert_eq!(rt; begun(rt.alloc(), false).octets(), GREETING);
+    Ok(())
+}
+
+// ---- a status behind a message
+
+// A wire on which the client has opened stream 1.
+fn called(rt: &impl Abort, alloc: Global) -> Wire<MemSink> {
+    let mut recv = Recv::make(alloc);
+    let mut wire = new_wire(alloc);
+    for octets in [PREFACE, SETTINGS, CALL] {
+        if feed(alloc, &mut recv, &mut wire, octets) != Came::Read {
+            rt.abort();
+        }
+    }
+    wire
+}
+
+#[test]
+fn a_status_is_said_before_all_else_or_not_at_all(rt: HostRuntime) -> Result<(), Fail> {
+    let alloc = rt.alloc();
+    let mut wire = called(&rt, alloc);
+    let small = Piece::Message(Bytes::empty(alloc));
+    assert_eq!(rt; wire.offer(alloc, 1, small), Took::Taken);
+    assert_eq!(rt; wire.http(alloc, 1, 415), Took::Gone);
+    assert_eq!(rt; wire.ready(1), Ready::Free);
+    assert_eq!(rt; wire.offer(alloc, 1, Piece::Finish(None)), Took::Taken);
+    assert_eq!(rt; wire.http(alloc, 1, 415), Took::Gone);
+    assert_eq!(rt; behind(&wire.give(), 9).len(), 67);
+    Ok(())
+}
+
+// ---- what is taken and what waits
+
+#[test]
+fn octets_are_taken_and_wait_until_they_go(rt: HostRuntime) -> Result<(), Fail> {
+    let alloc = rt.alloc();
+    let mut wire = called(&rt, alloc);
+    let _none = wire.act(alloc, &RecvEvent::Settings(0, false));
+    assert_eq!(rt; (wire.taken(1), wire.held()), (0, 0));
+    assert_eq!(rt; wire.offer(alloc, 1, message(&rt, alloc)), Took::Taken);
+    assert_eq!(rt; (wire.taken(1), wire.held()), (40_005, 40_005));
+    let _some = wire.act(alloc, &RecvEvent::Window(1, 10_000));
+    assert_eq!(rt; (wire.taken(1), wire.held()), (40_005, 30_005));
+    let _rest = wire.act(alloc, &RecvEvent::Window(1, 100_000));
+    assert_eq!(rt; (wire.taken(1), wire.held()), (40_005, 0));
+    assert_eq!(rt; wire.offer(alloc, 1, message(&rt, alloc)), Took::Taken);
+    assert_eq!(rt; (wire.taken(1), wire.held()), (80_010, 14_475));
+    assert_eq!(rt; wire.taken(3), 0);
+    let _reset = wire.act(alloc, &RecvEvent::Reset(1));
+    assert_eq!(rt; (wire.taken(1), wire.held()), (0, 0));
+    Ok(())
+}
+
+// ---- a port of any kind
+
+// Says that a call is accepted, where its stream is free.
+fn accepts<W: WirePort>(alloc: Global, port: &mut W, stream: u32) -> Took {
+    match port.ready(stream) {
+        Ready::Free => port.offer(alloc, stream, Piece::Finish(None)),
+        Ready::Busy => Took::Busy,
+        Ready::Gone => Took::Gone,
+    }
+}
+
+#[test]
+fn a_wire_is_a_port(rt: HostRuntime) -> Result<(), Fail> {
+    let alloc = rt.alloc();
+    let mut wire = called(&rt, alloc);
+    assert_eq!(rt; accepts(alloc, &mut wire, 3), Took::Gone);
+    assert_eq!(rt; accepts(alloc, &mut wire, 1), Took::Taken);
+    assert_eq!(rt; accepts(alloc, &mut wire, 1), Took::Gone);
+    Ok(())
+}
+
+// ---- a sink that fails
+
+// What becomes of a call, a reply and its end where the write with this number fails, and how many octets are written.
+fn failing(rt: &impl Abort, alloc: Global, number: &[u8]) -> (Took, Took, usize) {
+    let mut fails = Texts::empty(alloc);
+    let number = Text::of(alloc, number).expect(rt, "memory");
+    fails.push(number).expect(rt, "memory");
+    let mut wire = Wire::make(alloc, MemSink::make(alloc, fails));
+    let _greeting = wire.greet();
+    let _call = wire.act(alloc, &RecvEvent::TooLong(1));
+    let first = wire.offer(alloc, 1, message(rt, alloc));
+    let second = wire.offer(alloc, 1, Piece::Finish(None));
+    (first, second, wire.give().octets().len())
+}
+
+const FAILING: &[(&[u8], (Took, Took, usize))] = &[
+    (b"1", (Took::Gone, Took::Gone, 0)),
+    (b"3", (Took::WriteFault, Took::Gone, 21)),
+    (b"4", (Took::WriteFault, Took::Gone, 50)),
+    (b"9", (Took::WriteFault, Took::Gone, 32_845)),
+    (b"11", (Took::Taken, Took::Taken, 40_106)),
+];
+
+#[test]
+fn a_failed_write_closes_the_wire(rt: HostRuntime) -> Result<(), Fail> {
+    for (number, expected) in FAILING.iter().copied() {
+        assert_eq!(rt; failing(&rt, rt.alloc(), number), expected, "write {number:?}");
     }
     Ok(())
 }

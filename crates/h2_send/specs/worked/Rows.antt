@@ -9,7 +9,8 @@ use Rattle.h2_windows.specs.declared.stream.Stream.{Stream}
 use Rattle.h2_events.specs.declared.event.RecvEvent.TheVariants as e
 
 abbrev stream : ℕ → ℤ → List ℕ → Stream
-stream id credit pending = record { id = id; begun = true; credit = credit; pending = pending }
+stream id credit pending =
+    record { id = id; begun = true; credit = credit; taken = 0; pending = pending }
 
 abbrev line : ℤ → ℕ → List Stream → Line
 line window initial streams = record { window = window; initial = initial; owes_update = false; highest = 1; streams = streams }

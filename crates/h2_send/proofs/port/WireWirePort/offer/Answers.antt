@@ -1,10 +1,11 @@
-use Rattle.std.proofs.Common.{ap, ◌∙◌}
-use Rattle.h2_send.specs.Wires.{WireView, readiness}
-use Rattle.h2_send.proofs.Offered.{offered}
+use Rattle.std.proofs.Common.{subst, sym, ap, true}
+use Rattle.h2_events.specs.Items.{said_by}
+use Rattle.h2_send.specs.Port.{Offers}
+use Rattle.h2_send.specs.Wires.{progress_of}
+use Rattle.h2_send.proofs.Offered.{offers}
 use Rattle.h2_send.proofs.port.WireWirePort.offer.Goals as goal
 
-pub returns-clause-ended : goal.returns-clause-ended
-returns-clause-ended g c taken last = ap (λ (w : WireView _). readiness w.condition c.args.stream w.line) c.note.ensures.is ∙ (offered g.S.Sink.seen c.args.stream c.args.piece c.args.self.now c.say-took.new.self c.say-took.result c.say-took.ensures.says c.say-took.ensures.busy c.say-took.ensures.gone).ended taken last
-
-pub returns-clause-stays_gone : goal.returns-clause-stays_gone
-returns-clause-stays_gone g c other gone = ap (λ (w : WireView _). readiness w.condition other w.line) c.note.ensures.is ∙ (offered g.S.Sink.seen c.args.stream c.args.piece c.args.self.now c.say-took.new.self c.say-took.result c.say-took.ensures.says c.say-took.ensures.busy c.say-took.ensures.gone).stays other gone
+pub returns-clause-offers : goal.returns-clause-offers
+returns-clause-offers g c =
+    let seen = g.S.Sink.seen in
+    subst (λ p. Offers true c.say-took.result c.args.stream (said_by c.args.piece) (progress_of seen c.args.self.now) p) (sym (ap (λ w. progress_of seen w) c.note.ensures.is)) (offers seen c.args.stream c.say-took.result (said_by c.args.piece) c.args.self.now c.say-took.new.self c.say-took.ensures.found c.say-took.ensures.says c.say-took.ensures.busy c.say-took.ensures.gone)

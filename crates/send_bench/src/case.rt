@@ -1,0 +1,115 @@
+ghost use Rattle.std.specs.Prelude.{◌≡◌, ◌^◌, IfOk, length};
+ghost use Rattle.h2_events.specs.Ports.{FitsMessage};
+
+use crate::counter::Counter;
+use base_lists::{Bytes, NoMemory};
+use h2_events::{Piece, RecvEvent, Took};
+use h2_send::{Wire, WireFaultOut};
+use std::alloc::Global;
+
+/// Which replies are sent.
+#[derive(Clone, Copy, Debug)]
+pub enum Case {
+    /// Replies of 4 MiB.
+    Large,
+    /// Replies of 100 octets.
+    Small,
+}
+
+pub const CASES: [Case; 2] = [Case::Large, Case::Small];
+
+const LARGEST_WINDOW: u32 = 2_147_483_647;
+
+const FIRST_WINDOW: u32 = 65_535;
+
+#[derive(Clone, Copy, Debug)]
+pub enum Fault {
+    NotTaken,
+    NoMemory,
+}
+
+impl From<NoMemory> for Fault {
+    fn from(_e: NoMemory) -> Fault {
+        Fault::NoMemory
+    }
+}
+
+impl From<WireFaultOut> for Fault {
+    fn from(_e: WireFaultOut) -> Fault {
+        Fault::NotTaken
+    }
+}
+
+impl Case {
+    pub fn named(name: &str) -> Option<Case> {
+        CASES.iter().copied().find(|case| case.name() == name)
+    }
+
+    pub fn name(self) -> &'static str {
+        match self {
+            Case::Large => "large",
+            Case::Small => "small",
+        }
+    }
+
+    /// How many octets one of its replies has.
+    fn octets(self) -> usize {
+        match self {
+            Case::Large => 4_194_304,
+            Case::Small => 100,
+        }
+    }
+
+    /// Sends so many replies, each on a stream of its own, through windows that are wide enough.
+    pub fn run(self, alloc: Global, replies: u32) -> Result<Counter, Fault> {
+        let mut wire = Wire::make(alloc, Counter::new());
+        wire.greet()?;
+        wire.act(alloc, &RecvEvent::Settings(LARGEST_WINDOW, false))?;
+        for number in 0..replies {
+            let stream = number.saturating_mul(2).saturating_add(1);
+            reply(alloc, stream, self.octets(), &mut wire)?;
+        }
+        Ok(wire.give())
+    }
+}
+
+fn message(alloc: Global, octets: usize) -> Result<Piece, Fault>
+    ensures { IfOk result (λ piece. FitsMessage piece) }
+{
+    let Ok(octets) = vec![in alloc; 7u8; octets] else {
+        return Err(Fault::NoMemory);
+    };
+    if octets.len() <= 4_194_304 {
+        Ok(Piece::Message(Bytes::from_vec(octets)))
+    } else {
+        Err(Fault::NoMemory)
+    }
+}
+
+// A client's call is answered with one message, and granted what was sent.
+fn reply(
+    alloc: Global,
+    stream: u32,
+    octets: usize,
+    wire: &mut Wire<Counter>,
+) -> Result<(), Fault> {
+    wire.act(alloc, &RecvEvent::TooLong(stream))?;
+    if stream == 1 {
+        wire.act(
+            alloc,
+            &RecvEvent::Window(0, LARGEST_WINDOW - FIRST_WINDOW),
+        )?;
+    }
+    let message = message(alloc, octets)?;
+    if wire.say(alloc, stream, &message) != Took::Taken {
+        return Err(Fault::NotTaken);
+    }
+    if wire.say(alloc, stream, &Piece::Finish(None)) != Took::Taken {
+        return Err(Fault::NotTaken);
+    }
+    wire.act(
+        alloc,
+        &RecvEvent::Window(0, (octets as u32).saturating_add(5)),
+    )?;
+    Ok(())
+}
