@@ -1,5 +1,5 @@
 -- How a port sees a wire, and what an offer comes to.
-use Rattle.std.proofs.Common.{◌≡◌, ◌≢◌, ℕ, ◌<◌, ◌≤◌, true, List, [], ◌∷◌, ◌++◌, Ok, Err, IsTrue, refl, sym, ap, ◌∙◌, subst, arith, append-nil}
+use Rattle.std.proofs.Common.{◌≡◌, ℕ, ◌<◌, ◌≤◌, true, List, [], ◌∷◌, ◌++◌, IsTrue, refl, sym, ap, ◌∙◌, subst, arith, append-nil}
 use Rattle.std.proofs.lemmas.Bool.{false≢true}
 use Rattle.edge_traits.specs.Output.{Output, Wrote, FailedWithin}
 use Rattle.h2_windows.specs.Written.{octets_of}
@@ -22,7 +22,7 @@ use Rattle.h2_send.specs.Wires.{WireView, Says, IsFolded, progress_of}
 use Rattle.h2_send.specs.declared.condition.Condition.{Condition}
 use Rattle.h2_send.specs.declared.condition.Condition.TheVariants as condition
 use Rattle.h2_send.proofs.Closing.{free_open, open_line, line_after_one}
-use Rattle.h2_send.proofs.Readiness.{stays_gone, ended_gone}
+use Rattle.h2_send.proofs.Readiness.{ended_gone}
 
 same_many : (n : ℕ) → n ≤ n
 same_many n = omega arith

@@ -19,7 +19,7 @@ use Rattle.h2_events.specs.Items as item
 use Rattle.h2_events.proofs.Orders.{heard-append, written-append}
 use Rattle.h2_events.specs.declared.said.Said.TheVariants.{Message, Finish, Status}
 use Rattle.base_kinds.specs.declared.refusal.Refusal.{Refusal}
-use Rattle.h2_replies.specs.Headers.{opening, ending, status_answer}
+use Rattle.h2_replies.specs.Headers.{opening, ending}
 use Rattle.h2_send.specs.Inputs.{Input, Event, Speech, item_of, events_of}
 use Rattle.h2_send.specs.Lines.{Line, first_line}
 use Rattle.h2_send.specs.Offers.{has_begun}

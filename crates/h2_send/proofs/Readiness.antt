@@ -1,12 +1,11 @@
 -- On which streams something can be said.
-use Rattle.std.proofs.Common.{◌≡◌, ℕ, zero, suc, Bool, true, false, cond, not, List, [], ◌∷◌, ◌++◌, ℤ, pos, ◌-ℤ◌, refl, sym, ap, ◌∙◌}
+use Rattle.std.proofs.Common.{◌≡◌, ℕ, Bool, true, false, cond, not, List, [], ◌∷◌, ℤ, pos, ◌-ℤ◌, refl, ap, ◌∙◌}
 use Rattle.std.specs.Prelude.{◌&&◌, ◌||◌, if◌then◌else◌}
-use Rattle.std.specs.List.{list_any, filter}
+use Rattle.std.specs.List.{list_any}
 use Rattle.h2_windows.specs.Shares.{share}
 use Rattle.h2_windows.specs.Sending.{sent}
 use Rattle.h2_windows.specs.Streams.{is_stream, without}
 use Rattle.h2_windows.specs.declared.stream.Stream.{Stream}
-use Rattle.h2_events.specs.declared.port.Ready.{Ready}
 use Rattle.h2_events.specs.declared.port.Ready.TheVariants.{Free, Busy, Gone}
 use Rattle.h2_events.specs.declared.said.Said.{Said}
 use Rattle.h2_events.specs.declared.said.Said.TheVariants.{Message, Finish, Status}

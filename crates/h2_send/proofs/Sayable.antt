@@ -1,17 +1,16 @@
 -- Where something can be said, by the order.
-use Rattle.std.proofs.Common.{◌≡◌, ℕ, zero, suc, ◌==◌, Bool, true, false, cond, not, List, [], ◌∷◌, ◌++◌, map, refl, sym, ap, ◌∙◌}
+use Rattle.std.proofs.Common.{◌≡◌, ℕ, zero, suc, ◌==◌, Bool, true, false, cond, not, List, [], ◌∷◌, map, refl, sym, ap, ◌∙◌}
 use Rattle.std.specs.Prelude.{nat_eq, ◌&&◌, ◌||◌, if◌then◌else◌}
-use Rattle.std.specs.List.{list_any, filter, insert}
+use Rattle.std.specs.List.{insert}
 use Rattle.std.proofs.lemmas.Bool.{eqb-true}
 use Rattle.h2_frame.specs.Frames.{Frame}
-use Rattle.h2_windows.specs.Streams.{is_stream, fresh, opened, without, granted, granted_to}
+use Rattle.h2_windows.specs.Streams.{is_stream, fresh, opened, without, granted}
 use Rattle.h2_windows.specs.declared.stream.Stream.{Stream}
 use Rattle.h2_events.specs.Events.{opens, resets}
 use Rattle.h2_events.specs.Items.{can_say_after, can_say_from, can_say, is_last}
 use Rattle.h2_events.specs.Items as item
 use Rattle.h2_events.specs.declared.event.RecvEvent.{RecvEvent}
 use Rattle.h2_events.specs.declared.event.RecvEvent.TheVariants as event
-use Rattle.h2_events.specs.declared.said.Said.{Said}
 use Rattle.h2_events.specs.declared.said.Said.TheVariants.{Message, Finish, Status}
 use Rattle.h2_events.proofs.Streams.{can_say-append}
 use Rattle.grpc_core.specs.Messages.{framed}

@@ -1,5 +1,5 @@
 -- A wire as its callers see it, and what its calls do.
-use Rattle.std.specs.Prelude.{◌≡◌, ℕ, suc, zero, Bool, true, not, nat_eq, ◌&&◌, List, [], ◌∷◌, ◌++◌, map, Result, Ok, Err, refl}
+use Rattle.std.specs.Prelude.{◌≡◌, ℕ, suc, zero, Bool, true, not, nat_eq, ◌&&◌, List, [], ◌∷◌, ◌++◌, Result, Ok, Err, refl}
 use Rattle.std.specs.Coded.{Coded, code_by, coded×}
 use Rattle.edge_traits.specs.Output.{Output, Wrote, FailedWithin}
 use Rattle.h2_frame.specs.Frames.{Frame}

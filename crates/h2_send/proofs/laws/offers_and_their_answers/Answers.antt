@@ -1,5 +1,5 @@
-use Rattle.std.proofs.Common.{refl, subst, sym, ap, ◌∙◌, arith}
-use Rattle.h2_send.specs.Port.{Offers, GoesOn, ready_in}
+use Rattle.std.proofs.Common.{refl, sym, ap, ◌∙◌, arith}
+use Rattle.h2_send.specs.Port.{ready_in}
 use Rattle.h2_send.specs.declared.condition.Condition.TheVariants as condition
 use Rattle.h2_send.proofs.Offered.{gone_then, busy_then, fault_then, starved_then, ended_then, taken_free, all_gone}
 use Rattle.h2_send.proofs.laws.offers_and_their_answers.Goals as goal
