@@ -1,0 +1,4 @@
+pub mod Singles
+pub mod Encodings
+pub mod Models
+pub mod Profile
