@@ -1,31 +1,17 @@
 -- What a SetRequest asks for (gNMI 3.4.1 and the commit-confirmed extension).
-use Rattle.std.specs.Prelude.{ℕ, List, [], ◌∷◌, map, Bool, true, false, not, ◌||◌, codes, Option, Some, None}
+use Rattle.std.specs.Prelude.{ℕ, List, [], ◌∷◌, map, Bool, ◌||◌, Option, Some, None}
 use Rattle.std.specs.Option.{option_map}
 use Rattle.std.specs.List.{filter_map, list_any}
-use Rattle.std.specs.Str.{bytes_eq}
-use Rattle.base_kinds.specs.declared.path.Elem.{Elem}
 use Rattle.base_kinds.specs.declared.request.Action.{Action}
 use Rattle.base_kinds.specs.declared.request.Action.TheVariants as actions
 use Rattle.base_kinds.specs.declared.request.Change.{Change}
 use Rattle.base_kinds.specs.declared.request.SetAsk.{SetAsk}
-use Rattle.gnmi_kinds.specs.declared.path.GnmiPath.{GnmiPath}
 use Rattle.gnmi_ext_msg.specs.declared.extension.Extension.{Extension}
 use Rattle.gnmi_ext_msg.specs.declared.extension.Extension.TheVariants as extensions
+use Rattle.gnmi_request_parts.specs.Profile.{is_foreign, is_other, path_in}
 use Rattle.gnmi_set_msg.specs.declared.request.Update.{Update}
 use Rattle.gnmi_set_msg.specs.declared.request.SetRequest.{SetRequest}
 use Rattle.gnmi_set_msg.specs.Requests.{request_of}
-
--- names are of the schema that has no other name, or is named so
-abbrev pub is_known_origin : List ℕ → Bool
-is_known_origin origin = bytes_eq origin [] || bytes_eq origin (codes "openconfig")
-
--- names of another schema, or texts in the deprecated field `element`
-abbrev pub is_foreign : GnmiPath → Bool
-is_foreign path = not (is_known_origin path.origin) || path.old_element
-
-abbrev pub is_other : Extension → Bool
-is_other extensions.Other = true
-is_other (extensions.Commit action) = false
 
 -- `union_replace`, an extension other than a commit, an origin of another schema, or the old `element`
 abbrev pub is_unsupported : SetRequest → Bool
@@ -46,9 +32,6 @@ one_action (action ∷ other ∷ others) = actions.Mixed
 
 abbrev pub action_of : List Extension → Action
 action_of extensions = one_action (filter_map commit_in extensions)
-
-abbrev pub path_in : GnmiPath → List Elem
-path_in path = path.path
 
 abbrev pub change_of : Update → Change
 change_of update = record { path = update.path.path; given = update.given }

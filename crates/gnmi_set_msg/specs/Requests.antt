@@ -1,5 +1,5 @@
 -- gnmi.proto's SetRequest and Update, as they are read. `None` stands where the octets are no such message.
-use Rattle.std.specs.Prelude.{ℕ, List, [], Option, Some, None, unwrap_or, if◌then◌else◌}
+use Rattle.std.specs.Prelude.{ℕ, List, Option, Some, None, if◌then◌else◌}
 use Rattle.std.specs.Option.{is_some}
 use Rattle.base_lists.specs.Options.{◌>>=◌}
 use Rattle.pb_message.specs.Fields.{is_message}
@@ -9,13 +9,10 @@ use Rattle.gnmi_data_msg.specs.Parts.{fields_in, messages_in}
 use Rattle.gnmi_data_msg.specs.Paths.{path_of}
 use Rattle.gnmi_data_msg.specs.TypedValues.{typed_of}
 use Rattle.gnmi_ext_msg.specs.Extensions.{extension_of}
+use Rattle.gnmi_request_parts.specs.Singles.{single_message}
 use Rattle.gnmi_set_msg.specs.declared.request.Update.{Update}
 use Rattle.gnmi_set_msg.specs.declared.request.SetRequest.{SetRequest}
 use Rattle.gnmi_set_msg.specs.Numbers.{set_prefix, set_delete, set_replace, set_update, set_extension}
-
--- a single message; an absent one is read as one without fields (protobuf.dev, "Encoding", "Default Values")
-abbrev pub single_message : ℕ → List ℕ → List ℕ
-single_message number octets = unwrap_or (message_under number octets) []
 
 -- An Update. Its deprecated field `value`, and `duplicates`, are skipped.
 unfoldable pub update_of : List ℕ → Option Update

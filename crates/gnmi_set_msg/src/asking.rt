@@ -2,51 +2,22 @@
 ghost use Rattle.std.specs.Prelude.{◌≡◌, map, IfOk};
 ghost use Rattle.std.specs.List.{filter_map, list_any};
 ghost use Rattle.gnmi_data_msg.specs.Parts.{IsReadAs};
-ghost use Rattle.gnmi_set_msg.specs.Asks.{is_known_origin, is_foreign, is_other, is_unsupported, action_of, path_in, change_of, ask_of, set_of};
+ghost use Rattle.gnmi_request_parts.specs.Profile.{is_foreign};
+ghost use Rattle.gnmi_set_msg.specs.Asks.{is_unsupported, action_of, change_of, ask_of, set_of};
 ghost use Rattle.gnmi_set_msg.specs.inner.Actions.{with_commit};
 
 use crate::request::{SetRequest, Update, Updates, read_request};
-use base_kinds::{Action, Change, Changes, Paths, Seq, SetAsk};
+use base_kinds::{Action, Change, Changes, Seq, SetAsk};
 use base_lists::NoMemory;
 use gnmi_data_msg::MsgFault;
 use gnmi_ext_msg::Extension;
-use gnmi_kinds::GnmiPath;
+use gnmi_request_parts::{are_foreign, are_other, is_foreign, paths_of};
 use std::alloc::Global;
-
-fn is_known_origin(origin: &[u8]) -> bool
-    ensures { result ≡ is_known_origin origin.now }
-{
-    origin == b"".as_slice() || origin == b"openconfig".as_slice()
-}
-
-fn is_foreign(path: &GnmiPath) -> bool
-    ensures { result ≡ is_foreign path.now }
-{
-    !is_known_origin(path.origin.octets()) || path.old_element
-}
-
-fn are_foreign(paths: &[GnmiPath]) -> bool
-    ensures { result ≡ list_any is_foreign paths.now }
-{
-    paths.iter().any(|path| is_foreign(path))
-}
 
 fn have_foreign(updates: &[Update]) -> bool
     ensures { result ≡ list_any (λ update. is_foreign update.path) updates.now }
 {
     updates.iter().any(|update| is_foreign(&update.path))
-}
-
-fn is_other(extension: &Extension) -> bool
-    ensures { result ≡ is_other extension.now }
-{
-    matches!(extension, Extension::Other)
-}
-
-fn are_other(extensions: &[Extension]) -> bool
-    ensures { result ≡ list_any is_other extensions.now }
-{
-    extensions.iter().any(|extension| is_other(extension))
 }
 
 /// Whether this target doesn't support something of the request.
@@ -83,17 +54,6 @@ fn action_of(extensions: Seq<Extension>) -> Action
         }
     }
     asked.unwrap_or(Action::Plain)
-}
-
-/// The elements of each path.
-fn paths_of(alloc: Global, paths: Seq<GnmiPath>) -> Result<Paths, NoMemory>
-    ensures { IfOk result (λ list. list ≡ map path_in paths) }
-{
-    let mut list = Seq::empty(alloc);
-    for path in paths.into_vec() {
-        list.push(path.path)?;
-    }
-    Ok(list)
 }
 
 /// The updates with the elements of their paths.
@@ -139,11 +99,14 @@ fn ask_of(alloc: Global, request: SetRequest) -> Result<SetAsk, NoMemory>
     })
 }
 
-/// What the octets of a SetRequest ask for (gNMI 3.4.1): its deletes, replaces and updates, each in its order, behind no prefix;
-/// of its extensions the commit. Two commits, or one without an action, are Mixed. Not supported are `union_replace`, which
-/// every field with a number above 5 is taken for, another extension, an origin other than the empty one and `openconfig`, and
-/// texts in the deprecated field `element`. Of an Update `value`, which is deprecated, and `duplicates` are skipped. BadMessage
-/// where the octets aren't fields, or those of a path, a value, an Update or an Extension with a commit are a bad message.
+/// What the octets of a SetRequest ask for (gNMI 3.4.1): its prefix and the prefix's target, its deletes, replaces and updates, each
+/// in its order, behind no prefix; of its extensions the commit. Without a commit it is Plain; two commits, or one without an
+/// action, are Mixed. Not supported are `union_replace`, which every field with a number above 5 is taken for, another extension or
+/// one in which none is set, an origin other than the empty one and `openconfig`, and texts in the deprecated field `element`, in
+/// the prefix too. A target of another path than the prefix isn't told (gNMI 2.2.2.1). An Update without `val` has a missing value;
+/// its `value`, which is deprecated, and `duplicates` are skipped. BadMessage where the octets aren't fields, or those of a path, a
+/// value, an Update or an Extension are a bad message, or a string in them isn't UTF-8; of an Extension the commit alone is looked
+/// into. Occurrences of a single message are joined: that each of them is a message by itself isn't asked.
 pub fn read_set(alloc: Global, octets: &[u8]) -> Result<SetAsk, MsgFault>
     ensures { IsReadAs result (set_of octets.now) }
 {

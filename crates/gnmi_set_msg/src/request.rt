@@ -1,16 +1,15 @@
 //! Reading a SetRequest.
-ghost use Rattle.std.specs.Prelude.{◌≡◌, [], unwrap_or, IfOk};
 ghost use Rattle.gnmi_data_msg.specs.Parts.{IsReadAs};
-ghost use Rattle.gnmi_set_msg.specs.Requests.{single_message, request_of};
+ghost use Rattle.gnmi_set_msg.specs.Requests.{request_of};
 
 use crate::numbers::{
     SET_DELETE, SET_EXTENSION, SET_PREFIX, SET_REPLACE, SET_UPDATE, UPDATE_PATH, UPDATE_VAL,
 };
 use base_kinds::{Given, Seq};
-use base_lists::{Bytes, NoMemory};
 use gnmi_data_msg::{Message, MsgFault, fields_in, messages_in, read_path, read_typed};
 use gnmi_ext_msg::Extension;
 use gnmi_kinds::GnmiPath;
+use gnmi_request_parts::{or_empty, single_message};
 use pb_message::{has_number_above, is_message, message_under};
 use std::alloc::Global;
 
@@ -35,24 +34,6 @@ pub struct SetRequest {
     pub extensions: Seq<Extension>,
     /// There is a field with a number above that of `extension`.
     pub union_replace: bool,
-}
-
-/// A message, or one without fields.
-fn or_empty(alloc: Global, message: Option<Bytes>) -> Bytes
-    ensures { result ≡ unwrap_or message [] }
-{
-    match message {
-        None => Bytes::empty(alloc),
-        Some(message) => message,
-    }
-}
-
-/// A single message; an absent one is read as one without fields.
-fn single_message(alloc: Global, octets: &[u8], number: u32) -> Result<Bytes, NoMemory>
-    ensures { IfOk result (λ message. message ≡ single_message number octets.now) }
-{
-    let message = message_under(alloc, octets, number)?;
-    Ok(or_empty(alloc, message))
 }
 
 impl Message for Update {
