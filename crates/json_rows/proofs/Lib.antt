@@ -8,3 +8,4 @@ pub mod Apart
 pub mod Walks
 pub mod ValuesRead
 pub mod Faults
+pub mod Fitting

@@ -25,12 +25,12 @@ use Rattle.json_rows.specs.Rows.{is_entry, rows_of_entry, rows_at_node_of_path, 
 use Rattle.json_rows.proofs.Apart.{Apart, Adds, adds_none, adds_one, adds_both, adds_wider, adds_above, distinct_rows}
 
 -- what an answer came from
-record Came {A B : Type 0} (told : Result A RowsFault) (next : A → Result B RowsFault) (out : B) : Type 0 where
+pub record Came {A B : Type 0} (told : Result A RowsFault) (next : A → Result B RowsFault) (out : B) : Type 0 where
   pub value : A
   pub is : told ≡ Ok value
   pub then : next value ≡ Ok out
 
-came : {A B : Type 0} (told : Result A RowsFault) (next : A → Result B RowsFault) (out : B) → and_then told next ≡ Ok out → Came told next out
+pub came : {A B : Type 0} (told : Result A RowsFault) (next : A → Result B RowsFault) (out : B) → and_then told next ≡ Ok out → Came told next out
 came (Ok value) next out is = record { value = value; is = refl; then = is }
 came (Err fault) next out is = absurd (cc)
 
@@ -57,7 +57,7 @@ fresh_name seen name (Some child) node is = by_test (list_any (bytes_eq name) se
     by_test true child is = absurd (cc)
     by_test false child is = refl
 
-other_keys : (seen : List KeyList) (keys : KeyList) (same : KeyList) → keys_unless_seen seen keys ≡ Ok same → (list_any (same_keys keys) seen ≡ false) × (keys ≡ same)
+pub other_keys : (seen : List KeyList) (keys : KeyList) (same : KeyList) → keys_unless_seen seen keys ≡ Ok same → (list_any (same_keys keys) seen ≡ false) × (keys ≡ same)
 other_keys seen keys same is = by_test (list_any (same_keys keys) seen) is
   where
     by_test : (test : Bool) → cond test (Err BadValue) (Ok keys) ≡ Ok same → (test ≡ false) × (keys ≡ same)

@@ -1,4 +1,5 @@
 // Laws of what JSON values mean.
+ghost use Rattle.json_rows.specs.laws.Fitness.{RowsAreFit};
 ghost use Rattle.json_rows.specs.laws.Meanings.{MeansOrFails, MeansOneList, MeansOrFailsAlone, FaultsAreTwo, RowsRise, OrderIsFree};
 
 /// A JSON value at a path means one list of rows, or has one fault: `NotInSchema` or `BadValue`.
@@ -13,4 +14,9 @@ pub fn values_mean_rows_or_fail()
 pub fn rows_rise()
     ensures rise { RowsRise }
     ensures free { OrderIsFree }
+{}
+
+/// Rows of a text may stand in an operation, where the schema was read from a text.
+pub fn rows_are_fit()
+    ensures { RowsAreFit }
 {}

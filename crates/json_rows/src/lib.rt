@@ -19,5 +19,5 @@ mod texts;
 mod walk;
 
 pub use fault::RowsFault;
-pub use laws::{rows_rise, values_mean_rows_or_fail};
+pub use laws::{rows_are_fit, rows_rise, values_mean_rows_or_fail};
 pub use text_rows::rows_of;

@@ -1,11 +1,12 @@
 // The rows that a JSON text means.
-ghost use Rattle.std.specs.Prelude.{◌≡◌, ◌≢◌, ◌-◌, [], Ok, Err, Some, None, length, take, slice_get, IfOk, IfErr, IfSome, ◌<◌, IsTrue};
+ghost use Rattle.std.specs.Prelude.{◌≡◌, ◌≢◌, ◌-◌, [], Ok, Err, Some, None, length, take, slice_get, IfOk, IfErr, IfSome, OnOk, ◌<◌, IsTrue};
 ghost use Rattle.std.specs.Option.{option_map};
 ghost use Rattle.base_lists.specs.Rising.{rises};
 ghost use Rattle.base_kinds.specs.Paths.{path_cmp};
 ghost use Rattle.base_kinds.specs.Schema.{names_of};
 ghost use Rattle.schema_core.specs.Nodes.{names_at};
 ghost use Rattle.serde_json.specs.View.{view};
+ghost use Rattle.serde_json.specs.Errors.{IsMemory};
 ghost use Rattle.base_lists.specs.Results.{IsUnlessMemory};
 ghost use Rattle.json_rows.specs.Rows.{data_of, is_entry, rows_of_entry, rows_at_last_elem, rows_of_walk, rows_of};
 
@@ -25,11 +26,19 @@ fn data_of(alloc: Global, text: &[u8]) -> Result<Option<Json>, NoMemory>
 {
     match Json::from_slice(alloc, text) {
         Ok(json) => Ok(Some(json)),
-        Err(e) => if e.is_memory() {
-            Err(NoMemory)
-        } else {
-            Ok(None)
-        },
+        Err(error) => no_json(&error),
+    }
+}
+
+/// No JSON, unless memory was wanting.
+fn no_json(error: &serde_json::Error) -> Result<Option<Json>, NoMemory>
+    ensures bad { (IsMemory error.now → ⊥) → result ≡ Ok None }
+    ensures memory { OnOk result (IsMemory error.now → ⊥) }
+{
+    if error.is_memory() {
+        Err(NoMemory)
+    } else {
+        Ok(None)
     }
 }
 

@@ -1,5 +1,5 @@
 // Octets and texts that strings stand for.
-ghost use Rattle.std.specs.Prelude.{◌≡◌, IfOk};
+ghost use Rattle.std.specs.Prelude.{◌≡◌, None, Ok, IfOk, OnOk};
 ghost use Rattle.value_core.specs.Base64.{octets_of};
 
 use base_kinds::{Bytes, NoMemory, Text, TextOfFault};
@@ -12,8 +12,18 @@ pub(crate) fn octets_of(alloc: Global, text: &[u8]) -> Result<Option<Bytes>, NoM
 {
     match read_base64(alloc, text) {
         Ok(octets) => Ok(Some(octets)),
-        Err(ValueFault::BadValue) => Ok(None),
-        Err(ValueFault::NoMemory) => Err(NoMemory),
+        Err(fault) => no_octets(fault),
+    }
+}
+
+/// No octets, unless memory was wanting.
+fn no_octets(fault: ValueFault) -> Result<Option<Bytes>, NoMemory>
+    ensures bad { fault ≡ ValueFault.BadValue → result ≡ Ok None }
+    ensures memory { OnOk result (fault ≡ ValueFault.BadValue) }
+{
+    match fault {
+        ValueFault::BadValue => Ok(None),
+        ValueFault::NoMemory => Err(NoMemory),
     }
 }
 
