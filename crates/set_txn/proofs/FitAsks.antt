@@ -34,12 +34,12 @@ use Rattle.set_txn.specs.KeyLeaves.{is_wild, key_leaves_of}
 
 -- what stands behind an answer that is a value
 
-record Followed {A B : Type 0} (r : Result A Refusal) (next : A → Result B Refusal) (b : B) : Type 0 where
-  a : A
-  first : r ≡ Ok a
-  then : next a ≡ Ok b
+pub record Followed {A B : Type 0} (r : Result A Refusal) (next : A → Result B Refusal) (b : B) : Type 0 where
+  pub a : A
+  pub first : r ≡ Ok a
+  pub then : next a ≡ Ok b
 
-followed : {A B : Type 0} (r : Result A Refusal) (next : A → Result B Refusal) (b : B) → and_then r next ≡ Ok b → Followed r next b
+pub followed : {A B : Type 0} (r : Result A Refusal) (next : A → Result B Refusal) (b : B) → and_then r next ≡ Ok b → Followed r next b
 followed (Ok a) next b e = record { a = a; first = refl; then = e }
 followed (Err refusal) next b e = absurd (cc)
 
@@ -52,7 +52,7 @@ followed_some : {A B : Type 0} (o : Option A) (next : A → Option B) (b : B) �
 followed_some (Some a) next b e = record { a = a; first = refl; then = e }
 followed_some None next b e = absurd (cc)
 
-passed : {A : Type 0} (test : Bool) (r : Result A Refusal) (refusal : Refusal) (a : A) → cond test r (Err refusal) ≡ Ok a → (test ≡ true) × (r ≡ Ok a)
+pub passed : {A : Type 0} (test : Bool) (r : Result A Refusal) (refusal : Refusal) (a : A) → cond test r (Err refusal) ≡ Ok a → (test ≡ true) × (r ≡ Ok a)
 passed true r refusal a e = (refl, e)
 passed false r refusal a e = absurd (cc)
 
@@ -64,7 +64,7 @@ tested : {A : Type 0} (test : Bool) (a b : A) → cond test (Some a) None ≡ So
 tested true a b e = (refl, cc)
 tested false a b e = absurd (cc)
 
-there : {A : Type 0} (o : Option A) (refusal : Refusal) (a : A) → ok_or o refusal ≡ Ok a → o ≡ Some a
+pub there : {A : Type 0} (o : Option A) (refusal : Refusal) (a : A) → ok_or o refusal ≡ Ok a → o ≡ Some a
 there (Some b) refusal a e = cc
 there None refusal a e = absurd (cc)
 

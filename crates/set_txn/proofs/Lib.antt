@@ -4,3 +4,5 @@ pub mod Placing
 pub mod FitAsks
 pub mod Traversals
 pub mod Refusing
+pub mod Standing
+pub mod Causing

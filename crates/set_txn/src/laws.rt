@@ -1,5 +1,6 @@
 // Laws of requests.
 ghost use Rattle.set_txn.specs.laws.Asks.{ResolvedIsFit, PlainIsApply};
+ghost use Rattle.set_txn.specs.laws.Causes.{RowsMayStand, KeysHaveLeaves, RefusalsHaveCauses, RefusalsUnderTextsHaveCauses};
 ghost use Rattle.set_txn.specs.laws.Refusals.{RefusalsOfRequests};
 
 /// What a request asks may be judged, and without an action it is that its operations are applied.
@@ -12,4 +13,13 @@ pub fn asks_of_requests()
 /// and by no other, before it is judged.
 pub fn refusals_of_requests()
     ensures { RefusalsOfRequests }
+{}
+
+/// Under a schema that was read from a text, a request is refused for the causes of the profile alone: that rows can't
+/// stand in an operation, or that a key has no leaf, never is one.
+pub fn refusals_have_causes()
+    ensures stand { RowsMayStand }
+    ensures keys { KeysHaveLeaves }
+    ensures causes { RefusalsHaveCauses }
+    ensures texts { RefusalsUnderTextsHaveCauses }
 {}
