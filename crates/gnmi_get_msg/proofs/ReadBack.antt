@@ -1,25 +1,24 @@
 -- What is written of a GetResponse and a CapabilityResponse is found in it.
-use Rattle.std.proofs.Common.{◌≡◌, ℕ, ◌+◌, ◌^◌, ◌<◌, ◌≤◌, true, List, [], ◌∷◌, ◌++◌, length, Option, Some, None, refl, ap, ◌∙◌, arith, append-nil, lit≤}
+use Rattle.std.proofs.Common.{◌≡◌, ℕ, ◌+◌, ◌^◌, ◌<◌, ◌≤◌, true, List, [], ◌∷◌, ◌++◌, length, Some, refl, ap, ◌∙◌, arith, append-nil, lit≤}
 use Rattle.std.specs.Prelude.{map}
-use Rattle.std.specs.List.{AllByRecursion, concat}
+use Rattle.std.specs.List.{AllByRecursion}
 use Rattle.std.specs.Str.{is_utf8, chars}
 use Rattle.std.proofs.lemmas.List.{length-append}
 use Rattle.base_kinds.specs.Schema.{SchemaNode}
 use Rattle.pb_wire.specs.Writing.{octets_field}
 use Rattle.pb_wire.specs.Values.{occurrences}
-use Rattle.pb_message.specs.Fields.{all_fields, is_message}
-use Rattle.pb_message.specs.Values.{pieces_under, text_under}
+use Rattle.pb_message.specs.Fields.{all_fields}
+use Rattle.pb_message.specs.Values.{pieces_under}
 use Rattle.pb_message.proofs.Repeated.{repeated_passes, repeated_pieces}
 use Rattle.pb_message.proofs.Written.{fields_are, passes}
 use Rattle.gnmi_data_msg.specs.Parts.{each}
-use Rattle.gnmi_data_msg.specs.Writing.{text_field, message_fields}
+use Rattle.gnmi_data_msg.specs.Writing.{message_fields}
 use Rattle.gnmi_data_msg.proofs.FieldsIn.{is_read}
-use Rattle.gnmi_data_msg.proofs.ReadBack.{Holds, appended, one_field, text_there, messages_there, items_short, text_short, text_read}
-use Rattle.gnmi_request_parts.specs.declared.models.ModelData.{ModelData}
+use Rattle.gnmi_data_msg.proofs.ReadBack.{appended, one_field, text_there, messages_there, items_short, text_short, text_read}
 use Rattle.gnmi_request_parts.specs.Models.{model_name, model_of}
 use Rattle.gnmi_get_msg.specs.Numbers.{reply_notification, supported_models, supported_encodings, gnmi_version}
 use Rattle.gnmi_get_msg.specs.Replies.{get_reply, modules_of, model_message, encodings, protocol_version, capabilities}
-use Rattle.gnmi_get_msg.specs.ReadBack.{CapabilitiesRead, notes_in, capabilities_in, model_named, AreTextNames, AreShort}
+use Rattle.gnmi_get_msg.specs.ReadBack.{notes_in, capabilities_in, model_named, AreTextNames, AreShort}
 
 pub notes_found : (notes : List (List ℕ)) → AreShort notes → notes_in (get_reply notes) ≡ Some notes
 notes_found notes short =

@@ -1,6 +1,6 @@
 //! What a SetRequest asks for.
 ghost use Rattle.std.specs.Prelude.{◌≡◌, map, IfOk};
-ghost use Rattle.std.specs.List.{filter_map, list_any};
+ghost use Rattle.std.specs.List.{list_any};
 ghost use Rattle.gnmi_data_msg.specs.Parts.{IsReadAs};
 ghost use Rattle.gnmi_request_parts.specs.Profile.{is_foreign};
 ghost use Rattle.gnmi_set_msg.specs.Asks.{is_unsupported, action_of, change_of, ask_of, set_of};

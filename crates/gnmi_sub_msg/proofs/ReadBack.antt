@@ -1,10 +1,8 @@
 -- What is written of a SubscribeResponse is found in it.
-use Rattle.std.proofs.Common.{◌≡◌, ℕ, ◌^◌, ◌<◌, true, false, List, [], ◌∷◌, length, Some, None, refl, ap, ◌∙◌, arith, append-nil, lit≤}
-use Rattle.std.specs.Prelude.{unwrap_or}
-use Rattle.std.specs.List.{last_or}
+use Rattle.std.proofs.Common.{◌≡◌, ℕ, ◌^◌, ◌<◌, true, false, List, [], ◌∷◌, length, Some, None, refl, ap, arith, append-nil, lit≤}
 use Rattle.pb_wire.specs.Values.{varints}
 use Rattle.pb_message.specs.Fields.{all_fields, is_message}
-use Rattle.pb_message.specs.Values.{number_under, pieces_under}
+use Rattle.pb_message.specs.Values.{pieces_under}
 use Rattle.pb_message.proofs.Written.{octets_fields, octets_pass, varint_passes, pieces_here, pieces_of_varint, numbers_here}
 use Rattle.gnmi_sub_msg.specs.Numbers.{reply_update, reply_sync_response}
 use Rattle.gnmi_sub_msg.specs.Replies.{note_reply, sync_reply, note_in, says_sync}

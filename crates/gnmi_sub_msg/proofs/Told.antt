@@ -1,21 +1,20 @@
 -- A list tells what isn't supported of its request.
-use Rattle.std.proofs.Common.{◌≡◌, ℕ, Bool, true, false, cond, ◌||◌, List, [], ◌∷◌, Option, Some, None, refl, sym, ap, ◌∙◌, subst}
+use Rattle.std.proofs.Common.{◌≡◌, ℕ, Bool, true, false, cond, ◌||◌, List, [], ◌∷◌, Option, Some, None, refl, ap, subst}
 use Rattle.std.specs.Prelude.{map, not, ◌==◌, length}
 use Rattle.std.specs.List.{list_any}
 use Rattle.std.specs.Option.{option_map}
 use Rattle.base_kinds.specs.declared.path.Elem.{Elem}
 use Rattle.gnmi_kinds.specs.declared.path.GnmiPath.{GnmiPath}
-use Rattle.sub_plan.specs.Profile.{TellsUnsupported, is_unsupported_path, is_outside_profile}
+use Rattle.sub_plan.specs.Profile.{is_unsupported_path}
 use Rattle.gnmi_request_parts.specs.Profile.{is_foreign, is_other}
 use Rattle.gnmi_sub_msg.specs.declared.lists.Subscription.{Subscription}
-use Rattle.gnmi_sub_msg.specs.declared.lists.SubscriptionList.{SubscriptionList}
 use Rattle.gnmi_sub_msg.specs.declared.request.SubMember.{SubMember}
 use Rattle.gnmi_sub_msg.specs.declared.request.SubMember.TheVariants as members
 use Rattle.gnmi_sub_msg.specs.declared.request.SubRequest.{SubRequest}
 use Rattle.gnmi_sub_msg.specs.declared.turns.SubTurn.{SubTurn}
 use Rattle.gnmi_sub_msg.specs.declared.turns.SubTurn.TheVariants as turns
 use Rattle.gnmi_sub_msg.specs.Requests.{request_of}
-use Rattle.gnmi_sub_msg.specs.Turns.{line_of, ask_of, member_turn, turn_asked, turn_of, parts_of, IsToldList, IsTold}
+use Rattle.gnmi_sub_msg.specs.Turns.{line_of, member_turn, turn_asked, turn_of, IsTold}
 
 paths_kept : (subscriptions : List Subscription)
     → map (λ line. line.path) (map line_of subscriptions)

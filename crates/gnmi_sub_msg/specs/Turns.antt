@@ -1,5 +1,5 @@
 -- What a SubscribeRequest asks for (gNMI 3.5.1.1, 3.5.1.2), and that a list tells what of it isn't supported.
-use Rattle.std.specs.Prelude.{◌≡◌, ℕ, List, [], map, Bool, not, ◌||◌, ◌==◌, length, Option, Some, if◌then◌else◌}
+use Rattle.std.specs.Prelude.{◌≡◌, ℕ, List, [], map, not, ◌||◌, ◌==◌, length, Option, Some, if◌then◌else◌}
 use Rattle.std.specs.List.{list_any}
 use Rattle.std.specs.Option.{option_map}
 use Rattle.base_kinds.specs.declared.request.SubLine.{SubLine}
