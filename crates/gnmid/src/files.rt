@@ -61,7 +61,7 @@ impl Files for ProcessFiles {
     }
 
     fn new_disk(&mut self, name: &str) -> Result<FileDisk, Failed> {
-        self.past.asked_for_disk(name);
+        self.past.asked_for_new_disk(name);
         match FileDisk::open_or_make(&self.rt, name) {
             Ok(disk) => Ok(disk),
             Err(_) => {

@@ -16,7 +16,7 @@ use Rattle.target_top.specs.declared.ending.Ending.{Ending}
 use Rattle.target_top.specs.declared.ending.Ending.TheVariants.{Done, NoMemory, NoSchema, JournalNotEmpty, JournalDamaged}
 use Rattle.target_top.specs.declared.files_record.NamedText.{NamedText}
 use Rattle.target_top.specs.Ending.{exit_status}
-use Rattle.target_top.specs.Environment.{Environment, SeenDisk, GaveText, GaveDisk, IsDiskOf, texts_of}
+use Rattle.target_top.specs.Environment.{Environment, SeenDisk, GaveText, DiskAsk, GaveDisk, IsDiskOf, texts_of, files_after_disk, files_after_new_disk}
 use Rattle.target_top.specs.CheckRun.{Counts, count_line}
 use Rattle.target_top.specs.Commands.{Command, Check, Script, Init, Log, Help, Version, Gives}
 use Rattle.target_top.specs.InitRun.{PreparesDisk}
@@ -70,21 +70,21 @@ under_loses_none octets name before after ending Then by of (inl from) = text_lo
 under_loses_none octets name before after ending Then by of (inr (inl fails)) = untouched octets before.input after.input fails.input of
 under_loses_none octets name before after ending Then by of (inr (inr out)) = untouched octets before.input after.input out.input of
 
-disk_loses_none : (octets name : List ℕ) (before after : Environment) (left : Option SeenDisk) (ending : Ending) (Work : DiskWork) → IsInputOf octets before.input → OverDisk name before after left ending Work → IsInputOf octets after.input
-disk_loses_none octets name before after left ending Work of (inl with) = untouched octets before.input after.input with.input of
-disk_loses_none octets name before after left ending Work of (inr none) = untouched octets before.input after.input none.input of
+disk_loses_none : (octets : List ℕ) (ask : DiskAsk) (name : List ℕ) (before after : Environment) (returned : Option SeenDisk) (ending : Ending) (Work : DiskWork) → IsInputOf octets before.input → OverDisk ask name before after returned ending Work → IsInputOf octets after.input
+disk_loses_none octets ask name before after returned ending Work of (inl with) = untouched octets before.input after.input with.input of
+disk_loses_none octets ask name before after returned ending Work of (inr none) = untouched octets before.input after.input none.input of
 
-command_loses_none : (octets : List ℕ) (command : Command) (before after : Environment) (left : Option SeenDisk) (ending : Ending) → IsInputOf octets before.input → Does command before after left ending → IsInputOf octets after.input
-command_loses_none octets (Check name) before after left ending of does = under_loses_none octets name before after ending (Counts before after ending) (λ schema counts. untouched octets before.input after.input counts.input of) of does.0
-command_loses_none octets (Script name limits) before after left ending of does = under_loses_none octets name before after ending (RunsLines limits before after ending) (λ schema lines. lines_lose_none octets limits before after ending schema of lines) of does.0
-command_loses_none octets (Init name limits) before after left ending of does = disk_loses_none octets name before after left ending (PreparesDisk limits) of does
-command_loses_none octets (Log name) before after left ending of does = disk_loses_none octets name before after left ending ListsDisk of does
-command_loses_none octets Help before after left ending of does = untouched octets before.input after.input does.0.input of
-command_loses_none octets Version before after left ending of does = untouched octets before.input after.input does.0.input of
+command_loses_none : (octets : List ℕ) (command : Command) (before after : Environment) (returned : Option SeenDisk) (ending : Ending) → IsInputOf octets before.input → Does command before after returned ending → IsInputOf octets after.input
+command_loses_none octets (Check name) before after returned ending of does = under_loses_none octets name before after ending (Counts before after ending) (λ schema counts. untouched octets before.input after.input counts.input of) of does.0
+command_loses_none octets (Script name limits) before after returned ending of does = under_loses_none octets name before after ending (RunsLines limits before after ending) (λ schema lines. lines_lose_none octets limits before after ending schema of lines) of does.0
+command_loses_none octets (Init name limits) before after returned ending of does = disk_loses_none octets files_after_new_disk name before after returned ending (PreparesDisk limits) of does
+command_loses_none octets (Log name) before after returned ending of does = disk_loses_none octets files_after_disk name before after returned ending ListsDisk of does
+command_loses_none octets Help before after returned ending of does = untouched octets before.input after.input does.0.input of
+command_loses_none octets Version before after returned ending of does = untouched octets before.input after.input does.0.input of
 
 pub loses_no_octet : LosesNoOctet
-loses_no_octet words octets before after left status (inl given) run of = command_loses_none octets given.0 before after left run.ending of (run.done given.0 given.1)
-loses_no_octet words octets before after left status (inr none) run of = untouched octets before.input after.input (run.refused none).input of
+loses_no_octet words octets before after returned status (inl given) run of = command_loses_none octets given.0 before after returned run.ending of (run.done given.0 given.1)
+loses_no_octet words octets before after returned status (inr none) run of = untouched octets before.input after.input (run.refused none).input of
 
 -- ---- equal objects
 
@@ -159,80 +159,80 @@ was_empty : (limits : Limits) (told new : Option Content) (content : Content) �
 was_empty limits told None content is created = absurd (subst (λ t. WhereTold t None (Creates limits)) is created)
 was_empty limits told (Some new) content is created = (subst (λ t. WhereTold t (Some new) (Creates limits)) is created).was_empty
 
-prepared_alike : (limits : Limits) (octets : Option (List ℕ)) (given disk given' disk' : SeenDisk) (p q r s : Output) (status status' : ℕ) → HoldsAll octets given.told → HoldsAll octets given'.told → PreparedAs limits given disk p q status → PreparedAs limits given' disk' r s status' → (written : List ℕ) × WroteBoth written p q r s status status'
-prepared_alike limits octets given disk given' disk' p q r s status status' holds also (inl one) (inl other) = both_ended (codes "journal ready\n") (exit_status Done) p q r s status status' one.1 other.1
-prepared_alike limits octets given disk given' disk' p q r s status status' holds also (inl one) (inr other) =
-    absurd (told_fact given'.told also.content (λ c. c.seen ≢ []) also.tells other.0 (sym (same_octets octets given.told given'.told holds also) ∙ was_empty limits given.told disk.told holds.content holds.tells one.0))
-prepared_alike limits octets given disk given' disk' p q r s status status' holds also (inr one) (inl other) =
-    absurd (told_fact given.told holds.content (λ c. c.seen ≢ []) holds.tells one.0 (same_octets octets given.told given'.told holds also ∙ was_empty limits given'.told disk'.told also.content also.tells other.0))
-prepared_alike limits octets given disk given' disk' p q r s status status' holds also (inr one) (inr other) = both_ended (codes "journal not empty\n") (exit_status JournalNotEmpty) p q r s status status' one.2 other.2
+prepared_alike : (limits : Limits) (octets : Option (List ℕ)) (initial final initial' final' : SeenDisk) (p q r s : Output) (status status' : ℕ) → HoldsAll octets initial.told → HoldsAll octets initial'.told → PreparedAs limits initial final p q status → PreparedAs limits initial' final' r s status' → (written : List ℕ) × WroteBoth written p q r s status status'
+prepared_alike limits octets initial final initial' final' p q r s status status' holds also (inl one) (inl other) = both_ended (codes "journal ready\n") (exit_status Done) p q r s status status' one.1 other.1
+prepared_alike limits octets initial final initial' final' p q r s status status' holds also (inl one) (inr other) =
+    absurd (told_fact initial'.told also.content (λ c. c.seen ≢ []) also.tells other.0 (sym (same_octets octets initial.told initial'.told holds also) ∙ was_empty limits initial.told final.told holds.content holds.tells one.0))
+prepared_alike limits octets initial final initial' final' p q r s status status' holds also (inr one) (inl other) =
+    absurd (told_fact initial.told holds.content (λ c. c.seen ≢ []) holds.tells one.0 (same_octets octets initial.told initial'.told holds also ∙ was_empty limits initial'.told final'.told also.content also.tells other.0))
+prepared_alike limits octets initial final initial' final' p q r s status status' holds also (inr one) (inr other) = both_ended (codes "journal not empty\n") (exit_status JournalNotEmpty) p q r s status status' one.2 other.2
 
-listed_alike : (octets : Option (List ℕ)) (given given' : SeenDisk) (p q r s : Output) (status status' : ℕ) → HoldsAll octets given.told → HoldsAll octets given'.told → ListedAs given p q status → ListedAs given' r s status' → (written : List ℕ) × WroteBoth written p q r s status status'
-listed_alike octets given given' p q r s status status' holds also (inl one) (inl other) =
-    let same = same_octets octets given.told given'.told holds also in
-    let first = told_fact given.told holds.content (λ c. IsJournal c.seen one.0 one.1) holds.tells one.2 in
-    let second = told_fact given'.told also.content (λ c. IsJournal c.seen other.0 other.1) also.tells other.2 in
+listed_alike : (octets : Option (List ℕ)) (initial initial' : SeenDisk) (p q r s : Output) (status status' : ℕ) → HoldsAll octets initial.told → HoldsAll octets initial'.told → ListedAs initial p q status → ListedAs initial' r s status' → (written : List ℕ) × WroteBoth written p q r s status status'
+listed_alike octets initial initial' p q r s status status' holds also (inl one) (inl other) =
+    let same = same_octets octets initial.told initial'.told holds also in
+    let first = told_fact initial.told holds.content (λ c. IsJournal c.seen one.0 one.1) holds.tells one.2 in
+    let second = told_fact initial'.told also.content (λ c. IsJournal c.seen other.0 other.1) also.tells other.2 in
     let one_is = one_history holds.content.seen one.0 other.0 one.1 other.1 first (subst (λ o. IsJournal o other.0 other.1) (sym same) second) in
     both_ended (log_text one.1) (exit_status Done) p q r s status status' one.3 (subst (λ h. WroteAndEnded (log_text h) (exit_status Done) r s status') (sym one_is.1) other.3)
-listed_alike octets given given' p q r s status status' holds also (inl one) (inr other) =
-    let same = same_octets octets given.told given'.told holds also in
-    let first = told_fact given.told holds.content (λ c. IsJournal c.seen one.0 one.1) holds.tells one.2 in
-    let second = told_fact given'.told also.content (λ c. IsDamaged c.seen other.0) also.tells other.1 in
+listed_alike octets initial initial' p q r s status status' holds also (inl one) (inr other) =
+    let same = same_octets octets initial.told initial'.told holds also in
+    let first = told_fact initial.told holds.content (λ c. IsJournal c.seen one.0 one.1) holds.tells one.2 in
+    let second = told_fact initial'.told also.content (λ c. IsDamaged c.seen other.0) also.tells other.1 in
     absurd (not_both holds.content.seen one.0 one.1 other.0 first (subst (λ o. IsDamaged o other.0) (sym same) second))
-listed_alike octets given given' p q r s status status' holds also (inr one) (inl other) =
-    let same = same_octets octets given.told given'.told holds also in
-    let first = told_fact given.told holds.content (λ c. IsDamaged c.seen one.0) holds.tells one.1 in
-    let second = told_fact given'.told also.content (λ c. IsJournal c.seen other.0 other.1) also.tells other.2 in
+listed_alike octets initial initial' p q r s status status' holds also (inr one) (inl other) =
+    let same = same_octets octets initial.told initial'.told holds also in
+    let first = told_fact initial.told holds.content (λ c. IsDamaged c.seen one.0) holds.tells one.1 in
+    let second = told_fact initial'.told also.content (λ c. IsJournal c.seen other.0 other.1) also.tells other.2 in
     absurd (not_both also.content.seen other.0 other.1 one.0 second (subst (λ o. IsDamaged o one.0) same first))
-listed_alike octets given given' p q r s status status' holds also (inr one) (inr other) =
-    let same = same_octets octets given.told given'.told holds also in
-    let first = told_fact given.told holds.content (λ c. IsDamaged c.seen one.0) holds.tells one.1 in
-    let second = told_fact given'.told also.content (λ c. IsDamaged c.seen other.0) also.tells other.1 in
+listed_alike octets initial initial' p q r s status status' holds also (inr one) (inr other) =
+    let same = same_octets octets initial.told initial'.told holds also in
+    let first = told_fact initial.told holds.content (λ c. IsDamaged c.seen one.0) holds.tells one.1 in
+    let second = told_fact initial'.told also.content (λ c. IsDamaged c.seen other.0) also.tells other.1 in
     let one_is = one_damage holds.content.seen one.0 other.0 first (subst (λ o. IsDamaged o other.0) (sym same) second) in
     both_ended (damage_line one.0) (exit_status JournalDamaged) p q r s status status' one.2 (subst (λ n. WroteAndEnded (damage_line n) (exit_status JournalDamaged) r s status') (sym one_is) other.2)
 
-held_disk : (memory : Memory) (asked : List ℕ) (given : SeenDisk) (a b : Environment) → IsFreshMemory memory a → GaveDisk asked given a.files b.files → HoldsAll memory.disk given.told
-held_disk memory asked given a b fresh gave = disk_of_held memory.disk_name memory.disk asked given.told a.files.disks_held (ap (λ f. f.disks_held) fresh.files) gave.held
+held_disk : (memory : Memory) (ask : DiskAsk) (asked : List ℕ) (initial : SeenDisk) (a b : Environment) → IsFreshMemory memory a → GaveDisk ask asked initial a.files b.files → HoldsAll memory.disk initial.told
+held_disk memory ask asked initial a b fresh gave = disk_of_held memory.disk_name memory.disk asked initial.told a.files.disks_held (ap (λ f. f.disks_held) fresh.files) gave.held
 
-command_alike : (memory : Memory) (words : List (List ℕ)) (command : Command) (a b c d : Environment) (left left' : Option SeenDisk) (status status' : ℕ) → Gives words command → IsFreshMemory memory a → IsFreshMemory memory c → Run words a b left status → Run words c d left' status' → WentWell a b left status → WentWell c d left' status' → (written : List ℕ) × WroteBoth written a.output b.output c.output d.output status status'
-command_alike memory words (Check schema) a b c d left left' status status' is first second run also well fine =
-    elim (checks_complete words schema a b left status is run well.quiet) [
+command_alike : (memory : Memory) (words : List (List ℕ)) (command : Command) (a b c d : Environment) (returned returned' : Option SeenDisk) (status status' : ℕ) → Gives words command → IsFreshMemory memory a → IsFreshMemory memory c → Run words a b returned status → Run words c d returned' status' → WentWell a b returned status → WentWell c d returned' status' → (written : List ℕ) × WroteBoth written a.output b.output c.output d.output status status'
+command_alike memory words (Check schema) a b c d returned returned' status status' is first second run also well fine =
+    elim (checks_complete words schema a b returned status is run well.quiet) [
       | inl starved ↦ absurd (well.memory starved)
-      | inr one ↦ elim (checks_complete words schema c d left' status' is also fine.quiet) [
+      | inr one ↦ elim (checks_complete words schema c d returned' status' is also fine.quiet) [
         | inl starved ↦ absurd (fine.memory starved)
         | inr other ↦
             let same = same_text memory schema one.0 other.0 a b c d first second one.1 other.1 in
             checked_alike (schema_of one.0) a.output b.output c.output d.output status status' one.2 (subst (λ t. CheckedAs (schema_of t) c.output d.output status') same other.2)
       ]
     ]
-command_alike memory words (Script schema limits) a b c d left left' status status' is first second run also well fine =
-    elim (scripts_complete words schema limits a b left status is run well.quiet) [
+command_alike memory words (Script schema limits) a b c d returned returned' status status' is first second run also well fine =
+    elim (scripts_complete words schema limits a b returned status is run well.quiet) [
       | inl starved ↦ absurd (well.memory starved)
-      | inr one ↦ elim (scripts_complete words schema limits c d left' status' is also fine.quiet) [
+      | inr one ↦ elim (scripts_complete words schema limits c d returned' status' is also fine.quiet) [
         | inl starved ↦ absurd (fine.memory starved)
         | inr other ↦
             let same = same_text memory schema one.0 other.0 a b c d first second one.1 other.1 in
             ran_alike (schema_of one.0) limits memory.octets a b c d status status' (ap (λ (i : Input). i.left) first.input) (ap (λ (i : Input). i.left) second.input) one.2 (subst (λ t. RanAs (schema_of t) limits c d status') same other.2)
       ]
     ]
-command_alike memory words (Init journal limits) a b c d left left' status status' is first second run also well fine =
-    elim (inits_complete words journal limits a b left status is run well.quiet) [
+command_alike memory words (Init journal limits) a b c d returned returned' status status' is first second run also well fine =
+    elim (inits_complete words journal limits a b returned status is run well.quiet) [
       | inl starved ↦ absurd (well.memory starved)
-      | inr one ↦ elim (inits_complete words journal limits c d left' status' is also fine.quiet) [
+      | inr one ↦ elim (inits_complete words journal limits c d returned' status' is also fine.quiet) [
         | inl starved ↦ absurd (fine.memory starved)
-        | inr other ↦ prepared_alike limits memory.disk one.0 one.1 other.0 other.1 a.output b.output c.output d.output status status' (held_disk memory journal one.0 a b first one.2) (held_disk memory journal other.0 c d second other.2) one.4 other.4
+        | inr other ↦ prepared_alike limits memory.disk one.0 one.1 other.0 other.1 a.output b.output c.output d.output status status' (held_disk memory files_after_new_disk journal one.0 a b first one.2) (held_disk memory files_after_new_disk journal other.0 c d second other.2) one.4 other.4
       ]
     ]
-command_alike memory words (Log journal) a b c d left left' status status' is first second run also well fine =
-    elim (logs_complete words journal a b left status is run well.quiet) [
+command_alike memory words (Log journal) a b c d returned returned' status status' is first second run also well fine =
+    elim (logs_complete words journal a b returned status is run well.quiet) [
       | inl starved ↦ absurd (well.memory starved)
-      | inr one ↦ elim (logs_complete words journal c d left' status' is also fine.quiet) [
+      | inr one ↦ elim (logs_complete words journal c d returned' status' is also fine.quiet) [
         | inl starved ↦ absurd (fine.memory starved)
-        | inr other ↦ listed_alike memory.disk one.0 other.0 a.output b.output c.output d.output status status' (held_disk memory journal one.0 a b first one.1) (held_disk memory journal other.0 c d second other.1) one.2 other.2
+        | inr other ↦ listed_alike memory.disk one.0 other.0 a.output b.output c.output d.output status status' (held_disk memory files_after_disk journal one.0 a b first one.2) (held_disk memory files_after_disk journal other.0 c d second other.2) one.5 other.5
       ]
     ]
-command_alike memory words Help a b c d left left' status status' is first second run also well fine = both_ended help_text (exit_status Done) a.output b.output c.output d.output status status' (help_completes words a b left status is run well.quiet) (help_completes words c d left' status' is also fine.quiet)
-command_alike memory words Version a b c d left left' status status' is first second run also well fine = both_ended version_text (exit_status Done) a.output b.output c.output d.output status status' (version_completes words a b left status is run well.quiet) (version_completes words c d left' status' is also fine.quiet)
+command_alike memory words Help a b c d returned returned' status status' is first second run also well fine = both_ended help_text (exit_status Done) a.output b.output c.output d.output status status' (help_completes words a b returned status is run well.quiet) (help_completes words c d returned' status' is also fine.quiet)
+command_alike memory words Version a b c d returned returned' status status' is first second run also well fine = both_ended version_text (exit_status Done) a.output b.output c.output d.output status status' (version_completes words a b returned status is run well.quiet) (version_completes words c d returned' status' is also fine.quiet)
 
 from_fresh : (text : List ℕ) (p q r s : Output) (status status' : ℕ) → p ≡ unwritten_output → r ≡ unwritten_output → WroteBoth text p q r s status status' → WroteAlike q s status status'
 from_fresh text p q r s status status' first second wrote = record {
@@ -243,9 +243,9 @@ from_fresh text p q r s status status' first second wrote = record {
 }
 
 pub runs_alike : RunsAlike
-runs_alike words memory a b c d left left' status status' (inl given) first second run also well fine =
-    let both = command_alike memory words given.0 a b c d left left' status status' given.1 first second run also well fine in
+runs_alike words memory a b c d returned returned' status status' (inl given) first second run also well fine =
+    let both = command_alike memory words given.0 a b c d returned returned' status status' given.1 first second run also well fine in
     from_fresh both.0 a.output b.output c.output d.output status status' first.output second.output both.1
-runs_alike words memory a b c d left left' status status' (inr none) first second run also well fine =
-    let both = both_ended (codes "bad words\n") _ a.output b.output c.output d.output status status' (refusals_complete words a b left status none run well.quiet) (refusals_complete words c d left' status' none also fine.quiet) in
+runs_alike words memory a b c d returned returned' status status' (inr none) first second run also well fine =
+    let both = both_ended (codes "bad words\n") _ a.output b.output c.output d.output status status' (refusals_complete words a b returned status none run well.quiet) (refusals_complete words c d returned' status' none also fine.quiet) in
     from_fresh both.0 a.output b.output c.output d.output status status' first.output second.output both.1

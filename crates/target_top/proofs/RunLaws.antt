@@ -14,7 +14,7 @@ use Rattle.script_run.proofs.Runs.{of_whole}
 use Rattle.target_top.specs.declared.ending.Ending.{Ending}
 use Rattle.target_top.specs.declared.ending.Ending.TheVariants.{Done, NoMemory, NoSchema, JournalNotEmpty, JournalDamaged}
 use Rattle.target_top.specs.Ending.{exit_status}
-use Rattle.target_top.specs.Environment.{Environment, SeenDisk, SeenFiles, GaveText, GaveDisk}
+use Rattle.target_top.specs.Environment.{Environment, SeenDisk, SeenFiles, GaveText, GaveDisk, files_after_disk, files_after_new_disk}
 use Rattle.target_top.specs.Printing.{PrintsText, MakesText}
 use Rattle.target_top.specs.CheckRun.{Counts, count_line}
 use Rattle.target_top.specs.Commands.{Check, Script, Init, Log}
@@ -22,8 +22,7 @@ use Rattle.target_top.specs.SchemaFile.{fault_line, UnderText, UnderSchema}
 use Rattle.edge_traits.specs.Faults.{Rose}
 use Rattle.commit_report.specs.Logs.{log_text}
 use Rattle.target_top.specs.InitRun.{InitRun, PreparesDisk}
-use Rattle.target_top.specs.JournalFile.{DiskFails}
-use Rattle.target_top.specs.LogRun.{LogRun, ListsDisk, damage_line}
+use Rattle.target_top.specs.LogRun.{LogRun, ListsDisk, OnlySynced, damage_line}
 use Rattle.target_top.specs.ScriptRun.{script_ending, RunsLines}
 use Rattle.target_top.specs.laws.RunLaws.{NothingFailed, WroteAndEnded, CheckedAs, CompletesChecks, RanAs, CompletesScripts, AnswersWhole, WritesTheSame, PreparedAs, CompletesInits, ListedAs, CompletesLogs}
 
@@ -44,16 +43,16 @@ under_text : (read : Result (List SchemaNode) SchemaFault) (before after : Envir
 under_text (Ok schema) before after ending status Then By by_schema by_fault quiet is done = by_schema schema done
 under_text (Err fault) before after ending status Then By by_schema by_fault quiet is bad = elim (made_whole (fault_line fault) NoSchema ending before.output after.output status quiet is bad.output) [ inl out ↦ inl out | inr whole ↦ inr (by_fault fault whole) ]
 
-under_schema : (name : List ℕ) (before after : Environment) (left : Option SeenDisk) (ending : Ending) (status : ℕ) (Then : List SchemaNode → Type 0) (By : Result (List SchemaNode) SchemaFault → Type 0) → ((schema : List SchemaNode) → Then schema → (status ≡ exit_status NoMemory) ⊎ By (Ok schema)) → ((fault : SchemaFault) → WroteAndEnded (fault_line fault) (exit_status NoSchema) before.output after.output status → By (Err fault)) → NothingFailed before after left → status ≡ exit_status ending → UnderSchema name before after ending Then → (status ≡ exit_status NoMemory) ⊎ ((text : List ℕ) × GaveText name text before.files after.files × By (schema_of text))
-under_schema name before after left ending status Then By by_schema by_fault quiet is (inl from) = elim (under_text (schema_of from.text) before after ending status Then By by_schema by_fault quiet.output is from.under) [ inl out ↦ inl out | inr done ↦ inr (from.text, from.gave, done) ]
-under_schema name before after left ending status Then By by_schema by_fault quiet is (inr (inl fails)) = absurd (one_more_is_more before.files.faults after.files.faults quiet.files (ap (λ f. f.faults) fails.files))
-under_schema name before after left ending status Then By by_schema by_fault quiet is (inr (inr out)) = inl (is ∙ ap (λ (e : Ending). exit_status e) out.output.ends)
+under_schema : (name : List ℕ) (before after : Environment) (returned : Option SeenDisk) (ending : Ending) (status : ℕ) (Then : List SchemaNode → Type 0) (By : Result (List SchemaNode) SchemaFault → Type 0) → ((schema : List SchemaNode) → Then schema → (status ≡ exit_status NoMemory) ⊎ By (Ok schema)) → ((fault : SchemaFault) → WroteAndEnded (fault_line fault) (exit_status NoSchema) before.output after.output status → By (Err fault)) → NothingFailed before after returned → status ≡ exit_status ending → UnderSchema name before after ending Then → (status ≡ exit_status NoMemory) ⊎ ((text : List ℕ) × GaveText name text before.files after.files × By (schema_of text))
+under_schema name before after returned ending status Then By by_schema by_fault quiet is (inl from) = elim (under_text (schema_of from.text) before after ending status Then By by_schema by_fault quiet.output is from.under) [ inl out ↦ inl out | inr done ↦ inr (from.text, from.gave, done) ]
+under_schema name before after returned ending status Then By by_schema by_fault quiet is (inr (inl fails)) = absurd (one_more_is_more before.files.faults after.files.faults quiet.files (ap (λ f. f.faults) fails.files))
+under_schema name before after returned ending status Then By by_schema by_fault quiet is (inr (inr out)) = inl (is ∙ ap (λ (e : Ending). exit_status e) out.output.ends)
 
 pub checks_complete : CompletesChecks
-checks_complete words name before after left status is run quiet = under_schema name before after left run.ending status (Counts before after run.ending) (λ read. CheckedAs read before.output after.output status) (λ schema counts. made_whole (count_line schema) Done run.ending before.output after.output status quiet.output run.status_is counts.output) (λ fault whole. whole) quiet run.status_is (run.done (Check name) is).0
+checks_complete words name before after returned status is run quiet = under_schema name before after returned run.ending status (Counts before after run.ending) (λ read. CheckedAs read before.output after.output status) (λ schema counts. made_whole (count_line schema) Done run.ending before.output after.output status quiet.output run.status_is counts.output) (λ fault whole. whole) quiet run.status_is (run.done (Check name) is).0
 
-lines_complete : (limits : Limits) (before after : Environment) (left : Option SeenDisk) (ending : Ending) (status : ℕ) → NothingFailed before after left → status ≡ exit_status ending → (schema : List SchemaNode) → RunsLines limits before after ending schema → (status ≡ exit_status NoMemory) ⊎ RanAs (Ok schema) limits before after status
-lines_complete limits before after left ending status quiet is schema (inl answers) = inr (
+lines_complete : (limits : Limits) (before after : Environment) (returned : Option SeenDisk) (ending : Ending) (status : ℕ) → NothingFailed before after returned → status ≡ exit_status ending → (schema : List SchemaNode) → RunsLines limits before after ending schema → (status ≡ exit_status NoMemory) ⊎ RanAs (Ok schema) limits before after status
+lines_complete limits before after returned ending status quiet is schema (inl answers) = inr (
   answers.script,
   answers.read,
   record {
@@ -63,65 +62,57 @@ lines_complete limits before after left ending status quiet is schema (inl answe
     written = printed_whole answers.text (script_ending answers.is_whole) ending before.output after.output status quiet.output is answers.output;
   },
 )
-lines_complete limits before after left ending status quiet is schema (inr (inl bad)) =
+lines_complete limits before after returned ending status quiet is schema (inr (inl bad)) =
     let last = bad.read.2.0 in
     let more : after.input.faults ≡ last.faults + 1 = ap (λ (i : Input). i.faults) bad.read.2.2 in
     let same : last.faults ≡ before.input.faults = bad.read.2.1.quiet in
     absurd (omega (arith, more, same, quiet.input))
-lines_complete limits before after left ending status quiet is schema (inr (inr out)) = inl (is ∙ ap (λ (e : Ending). exit_status e) out.output.ends)
+lines_complete limits before after returned ending status quiet is schema (inr (inr out)) = inl (is ∙ ap (λ (e : Ending). exit_status e) out.output.ends)
 
 pub scripts_complete : CompletesScripts
-scripts_complete words name limits before after left status is run quiet = under_schema name before after left run.ending status (RunsLines limits before after run.ending) (λ read. RanAs read limits before after status) (lines_complete limits before after left run.ending status quiet run.status_is) (λ fault whole. whole) quiet run.status_is (run.done (Script name limits) is).0
+scripts_complete words name limits before after returned status is run quiet = under_schema name before after returned run.ending status (RunsLines limits before after run.ending) (λ read. RanAs read limits before after status) (lines_complete limits before after returned run.ending status quiet run.status_is) (λ fault whole. whole) quiet run.status_is (run.done (Script name limits) is).0
 
 -- a disk that is handed back without a fault didn't fail
-quiet_disk : (left : Option SeenDisk) (disk : SeenDisk) → left ≡ Some disk → IfSome left (λ d. d.faults ≡ 0) → disk.faults ≡ 0
+quiet_disk : (returned : Option SeenDisk) (disk : SeenDisk) → returned ≡ Some disk → IfSome returned (λ d. d.faults ≡ 0) → disk.faults ≡ 0
 quiet_disk None disk is quiet = absurd (let none : None ≡ Some disk = is in cc)
 quiet_disk (Some other) disk is quiet = let same : other ≡ disk = cc in subst (λ (d : SeenDisk). d.faults ≡ 0) same quiet
 
-never_fails : (given disk : SeenDisk) (left : Option SeenDisk) → left ≡ Some disk → IfSome left (λ d. d.faults ≡ 0) → Rose given.faults disk.faults → ⊥
-never_fails given disk left is quiet rose = let none = quiet_disk left disk is quiet in omega (arith, none, rose)
+never_fails : (initial final : SeenDisk) (returned : Option SeenDisk) → returned ≡ Some final → IfSome returned (λ d. d.faults ≡ 0) → Rose initial.faults final.faults → ⊥
+never_fails initial final returned is quiet rose = let none = quiet_disk returned final is quiet in omega (arith, none, rose)
 
-prepared : (limits : Limits) (given disk : SeenDisk) (left : Option SeenDisk) (old new : Output) (ending : Ending) (status : ℕ) → new.faults ≡ old.faults → left ≡ Some disk → IfSome left (λ d. d.faults ≡ 0) → status ≡ exit_status ending → PreparesDisk limits given disk old new ending → (status ≡ exit_status NoMemory) ⊎ PreparedAs limits given disk old new status
-prepared limits given disk left old new ending status quiet left_is good is (inl made) = inr (inl (made.created, printed_whole (codes "journal ready\n") Done ending old new status quiet is made.output))
-prepared limits given disk left old new ending status quiet left_is good is (inr (inl full)) = inr (inr (full.octets, full.same, printed_whole (codes "journal not empty\n") JournalNotEmpty ending old new status quiet is full.output))
-prepared limits given disk left old new ending status quiet left_is good is (inr (inr (inl failed))) = absurd (never_fails given disk left left_is good failed.fails.fault)
-prepared limits given disk left old new ending status quiet left_is good is (inr (inr (inr out))) = inl (is ∙ ap (λ (e : Ending). exit_status e) out.output.ends)
+prepared : (limits : Limits) (initial final : SeenDisk) (returned : Option SeenDisk) (old new : Output) (ending : Ending) (status : ℕ) → new.faults ≡ old.faults → returned ≡ Some final → IfSome returned (λ d. d.faults ≡ 0) → status ≡ exit_status ending → PreparesDisk limits initial final old new ending → (status ≡ exit_status NoMemory) ⊎ PreparedAs limits initial final old new status
+prepared limits initial final returned old new ending status quiet returned_is good is (inl made) = inr (inl (made.created, printed_whole (codes "journal ready\n") Done ending old new status quiet is made.output))
+prepared limits initial final returned old new ending status quiet returned_is good is (inr (inl (same, inl full))) = inr (inr (full.octets, same, printed_whole (codes "journal not empty\n") JournalNotEmpty ending old new status quiet is full.output))
+prepared limits initial final returned old new ending status quiet returned_is good is (inr (inl (same, inr out))) = inl (is ∙ ap (λ (e : Ending). exit_status e) out.ends)
+prepared limits initial final returned old new ending status quiet returned_is good is (inr (inr failed)) = absurd (never_fails initial final returned returned_is good failed.fails.fault)
 
-init_complete : (name : List ℕ) (limits : Limits) (before after : Environment) (left : Option SeenDisk) (ending : Ending) (status : ℕ) → NothingFailed before after left → status ≡ exit_status ending → InitRun name limits before after left ending → (status ≡ exit_status NoMemory) ⊎ ((given : SeenDisk) × (disk : SeenDisk) × GaveDisk name given before.files after.files × (left ≡ Some disk) × PreparedAs limits given disk before.output after.output status)
-init_complete name limits before after left ending status quiet is (inl with) =
-    elim (prepared limits with.given with.disk left before.output after.output ending status quiet.output with.left_is quiet.disk is with.work) [
+init_complete : (name : List ℕ) (limits : Limits) (before after : Environment) (returned : Option SeenDisk) (ending : Ending) (status : ℕ) → NothingFailed before after returned → status ≡ exit_status ending → InitRun name limits before after returned ending → (status ≡ exit_status NoMemory) ⊎ ((initial : SeenDisk) × (final : SeenDisk) × GaveDisk files_after_new_disk name initial before.files after.files × (returned ≡ Some final) × PreparedAs limits initial final before.output after.output status)
+init_complete name limits before after returned ending status quiet is (inl with) =
+    elim (prepared limits with.initial with.final returned before.output after.output ending status quiet.output with.returned_is quiet.disk is with.work) [
       | inl out ↦ inl out
-      | inr done ↦ inr (with.given, with.disk, with.gave, with.left_is, done)
+      | inr done ↦ inr (with.initial, with.final, with.gave, with.returned_is, done)
     ]
-init_complete name limits before after left ending status quiet is (inr none) = absurd (one_more_is_more before.files.disk_faults after.files.disk_faults quiet.disks (ap (λ (f : SeenFiles). f.disk_faults) none.files))
+init_complete name limits before after returned ending status quiet is (inr none) = absurd (one_more_is_more before.files.disk_faults after.files.disk_faults quiet.disks (ap (λ (f : SeenFiles). f.disk_faults) none.files))
 
 pub inits_complete : CompletesInits
-inits_complete words name limits before after left status is run quiet = init_complete name limits before after left run.ending status quiet run.status_is (run.done (Init name limits) is)
+inits_complete words name limits before after returned status is run quiet = init_complete name limits before after returned run.ending status quiet run.status_is (run.done (Init name limits) is)
 
-listed : (given disk : SeenDisk) (left : Option SeenDisk) (old new : Output) (ending : Ending) (status : ℕ) → new.faults ≡ old.faults → left ≡ Some disk → IfSome left (λ d. d.faults ≡ 0) → status ≡ exit_status ending → ListsDisk given disk old new ending → (status ≡ exit_status NoMemory) ⊎ ListedAs given old new status
-listed given disk left old new ending status quiet left_is good is (inl lists) =
-    elim (made_whole (log_text lists.history) Done ending old new status quiet is lists.output) [
-      | inl out ↦ inl out
-      | inr wrote ↦ inr (inl (lists.limits, lists.history, lists.journal, wrote))
-    ]
-listed given disk left old new ending status quiet left_is good is (inr (inl finds)) =
-    elim (made_whole (damage_line finds.place) JournalDamaged ending old new status quiet is finds.output) [
-      | inl out ↦ inl out
-      | inr wrote ↦ inr (inr (finds.place, finds.damaged, wrote))
-    ]
-listed given disk left old new ending status quiet left_is good is (inr (inr (inl failed))) = absurd (never_fails given disk left left_is good failed.fails.fault)
-listed given disk left old new ending status quiet left_is good is (inr (inr (inr out))) = inl (is ∙ ap (λ (e : Ending). exit_status e) out.output.ends)
+listed : (initial final : SeenDisk) (returned : Option SeenDisk) (old new : Output) (ending : Ending) (status : ℕ) → new.faults ≡ old.faults → returned ≡ Some final → IfSome returned (λ d. d.faults ≡ 0) → status ≡ exit_status ending → ListsDisk initial final old new ending → (status ≡ exit_status NoMemory) ⊎ (OnlySynced initial final × ListedAs initial old new status)
+listed initial final returned old new ending status quiet returned_is good is (inl (synced, inl history)) = inr (synced, inl (history.limits, history.history, history.journal, printed_whole (log_text history.history) Done ending old new status quiet is history.output))
+listed initial final returned old new ending status quiet returned_is good is (inl (synced, inr (inl damage))) = inr (synced, inr (damage.place, damage.damaged, printed_whole (damage_line damage.place) JournalDamaged ending old new status quiet is damage.output))
+listed initial final returned old new ending status quiet returned_is good is (inl (synced, inr (inr out))) = inl (is ∙ ap (λ (e : Ending). exit_status e) out.ends)
+listed initial final returned old new ending status quiet returned_is good is (inr failed) = absurd (never_fails initial final returned returned_is good failed.fails.fault)
 
-log_complete : (name : List ℕ) (before after : Environment) (left : Option SeenDisk) (ending : Ending) (status : ℕ) → NothingFailed before after left → status ≡ exit_status ending → LogRun name before after left ending → (status ≡ exit_status NoMemory) ⊎ ((given : SeenDisk) × GaveDisk name given before.files after.files × ListedAs given before.output after.output status)
-log_complete name before after left ending status quiet is (inl with) =
-    elim (listed with.given with.disk left before.output after.output ending status quiet.output with.left_is quiet.disk is with.work) [
+log_complete : (name : List ℕ) (before after : Environment) (returned : Option SeenDisk) (ending : Ending) (status : ℕ) → NothingFailed before after returned → status ≡ exit_status ending → LogRun name before after returned ending → (status ≡ exit_status NoMemory) ⊎ ((initial : SeenDisk) × (final : SeenDisk) × GaveDisk files_after_disk name initial before.files after.files × (returned ≡ Some final) × OnlySynced initial final × ListedAs initial before.output after.output status)
+log_complete name before after returned ending status quiet is (inl with) =
+    elim (listed with.initial with.final returned before.output after.output ending status quiet.output with.returned_is quiet.disk is with.work) [
       | inl out ↦ inl out
-      | inr done ↦ inr (with.given, with.gave, done)
+      | inr done ↦ inr (with.initial, with.final, with.gave, with.returned_is, done.0, done.1)
     ]
-log_complete name before after left ending status quiet is (inr none) = absurd (one_more_is_more before.files.disk_faults after.files.disk_faults quiet.disks (ap (λ (f : SeenFiles). f.disk_faults) none.files))
+log_complete name before after returned ending status quiet is (inr none) = absurd (one_more_is_more before.files.disk_faults after.files.disk_faults quiet.disks (ap (λ (f : SeenFiles). f.disk_faults) none.files))
 
 pub logs_complete : CompletesLogs
-logs_complete words name before after left status is run quiet = log_complete name before after left run.ending status quiet run.status_is (run.done (Log name) is)
+logs_complete words name before after returned status is run quiet = log_complete name before after returned run.ending status quiet run.status_is (run.done (Log name) is)
 
 -- what is left behind what was read is nothing, or follows the limit
 what_follows : (script all : List ℕ) (old new : Option (List ℕ)) → Consumes old new script → old ≡ Some all → IsAtEnd new ⊎ (length script ≡ most_script_octets + 1) → (more : List ℕ) × (all ≡ script ++ more) × ((more ≡ []) ⊎ (length script ≡ most_script_octets + 1))

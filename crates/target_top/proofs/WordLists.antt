@@ -187,5 +187,5 @@ one_command words Version Help is also = absurd (apart' 54 51 (omega arith) (one
 one_command words Version Version is also = refl
 
 -- what one command of the words does is what the words ask
-pub does_all : (words : List (List ℕ)) (command : Command) (before after : Environment) (left : Option SeenDisk) (ending : Ending) → Gives words command → Does command before after left ending → (other : Command) → Gives words other → Does other before after left ending
-does_all words command before after left ending is does other also = subst (λ c. Does c before after left ending) (one_command words command other is also) does
+pub does_all : (words : List (List ℕ)) (command : Command) (before after : Environment) (returned : Option SeenDisk) (ending : Ending) → Gives words command → Does command before after returned ending → (other : Command) → Gives words other → Does other before after returned ending
+does_all words command before after returned ending is does other also = subst (λ c. Does c before after returned ending) (one_command words command other is also) does

@@ -6,20 +6,23 @@ use Rattle.edge_traits.specs.Output.{Output}
 use Rattle.edge_traits.specs.declared.streams.Failed.{Failed}
 use Rattle.edge_traits.specs.declared.reading.ReadFault.{ReadFault}
 use Rattle.edge_traits.specs.declared.reading.ReadFault.TheVariants as reads
-use Rattle.disk_model.specs.Content.{Content}
+use Rattle.disk_model.specs.Content.{Content, Tells}
+use Rattle.disk_model.specs.Images.{mask_after_sync}
 use Rattle.target_top.specs.declared.files.DiskFile.{DiskFile}
 use Rattle.target_top.specs.declared.files_record.NamedText.{NamedText}
 
 -- Of files. Of those that are read as texts: the names that were asked for, in order, the texts that were given, each with its
 -- file's name, how many reads failed, and all the texts that there are, where the files tell them. Of those that are used as
--- disks: the names that were asked for, in order, how often no disk was given, and the octets of all that there are, where
--- the files tell them.
+-- disks: the names that were asked for, in order, those of files that have to be there apart from those where an empty one
+-- is made if there is none; how often no disk was given; and the octets that each holds when it is opened, where the files
+-- tell them. What is done to a disk later is told by that disk alone.
 pub record SeenFiles : Type 0 where
   pub asked : List (List ℕ)
   pub given : List NamedText
   pub faults : ℕ
   pub held : Option (List NamedText)
   pub disks_asked : List (List ℕ)
+  pub new_disks_asked : List (List ℕ)
   pub disk_faults : ℕ
   pub disks_held : Option (List NamedText)
 
@@ -41,6 +44,7 @@ unread_files = record {
   faults = 0;
   held = None;
   disks_asked = [];
+  new_disks_asked = [];
   disk_faults = 0;
   disks_held = None;
 }
@@ -59,7 +63,7 @@ files_with_fault files = record files { faults = files.faults + 1 }
 
 -- the file of this name was asked for and gave this text; no other one was asked for, and nothing failed
 pub record GaveText (name text : List ℕ) (old new : SeenFiles) : Type 0 where
-  pub given : new ≡ files_with_text (record { name = name; text = text }) (files_after_ask name old)
+  pub files : new ≡ files_with_text (record { name = name; text = text }) (files_after_ask name old)
   pub held : IfSome old.held (λ texts. Contains texts (record { name = name; text = text }))
 
 -- the file of this name was asked for and failed, and no other one was asked for
@@ -77,9 +81,18 @@ abbrev pub texts_of : List ℕ → Option (List ℕ) → List NamedText
 texts_of name (Some text) = record { name = name; text = text } ∷ []
 texts_of name None = []
 
--- the files after one of this name was asked for as a disk
-abbrev pub files_after_disk : List ℕ → SeenFiles → SeenFiles
+-- a way to ask for the file of a name as a disk: what the files are after it
+abbrev pub DiskAsk : Type 0
+DiskAsk = List ℕ → SeenFiles → SeenFiles
+
+-- the files after a file of this name that has to be there was asked for as a disk
+abbrev pub files_after_disk : DiskAsk
 files_after_disk name files = record files { disks_asked = files.disks_asked ++ name ∷ [] }
+
+-- the files after it was asked for, or an empty one that is made if there is none
+abbrev pub files_after_new_disk : DiskAsk
+files_after_new_disk name files =
+    record files { new_disks_asked = files.new_disks_asked ++ name ∷ [] }
 
 -- the files after no disk was given
 abbrev pub files_with_disk_fault : SeenFiles → SeenFiles
@@ -91,24 +104,32 @@ pub record IsDiskOf (name : List ℕ) (told : Option Content) (disks : List Name
   pub tells : told ≡ Some content
   pub held : Contains disks (record { name = name; text = content.seen })
 
--- the file of this name was asked for and given as a disk that hasn't failed yet, and no other one was asked for
-pub record GaveDisk (name : List ℕ) (disk : SeenDisk) (old new : SeenFiles) : Type 0 where
-  pub asked : new ≡ files_after_disk name old
+-- what a disk holds counts as synced, and nothing was done to it before
+pub record IsJustOpened (content : Content) : Type 0 where
+  pub mask : content.mask ≡ mask_after_sync content.seen
+  pub past : content.past ≡ []
+
+-- The file of this name was asked for once, in this way, and given as a disk that hasn't failed yet, and no other one was
+-- asked for.
+pub record GaveDisk
+    (ask : DiskAsk) (name : List ℕ) (disk : SeenDisk) (old new : SeenFiles) : Type 0 where
+  pub files : new ≡ ask name old
   pub quiet : disk.faults ≡ 0
+  pub opened : Tells disk.told IsJustOpened
   pub held : IfSome old.disks_held (λ disks. IsDiskOf name disk.told disks)
 
--- the file of this name was asked for and no disk was given, and no other one was asked for
-abbrev pub FailedToGiveDisk : List ℕ → SeenFiles → SeenFiles → Type 0
-FailedToGiveDisk name old new = new ≡ files_with_disk_fault (files_after_disk name old)
+-- the file of this name was asked for once, in this way, and no disk was given, and no other one was asked for
+abbrev pub FailedToGiveDisk : DiskAsk → List ℕ → SeenFiles → SeenFiles → Type 0
+FailedToGiveDisk ask name old new = new ≡ files_with_disk_fault (ask name old)
 
 module _ {D : Type 0} (told : D → Option Content) (faults : D → ℕ) where
   abbrev pub seen_disk : D → SeenDisk
   seen_disk disk = record { told = told disk; faults = faults disk }
 
-  -- what asking for the disk of this name answers: the disk, or that there is none
-  abbrev pub DiskGives : List ℕ → Result D Failed → SeenFiles → SeenFiles → Type 0
-  DiskGives name (Ok disk) old new = GaveDisk name (seen_disk disk) old new
-  DiskGives name (Err failed) old new = FailedToGiveDisk name old new
+  -- what asking in this way for the disk of this name answers: the disk, or that there is none
+  abbrev pub DiskGives : DiskAsk → List ℕ → Result D Failed → SeenFiles → SeenFiles → Type 0
+  DiskGives ask name (Ok disk) old new = GaveDisk ask name (seen_disk disk) old new
+  DiskGives ask name (Err failed) old new = FailedToGiveDisk ask name old new
 
 -- the one disk that files in memory have, or none
 abbrev pub disks_of : Option DiskFile → List NamedText

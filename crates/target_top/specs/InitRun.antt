@@ -9,37 +9,38 @@ use Rattle.commit_journal.specs.Writes.{Creates, CreateFails}
 use Rattle.edge_traits.specs.Output.{Output}
 use Rattle.target_top.specs.declared.ending.Ending.{Ending}
 use Rattle.target_top.specs.declared.ending.Ending.TheVariants.{Done, JournalNotEmpty}
-use Rattle.target_top.specs.Environment.{Environment, SeenDisk}
-use Rattle.target_top.specs.JournalFile.{DiskWork, DiskFails, OverDisk}
+use Rattle.target_top.specs.Environment.{Environment, SeenDisk, files_after_new_disk}
+use Rattle.target_top.specs.JournalFile.{DiskFails, OverDisk}
 use Rattle.target_top.specs.Printing.{OutOfMemory, PrintsText}
 
-module _ (limits : Limits) (given left : SeenDisk) (old new : Output) (ending : Ending) where
-  -- the disk was empty, and the journal was written and synced: a stop leaves that journal from now on
+module _ (limits : Limits) (initial final : SeenDisk) (old new : Output) (ending : Ending) where
+  -- the disk was empty, and by one write and one sync the journal was written: a stop leaves that journal from now on
   pub record Prepares : Type 0 where
-    pub created : WhereTold given.told left.told (Creates limits)
-    pub images : LeavesNow (λ octets. IsJournal octets limits []) left.told
-    pub quiet : left.faults ≡ given.faults
+    pub created : WhereTold initial.told final.told (Creates limits)
+    pub images : LeavesNow (λ octets. IsJournal octets limits []) final.told
+    pub quiet : final.faults ≡ initial.faults
     pub output : PrintsText (codes "journal ready\n") Done old new ending
 
-  -- the disk holds octets, and nothing was written
+  -- the disk holds octets
   pub record FindsOctets : Type 0 where
-    pub octets : Tells given.told (λ content. content.seen ≢ [])
-    pub same : left ≡ given
+    pub octets : Tells initial.told (λ content. content.seen ≢ [])
     pub output : PrintsText (codes "journal not empty\n") JournalNotEmpty old new ending
 
-  -- the disk failed: it holds what it held, or what a write of the journal that was cut short leaves
-  pub record FailsToPrepare : Type 0 where
-    pub fails : DiskFails given left old new ending
-    pub torn : (left.told ≡ given.told) ⊎ WhereTold given.told left.told (CreateFails limits)
+  -- nothing was done to the disk: it holds octets, or memory was wanting
+  abbrev pub LeavesDisk : Type 0
+  LeavesDisk = (final ≡ initial) × (FindsOctets ⊎ OutOfMemory old new ending)
 
-  -- memory was wanting, and nothing was written
-  pub record HasNoRoom : Type 0 where
-    pub same : left ≡ given
-    pub output : OutOfMemory old new ending
+  -- The disk failed. Either nothing was done to it, or it was empty and the write of the journal had begun: then any octets
+  -- may be read, and a stop may leave any.
+  pub record FailsToPrepare : Type 0 where
+    pub fails : DiskFails initial final old new ending
+    pub content : (final.told ≡ initial.told)
+        ⊎ WhereTold initial.told final.told (CreateFails limits)
 
   abbrev pub PreparesDisk : Type 0
-  PreparesDisk = Prepares ⊎ FindsOctets ⊎ FailsToPrepare ⊎ HasNoRoom
+  PreparesDisk = Prepares ⊎ LeavesDisk ⊎ FailsToPrepare
 
+-- an empty file is made where there is none of this name
 abbrev pub InitRun : List ℕ → Limits → Environment → Environment → Option SeenDisk → Ending → Type 0
-InitRun name limits before after left ending =
-    OverDisk name before after left ending (PreparesDisk limits)
+InitRun name limits before after returned ending =
+    OverDisk files_after_new_disk name before after returned ending (PreparesDisk limits)

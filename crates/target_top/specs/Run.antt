@@ -16,32 +16,35 @@ use Rattle.target_top.specs.ScriptRun.{ScriptRun}
 
 -- the work is done, and no disk is handed back
 abbrev pub WithoutDisk : Type 0 → Option SeenDisk → Type 0
-WithoutDisk Work left = Work × (left ≡ None)
+WithoutDisk Work returned = Work × (returned ≡ None)
 
--- what each command does; `left` is the disk that is handed back
+-- what each command does; `returned` is the disk that is handed back, as it is then
 abbrev pub Does : Command → Environment → Environment → Option SeenDisk → Ending → Type 0
-Does (Check schema) before after left ending = WithoutDisk (CheckRun schema before after ending) left
-Does (Script schema limits) before after left ending =
-    WithoutDisk (ScriptRun schema limits before after ending) left
-Does (Init journal limits) before after left ending = InitRun journal limits before after left ending
-Does (Log journal) before after left ending = LogRun journal before after left ending
-Does Help before after left ending = WithoutDisk (PrintsAlone help_text before after ending) left
-Does Version before after left ending =
-    WithoutDisk (PrintsAlone version_text before after ending) left
+Does (Check schema) before after returned ending =
+    WithoutDisk (CheckRun schema before after ending) returned
+Does (Script schema limits) before after returned ending =
+    WithoutDisk (ScriptRun schema limits before after ending) returned
+Does (Init journal limits) before after returned ending =
+    InitRun journal limits before after returned ending
+Does (Log journal) before after returned ending = LogRun journal before after returned ending
+Does Help before after returned ending =
+    WithoutDisk (PrintsAlone help_text before after ending) returned
+Does Version before after returned ending =
+    WithoutDisk (PrintsAlone version_text before after ending) returned
 
 -- words that give no command are refused, and nothing is read
 pub record Refuses
-    (before after : Environment) (left : Option SeenDisk) (ending : Ending) : Type 0 where
+    (before after : Environment) (returned : Option SeenDisk) (ending : Ending) : Type 0 where
   pub ends : ending ≡ BadWords
-  pub no_disk : left ≡ None
+  pub no_disk : returned ≡ None
   pub files : after.files ≡ before.files
   pub input : after.input ≡ before.input
   pub line : SaysLast (codes "bad words\n") before.output after.output
 
 pub record Run
-    (words : List (List ℕ)) (before after : Environment) (left : Option SeenDisk) (status : ℕ)
+    (words : List (List ℕ)) (before after : Environment) (returned : Option SeenDisk) (status : ℕ)
     : Type 0 where
   pub ending : Ending
   pub status_is : status ≡ exit_status ending
-  pub done : (command : Command) → Gives words command → Does command before after left ending
-  pub refused : GivesNone words → Refuses before after left ending
+  pub done : (command : Command) → Gives words command → Does command before after returned ending
+  pub refused : GivesNone words → Refuses before after returned ending

@@ -1,5 +1,6 @@
 ghost use Rattle.std.specs.Prelude.{◌≡◌, Some};
 ghost use Rattle.target_top.specs.Environment.{SeenFiles, TextGives, DiskGives, texts_of, disks_of};
+ghost use Rattle.target_top.specs.Environment.{files_after_disk, files_after_new_disk};
 
 use crate::files_record::FilesRecord;
 use base_lists::{Bytes, Copied, Text};
@@ -22,12 +23,12 @@ pub trait Files {
 
     /// Opens the file with this name as a disk, which nobody else may write meanwhile.
     fn disk(&mut self, name: &str) -> Result<Self::Disk, Failed>
-        ensures { DiskGives Self.Disk.told Self.Disk.faults name.now result
+        ensures { DiskGives Self.Disk.told Self.Disk.faults files_after_disk name.now result
             (seen self.old) (seen self.new) };
 
-    /// The same, and where there is no file of this name, makes an empty one.
+    /// The same, and where there is no file of this name, makes an empty one. Files that tell which disks they hold make none.
     fn new_disk(&mut self, name: &str) -> Result<Self::Disk, Failed>
-        ensures { DiskGives Self.Disk.told Self.Disk.faults name.now result
+        ensures { DiskGives Self.Disk.told Self.Disk.faults files_after_new_disk name.now result
             (seen self.old) (seen self.new) };
 }
 
@@ -41,7 +42,7 @@ pub struct DiskFile {
 }
 
 /// Files in memory: one file with this name and text, or none, and one that is used as a disk, or none. Each call gives a
-/// disk of its own with the octets of that file.
+/// disk of its own with the octets of that file. No file is made: where there is none of the name, no disk is given.
 #[derive(Drop)]
 pub struct MemFiles {
     name: Text,
@@ -73,6 +74,24 @@ impl MemFiles {
     pub fn disk_faults(&self) -> u64 {
         self.disk_faults
     }
+
+    /// A disk with the octets of the file with this name, once it was asked for.
+    fn give(&mut self, name: &str) -> Result<FuseDisk, Failed>
+        ensures { DiskGives ⟦<FuseDisk as Disk>⟧.told ⟦<FuseDisk as Disk>⟧.faults
+            (λ _ files. files) name.now result
+            (⟦<MemFiles as Files>⟧.seen self.old) (⟦<MemFiles as Files>⟧.seen self.new) }
+    {
+        if let Some(file) = &self.disk {
+            if name.as_bytes() == file.name.octets() {
+                if let Ok(disk) = MemDisk::of(file.alloc, file.octets.items()) {
+                    return Ok(FuseDisk::make(disk, file.passes, Fill::Old));
+                }
+            }
+        }
+        self.disk_faults = self.disk_faults.saturating_add(1);
+        self.past.gave_no_disk();
+        Err(Failed)
+    }
 }
 
 impl Files for MemFiles {
@@ -99,19 +118,11 @@ impl Files for MemFiles {
 
     fn disk(&mut self, name: &str) -> Result<FuseDisk, Failed> {
         self.past.asked_for_disk(name);
-        if let Some(file) = &self.disk {
-            if name.as_bytes() == file.name.octets() {
-                if let Ok(disk) = MemDisk::of(file.alloc, file.octets.items()) {
-                    return Ok(FuseDisk::make(disk, file.passes, Fill::Old));
-                }
-            }
-        }
-        self.disk_faults = self.disk_faults.saturating_add(1);
-        self.past.gave_no_disk();
-        Err(Failed)
+        self.give(name)
     }
 
     fn new_disk(&mut self, name: &str) -> Result<FuseDisk, Failed> {
-        self.disk(name)
+        self.past.asked_for_new_disk(name);
+        self.give(name)
     }
 }

@@ -1,6 +1,6 @@
 ghost use Rattle.std.specs.Prelude.{◌≡◌};
 ghost use Rattle.target_top.specs.Environment.{unread_files, files_after_ask, files_with_text, files_with_fault};
-ghost use Rattle.target_top.specs.Environment.{files_after_disk, files_with_disk_fault};
+ghost use Rattle.target_top.specs.Environment.{files_after_disk, files_after_new_disk, files_with_disk_fault};
 
 use base_lists::{Remembered, Tally, remember_all};
 use std::marker::Model;
@@ -19,6 +19,7 @@ pub struct FilesRecord {
     given: Remembered<NamedText>,
     faults: Tally,
     disks_asked: Remembered<Remembered<u8>>,
+    new_disks_asked: Remembered<Remembered<u8>>,
     disk_faults: Tally,
 }
 
@@ -34,6 +35,7 @@ impl Model for FilesRecord {
       faults = r.faults;
       held = None;
       disks_asked = r.disks_asked;
+      new_disks_asked = r.new_disks_asked;
       disk_faults = r.disk_faults;
       disks_held = None;
     } };
@@ -48,6 +50,7 @@ impl FilesRecord {
             given: Remembered::nothing(),
             faults: Tally::zero(),
             disks_asked: Remembered::nothing(),
+            new_disks_asked: Remembered::nothing(),
             disk_faults: Tally::zero(),
         }
     }
@@ -75,13 +78,22 @@ impl FilesRecord {
         self.given.remember(&named);
     }
 
-    /// The file with this name is asked for as a disk.
+    /// The file with this name, which has to be there, is asked for as a disk.
     pub fn asked_for_disk(&mut self, name: &str)
         ensures { self.new ≡ files_after_disk name.now self.old }
     {
         let mut octets = Remembered::nothing();
         remember_all(&mut octets, name.as_bytes());
         self.disks_asked.remember(&octets);
+    }
+
+    /// The file with this name is asked for as a disk, and is made where it isn't there.
+    pub fn asked_for_new_disk(&mut self, name: &str)
+        ensures { self.new ≡ files_after_new_disk name.now self.old }
+    {
+        let mut octets = Remembered::nothing();
+        remember_all(&mut octets, name.as_bytes());
+        self.new_disks_asked.remember(&octets);
     }
 
     /// No disk was given.

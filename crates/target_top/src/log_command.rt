@@ -1,4 +1,4 @@
-ghost use Rattle.std.specs.Prelude.{◌≡◌, IfOk, IfSome, IsSome, option_map};
+ghost use Rattle.std.specs.Prelude.{◌≡◌, IfOk, option_map};
 ghost use Rattle.commit_report.specs.Logs.{log_text};
 ghost use Rattle.target_top.specs.Environment.{seen_disk};
 ghost use Rattle.target_top.specs.LogRun.{LogRun, ListsDisk, damage_line};
@@ -28,7 +28,13 @@ pub fn log<K: Kit>(
         result.ending }
 {
     match host.files.disk(name) {
-        Ok(disk) => list(alloc, disk, &mut host.output),
+        Ok(disk) => {
+            let (disk, ending) = list(alloc, disk, &mut host.output);
+            DiskEnd {
+                disk: Some(disk),
+                ending,
+            }
+        }
         Err(_) => DiskEnd {
             disk: None,
             ending: disk_fault(&mut host.output),
@@ -37,34 +43,18 @@ pub fn log<K: Kit>(
 }
 
 /// Opens the journal on the disk, and prints its history.
-fn list<D: Disk + Drop, W: Sink>(alloc: Global, disk: D, output: &mut W) -> DiskEnd<D>
-    ensures lists { IfSome result.disk (λ left. ListsDisk (seen_disk D.told D.faults disk)
-        (seen_disk D.told D.faults left) (W.seen output.old) (W.seen output.new) result.ending) }
-    ensures back { IsSome result.disk }
+fn list<D: Disk + Drop, W: Sink>(alloc: Global, disk: D, output: &mut W) -> (D, Ending)
+    ensures { ListsDisk (seen_disk D.told D.faults disk) (seen_disk D.told D.faults result.0)
+        (W.seen output.old) (W.seen output.new) result.1 }
 {
     match Ledger::reopen(alloc, disk) {
         Opening::Ready(ledger, entries) => {
             let ending = print_history(alloc, entries.items(), output);
-            DiskEnd {
-                disk: Some(ledger.give()),
-                ending,
-            }
+            (ledger.give(), ending)
         }
-        Opening::Damaged(place, disk) => {
-            let ending = print_damage(alloc, place, output);
-            DiskEnd {
-                disk: Some(disk),
-                ending,
-            }
-        }
-        Opening::DiskFault(disk) => DiskEnd {
-            disk: Some(disk),
-            ending: disk_fault(output),
-        },
-        Opening::NoMemory(disk) => DiskEnd {
-            disk: Some(disk),
-            ending: out_of_memory(output),
-        },
+        Opening::Damaged(place, disk) => (disk, print_damage(alloc, place, output)),
+        Opening::DiskFault(disk) => (disk, disk_fault(output)),
+        Opening::NoMemory(disk) => (disk, out_of_memory(output)),
     }
 }
 

@@ -34,9 +34,9 @@ pub record RanLines
 abbrev pub CompletesGoodScripts : Type 0
 CompletesGoodScripts =
     (words : List (List ℕ)) (name : List ℕ) (limits : Limits) (before after : Environment)
-    (left : Option SeenDisk) (status : ℕ) →
-    IsScript words name limits → Run words before after left status →
-    NothingFailed before after left →
+    (returned : Option SeenDisk) (status : ℕ) →
+    IsScript words name limits → Run words before after returned status →
+    NothingFailed before after returned →
     (status ≡ exit_status NoMemory)
     ⊎ ((text : List ℕ) × GaveText name text before.files after.files
     × ((schema : List SchemaNode) → schema_of text ≡ Ok schema →

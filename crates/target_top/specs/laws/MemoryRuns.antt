@@ -36,14 +36,14 @@ pub record IsInputOf (octets : List ℕ) (input : Input) : Type 0 where
 abbrev pub LosesNoOctet : Type 0
 LosesNoOctet =
     (words : List (List ℕ)) (octets : List ℕ) (before after : Environment)
-    (left : Option SeenDisk) (status : ℕ) →
-    AreDecided words → Run words before after left status →
+    (returned : Option SeenDisk) (status : ℕ) →
+    AreDecided words → Run words before after returned status →
     IsInputOf octets before.input → IsInputOf octets after.input
 
 -- the run ended with this status, nothing failed and memory was there
 pub record WentWell
-    (before after : Environment) (left : Option SeenDisk) (status : ℕ) : Type 0 where
-  pub quiet : NothingFailed before after left
+    (before after : Environment) (returned : Option SeenDisk) (status : ℕ) : Type 0 where
+  pub quiet : NothingFailed before after returned
   pub memory : status ≡ exit_status NoMemory → ⊥
 
 -- both runs wrote this text, and nothing else, and ended alike
@@ -57,8 +57,8 @@ pub record WroteAlike (one other : Output) (status status' : ℕ) : Type 0 where
 abbrev pub RunsAlike : Type 0
 RunsAlike =
     (words : List (List ℕ)) (memory : Memory) (a b c d : Environment)
-    (left left' : Option SeenDisk) (status status' : ℕ) →
+    (returned returned' : Option SeenDisk) (status status' : ℕ) →
     AreDecided words → IsFreshMemory memory a → IsFreshMemory memory c →
-    Run words a b left status → Run words c d left' status' →
-    WentWell a b left status → WentWell c d left' status' →
+    Run words a b returned status → Run words c d returned' status' →
+    WentWell a b returned status → WentWell c d returned' status' →
     WroteAlike b.output d.output status status'

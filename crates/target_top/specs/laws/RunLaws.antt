@@ -16,19 +16,19 @@ use Rattle.script_run.specs.Scripts.{RunsScript}
 use Rattle.target_top.specs.declared.ending.Ending.TheVariants.{Done, NoMemory, NoSchema}
 use Rattle.target_top.specs.declared.ending.Ending.TheVariants.{JournalNotEmpty, JournalDamaged}
 use Rattle.target_top.specs.Ending.{exit_status}
-use Rattle.target_top.specs.Environment.{Environment, SeenDisk, GaveText, GaveDisk}
+use Rattle.target_top.specs.Environment.{Environment, SeenDisk, GaveText, GaveDisk, files_after_disk, files_after_new_disk}
 use Rattle.target_top.specs.CheckRun.{count_line}
-use Rattle.target_top.specs.LogRun.{damage_line}
+use Rattle.target_top.specs.LogRun.{OnlySynced, damage_line}
 use Rattle.target_top.specs.Commands.{IsCheck, IsScript, IsInit, IsLog}
 use Rattle.target_top.specs.Run.{Run}
 use Rattle.target_top.specs.SchemaFile.{fault_line}
 use Rattle.target_top.specs.ScriptRun.{script_ending}
 
 -- no object failed in the run, the disk that is handed back among them
-pub record NothingFailed (before after : Environment) (left : Option SeenDisk) : Type 0 where
+pub record NothingFailed (before after : Environment) (returned : Option SeenDisk) : Type 0 where
   pub files : after.files.faults ≡ before.files.faults
   pub disks : after.files.disk_faults ≡ before.files.disk_faults
-  pub disk : IfSome left (λ disk. disk.faults ≡ 0)
+  pub disk : IfSome returned (λ disk. disk.faults ≡ 0)
   pub input : after.input.faults ≡ before.input.faults
   pub output : after.output.faults ≡ before.output.faults
 
@@ -47,9 +47,9 @@ CheckedAs (Err fault) old new status =
 abbrev pub CompletesChecks : Type 0
 CompletesChecks =
     (words : List (List ℕ)) (name : List ℕ) (before after : Environment)
-    (left : Option SeenDisk) (status : ℕ) →
-    IsCheck words name → Run words before after left status →
-    NothingFailed before after left →
+    (returned : Option SeenDisk) (status : ℕ) →
+    IsCheck words name → Run words before after returned status →
+    NothingFailed before after returned →
     (status ≡ exit_status NoMemory)
     ⊎ ((text : List ℕ) × GaveText name text before.files after.files
     × CheckedAs (schema_of text) before.output after.output status)
@@ -76,50 +76,55 @@ RanAs (Err fault) limits before after status =
 abbrev pub CompletesScripts : Type 0
 CompletesScripts =
     (words : List (List ℕ)) (name : List ℕ) (limits : Limits) (before after : Environment)
-    (left : Option SeenDisk) (status : ℕ) →
-    IsScript words name limits → Run words before after left status →
-    NothingFailed before after left →
+    (returned : Option SeenDisk) (status : ℕ) →
+    IsScript words name limits → Run words before after returned status →
+    NothingFailed before after returned →
     (status ≡ exit_status NoMemory)
     ⊎ ((text : List ℕ) × GaveText name text before.files after.files
     × RanAs (schema_of text) limits before after status)
 
 -- the journal was made on an empty disk, or the disk holds octets and was left as it was; and the one or the other was said
 abbrev pub PreparedAs : Limits → SeenDisk → SeenDisk → Output → Output → ℕ → Type 0
-PreparedAs limits given disk old new status =
-    (WhereTold given.told disk.told (Creates limits)
+PreparedAs limits initial final old new status =
+    (WhereTold initial.told final.told (Creates limits)
     × WroteAndEnded (codes "journal ready\n") (exit_status Done) old new status)
-    ⊎ (Tells given.told (λ content. content.seen ≢ []) × (disk ≡ given)
+    ⊎ (Tells initial.told (λ content. content.seen ≢ []) × (final ≡ initial)
     × WroteAndEnded (codes "journal not empty\n") (exit_status JournalNotEmpty) old new status)
 
 -- `init` in which nothing fails does so, unless memory is wanting
 abbrev pub CompletesInits : Type 0
 CompletesInits =
     (words : List (List ℕ)) (name : List ℕ) (limits : Limits) (before after : Environment)
-    (left : Option SeenDisk) (status : ℕ) →
-    IsInit words name limits → Run words before after left status →
-    NothingFailed before after left →
+    (returned : Option SeenDisk) (status : ℕ) →
+    IsInit words name limits → Run words before after returned status →
+    NothingFailed before after returned →
     (status ≡ exit_status NoMemory)
-    ⊎ ((given : SeenDisk) × (disk : SeenDisk) × GaveDisk name given before.files after.files
-    × (left ≡ Some disk) × PreparedAs limits given disk before.output after.output status)
+    ⊎ ((initial : SeenDisk) × (final : SeenDisk)
+    × GaveDisk files_after_new_disk name initial before.files after.files
+    × (returned ≡ Some final)
+    × PreparedAs limits initial final before.output after.output status)
 
 -- the octets of the disk are a journal, and its log was written; or they are none, and the first place of damage was
 abbrev pub ListedAs : SeenDisk → Output → Output → ℕ → Type 0
-ListedAs given old new status =
+ListedAs initial old new status =
     ((limits : Limits) × (history : List Entry)
-    × Tells given.told (λ content. IsJournal content.seen limits history)
+    × Tells initial.told (λ content. IsJournal content.seen limits history)
     × WroteAndEnded (log_text history) (exit_status Done) old new status)
-    ⊎ ((place : ℕ) × Tells given.told (λ content. IsDamaged content.seen place)
+    ⊎ ((place : ℕ) × Tells initial.told (λ content. IsDamaged content.seen place)
     × WroteAndEnded (damage_line place) (exit_status JournalDamaged) old new status)
 
--- `log` in which nothing fails does so, unless memory is wanting
+-- `log` in which nothing fails does so, and syncs the disk and does nothing else to it, unless memory is wanting
 abbrev pub CompletesLogs : Type 0
 CompletesLogs =
     (words : List (List ℕ)) (name : List ℕ) (before after : Environment)
-    (left : Option SeenDisk) (status : ℕ) →
-    IsLog words name → Run words before after left status → NothingFailed before after left →
+    (returned : Option SeenDisk) (status : ℕ) →
+    IsLog words name → Run words before after returned status →
+    NothingFailed before after returned →
     (status ≡ exit_status NoMemory)
-    ⊎ ((given : SeenDisk) × GaveDisk name given before.files after.files
-    × ListedAs given before.output after.output status)
+    ⊎ ((initial : SeenDisk) × (final : SeenDisk)
+    × GaveDisk files_after_disk name initial before.files after.files
+    × (returned ≡ Some final) × OnlySynced initial final
+    × ListedAs initial before.output after.output status)
 
 -- of an input that tells what is left the whole is answered: what is not read changes nothing
 abbrev pub AnswersWhole : Type 0

@@ -22,9 +22,9 @@ GiveOneCommand =
 abbrev pub CompletesAlone : Command → List ℕ → Type 0
 CompletesAlone command text =
     (words : List (List ℕ)) (before after : Environment)
-    (left : Option SeenDisk) (status : ℕ) →
-    Gives words command → Run words before after left status →
-    NothingFailed before after left →
+    (returned : Option SeenDisk) (status : ℕ) →
+    Gives words command → Run words before after returned status →
+    NothingFailed before after returned →
     WroteAndEnded text (exit_status Done) before.output after.output status
 
 abbrev pub CompletesHelp : Type 0
@@ -37,7 +37,7 @@ CompletesVersion = CompletesAlone Version version_text
 abbrev pub CompletesRefusals : Type 0
 CompletesRefusals =
     (words : List (List ℕ)) (before after : Environment)
-    (left : Option SeenDisk) (status : ℕ) →
-    GivesNone words → Run words before after left status →
-    NothingFailed before after left →
+    (returned : Option SeenDisk) (status : ℕ) →
+    GivesNone words → Run words before after returned status →
+    NothingFailed before after returned →
     WroteAndEnded (codes "bad words\n") (exit_status BadWords) before.output after.output status

@@ -2,8 +2,10 @@ use Rattle.std.proofs.Common.{rules, inl, inr}
 use Rattle.target_top.proofs.init_command.prepare.Goals as goal
 
 pub returns-in-Err-NotEmpty : goal.returns-in-Err-NotEmpty
-returns-in-Err-NotEmpty g c = inr (inl (record {
-  octets = c.in-Err-NotEmpty.ensures.not_empty (search rules);
-  same = search rules;
-  output = c.print-in-Err-NotEmpty.ensures;
-}))
+returns-in-Err-NotEmpty g c = inr (inl (
+  search rules,
+  inl (record {
+    octets = c.in-Err-NotEmpty.ensures.not_empty (search rules);
+    output = c.print-in-Err-NotEmpty.ensures;
+  }),
+))
