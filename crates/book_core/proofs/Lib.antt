@@ -5,4 +5,5 @@ mod Exits
 mod Opened
 mod Openings
 mod Passing
+mod Reopening
 mod SinglePorts

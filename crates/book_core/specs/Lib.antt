@@ -1,5 +1,6 @@
 pub mod Calls
 pub mod inner
+pub mod laws
 pub mod Moments
 pub mod Openings
 pub mod Singles

@@ -1,5 +1,5 @@
 -- A port of a book that nobody else has.
-use Rattle.std.specs.Prelude.{◌≡◌, ℕ, ◌<◌, ◌-◌, List, [], ◌++◌, true, map, length, drop, Option, refl}
+use Rattle.std.specs.Prelude.{◌≡◌, ℕ, ◌<◌, ◌-◌, List, [], ◌++◌, true, map, length, drop, Option, Some, refl}
 use Rattle.std.specs.Coded.{Coded, code_by, coded×, coded_ℕ, coded_list}
 use Rattle.base_kinds.specs.declared.entry.Entry.{Entry}
 use Rattle.book_port.specs.declared.happening.Happening.{Happening}
@@ -15,12 +15,13 @@ pub record SingleView (D : Type 0) : Type 0 where
   pub start : BookView D
   pub finds : List (BookView D)
 
-module _ {D : Type 0} where
-  -- its own entries are those of its author past the start, and its marks are all that came since
+module _ {D : Type 0} (faults : D → ℕ) where
+  -- Its own entries are those of its author past the start, and its marks are all that came since. It
+  -- tells the faults of the disk, and its author is no number that was given out.
   abbrev pub port_of : SingleView D → PortView
   port_of single = record {
     opened = single.book.opened;
-    book = 0;
+    book = [];
     author = single.author;
     is_alone = true;
     start = history_in single.start;
@@ -30,6 +31,8 @@ module _ {D : Type 0} where
         (drop (length (history_in single.start)) (history_in single.book));
     marks = length (marks_of single.book.chronicle) - length (marks_of single.start.chronicle);
     met = [];
+    known = 0;
+    faults = Some (faults single.book.disk);
   }
 
 -- what came since goes on with what was there

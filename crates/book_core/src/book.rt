@@ -364,6 +364,7 @@ impl<D: Disk, T: TreeLike + Drop> Book<D, T> {
         ensures run { IsRun self.now.opened (history_in self.now) }
         ensures risen { self.now.opened.faults + length (marks_of self.now.chronicle)
             ≤ D.faults self.now.disk }
+        ensures few { length (marks_of self.now.chronicle) ≤ most_marks }
     {
         self.core.entries().len() as u64 + self.marks
     }

@@ -1,11 +1,12 @@
 -- What contracts see of a port of a book, through which one author sets and looks, and what one turn of it does.
-use Rattle.std.specs.Prelude.{◌≡◌, ◌≢◌, ◌⊎◌, ℕ, ◌+◌, ◌<◌, List, [], ◌∷◌, ◌++◌, Bool, false, Result, Ok, Err, IsTrue}
+use Rattle.std.specs.Prelude.{◌≡◌, ◌≢◌, ◌⊎◌, ℕ, ◌+◌, ◌<◌, max, List, [], ◌∷◌, ◌++◌, Bool, false, Option, Some, None, Result, Ok, Err, IsTrue}
 use Rattle.base_kinds.specs.declared.path.Elem.{Elem}
 use Rattle.base_kinds.specs.declared.entry.Ask.{Ask}
 use Rattle.base_kinds.specs.declared.entry.Entry.{Entry}
 use Rattle.base_kinds.specs.declared.entry.View.{View}
 use Rattle.base_kinds.specs.declared.refusal.Refusal.{Refusal}
 use Rattle.base_kinds.specs.declared.refusal.Refusal.TheVariants as refusals
+use Rattle.edge_traits.specs.Faults.{Rose}
 use Rattle.book_port.specs.Answers.{AnswersSet, AnswersLook}
 use Rattle.book_port.specs.Chronicles.{entries_by}
 use Rattle.book_port.specs.Follows.{Turn, OthersWentOn}
@@ -22,8 +23,8 @@ pub record PortEnd : Type 0 where
 
 pub record PortView : Type 0 where
   pub opened : Opened
-  -- which book it is of, among those that have several ports
-  pub book : ℕ
+  -- which book it is of, among those that have several ports: its name, a list of numbers
+  pub book : List ℕ
   pub author : ℕ
   -- nobody else has a port of this book
   pub is_alone : Bool
@@ -38,6 +39,14 @@ pub record PortView : Type 0 where
   pub marks : ℕ
   -- the ports that ended by meeting it, each behind those that had met that one
   pub met : List PortEnd
+  -- so many numbers of authors at least are given out
+  pub known : ℕ
+  -- how often the book's disk had failed, where the port tells it
+  pub faults : Option ℕ
+
+-- so many numbers of authors there are
+abbrev pub most_authors : ℕ
+most_authors = 4294967295
 
 abbrev pub end_of : PortView → PortEnd
 end_of port = record {
@@ -55,6 +64,15 @@ marks_after marks (Ok value) = marks
 marks_after marks (Err refusals.DiskFault) = marks + 1
 marks_after marks (Err refusal) = marks
 
+-- Where the port tells how often the disk had failed, that rose exactly where a fault of the disk ended the call.
+abbrev pub HasFaultCause : {T : Type 0} → Option ℕ → Result T Refusal → Option ℕ → Type 0
+HasFaultCause None result None = Unit {0}
+HasFaultCause None result (Some now) = ⊥
+HasFaultCause (Some before) result None = ⊥
+HasFaultCause (Some before) (Ok value) (Some now) = now ≡ before
+HasFaultCause (Some before) (Err refusals.DiskFault) (Some now) = Rose before now
+HasFaultCause (Some before) (Err refusal) (Some now) = now ≡ before
+
 -- One turn: it finds a history that begins with the one seen, and leaves one, which is then seen. Its author isn't the target.
 pub record TakesTurn {T : Type 0} (old : PortView) (turn : Turn) (result : Result T Refusal) (new : PortView) : Type 0 where
   pub own : 0 < old.author
@@ -64,11 +82,13 @@ pub record TakesTurn {T : Type 0} (old : PortView) (turn : Turn) (result : Resul
   pub left_run : IsRun old.opened turn.left
   pub more : List Entry
   pub goes_on : turn.left ≡ turn.found ++ more
+  pub fault : HasFaultCause old.faults result new.faults
   pub new_is : new ≡ record old {
     seen = turn.left;
     finds = old.finds ++ turn.found ∷ [];
     made = old.made ++ entries_by old.author more;
     marks = marks_after old.marks result;
+    faults = new.faults;
   }
 
 -- a Set takes one turn, and is answered at the history that the turn found
@@ -97,10 +117,12 @@ TakesTurns old [] new = new ≡ old
 TakesTurns old (turn ∷ turns) new =
     (next : PortView) × TakesOne old turn next × TakesTurns next turns new
 
--- A further port was made: it has seen what the other one has, and has another author. Neither is alone.
+-- A further port was made: it has seen what the other one has, and has another author, whose number wasn't known to be given
+-- out. Neither is alone.
 pub record IsTwin (old new twin : PortView) : Type 0 where
   pub new_is : new ≡ record old { is_alone = false }
   pub other : twin.author ≢ old.author
+  pub later : old.known < twin.author
   pub own : 0 < old.author
   pub some : 0 < twin.author
   pub twin_is : twin ≡ record {
@@ -114,7 +136,13 @@ pub record IsTwin (old new twin : PortView) : Type 0 where
     made = [];
     marks = 0;
     met = [];
+    known = twin.author;
+    faults = old.faults;
   }
+
+-- what a port knows from then on that learns that all numbers are given out
+abbrev pub knows_all : PortView → PortView
+knows_all port = record port { known = most_authors }
 
 -- both are ports of one book
 pub record CanMeet (port other : PortView) : Type 0 where
@@ -127,4 +155,8 @@ pub record Meets (old other new : PortView) : Type 0 where
   pub seen : (new.seen ≡ old.seen) ⊎ (new.seen ≡ other.seen)
   pub has_own : OthersWentOn old.author old.seen new.seen
   pub has_other : OthersWentOn other.author other.seen new.seen
-  pub new_is : new ≡ record old { seen = new.seen; met = old.met ++ (other.met ++ end_of other ∷ []) }
+  pub new_is : new ≡ record old {
+    seen = new.seen;
+    met = old.met ++ (other.met ++ end_of other ∷ []);
+    known = max old.known other.known;
+  }

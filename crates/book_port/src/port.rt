@@ -1,6 +1,6 @@
-ghost use Rattle.std.specs.Prelude.{◌≡◌, IfOk, OnErr, false};
+ghost use Rattle.std.specs.Prelude.{◌≡◌, IfOk, IsErrOf};
 ghost use Rattle.base_kinds.specs.Legal.{IsFit};
-ghost use Rattle.book_port.specs.Ports.{PortView, SetsOnce, LooksOnce, IsTwin, Meets, CanMeet};
+ghost use Rattle.book_port.specs.Ports.{PortView, SetsOnce, LooksOnce, IsTwin, Meets, CanMeet, knows_all, most_authors};
 
 use base_kinds::{Ask, Paths, Refusal, View};
 use std::alloc::Global;
@@ -33,9 +33,14 @@ pub enum PassFault {
 /// A port of a book that others reach too, through ports that are made of it.
 pub trait Twin: BookPort {
     /// A further port of the same book, whose author is another one.
+    ///
+    /// `Spent`: all 4,294,967,295 numbers are given out, as this port knows from then on. Where it knew so before there is no
+    /// further port.
     fn twin(&mut self) -> Result<Self, PassFault>
         ensures ok { IfOk result (λ twin. IsTwin (Self.port self.old) (Self.port self.new) (Self.port twin)) }
-        ensures err { OnErr result (Self.port self.new ≡ Self.port self.old) };
+        ensures spent { IsErrOf result PassFault.Spent → Self.port self.new ≡ knows_all (Self.port self.old) }
+        ensures memory { IsErrOf result PassFault.NoMemory → Self.port self.new ≡ Self.port self.old }
+        ensures always { (Self.port self.old).known ≡ most_authors → IfOk result (λ _. ⊥) };
 
     /// Ends another port of the same book. What that one has seen, this one has seen then.
     fn meet(&mut self, other: Self)

@@ -1,13 +1,13 @@
 -- The definitions on small chronicles and turns.
-use Rattle.std.specs.Prelude.{◌≡◌, [], ◌∷◌, ◌++◌, Ok, Err, refl, ℕ, List, Result}
+use Rattle.std.specs.Prelude.{◌≡◌, [], ◌∷◌, Err, refl, ℕ, List, Result}
 use Rattle.base_kinds.specs.declared.entry.Entry.{Entry}
 use Rattle.base_kinds.specs.declared.entry.Kind.TheVariants as kinds
 use Rattle.base_kinds.specs.declared.refusal.Refusal.{Refusal}
 use Rattle.base_kinds.specs.declared.refusal.Refusal.TheVariants as refusals
 use Rattle.book_port.specs.declared.happening.Happening.{Happening}
 use Rattle.book_port.specs.declared.happening.Happening.TheVariants.{Entered, Marked}
-use Rattle.book_port.specs.Chronicles.{history_of, marks_of, mark_after, entered, entries_by}
-use Rattle.book_port.specs.Follows.{Turn, OthersWentOn, Follows, made_by}
+use Rattle.book_port.specs.Chronicles.{history_of, marks_of, mark_after, entries_by}
+use Rattle.book_port.specs.Follows.{Turn, Follows, made_by}
 use Rattle.book_port.specs.Opened.{reopened}
 
 -- author 7 begins a trial, and a start of the target ends it

@@ -14,10 +14,10 @@ use Rattle.book_core.proofs.single.SingleBookPort.set.Goals as goal
 pub returns-clause-once : goal.returns-clause-once
 returns-clause-once g c =
     let old : SingleView g.row.D.Denot = record { book = c.self.inside.book; author = c.self.inside.author; start = c.self.inside.start.value; finds = c.self.inside.finds } in
-    subst (λ (o : SingleView g.row.D.Denot). SetsOnce (port_of o) c.args.now c.args.ask c.set.result (port_of (record old { book = c.set.new.self; finds = c.remember.new.self }))) c.self.view_is (record {
-      turn = its_turn c.args.now old c.self.invariant c.set.result c.set.new.self c.set.ensures.run c.set.ensures.run_on c.set.ensures.opened c.set.ensures.adds;
+    subst (λ (o : SingleView g.row.D.Denot). SetsOnce (port_of g.D.Disk.faults o) c.args.now c.args.ask c.set.result (port_of g.D.Disk.faults (record old { book = c.set.new.self; finds = c.remember.new.self }))) c.self.view_is (record {
+      turn = its_turn g.D.Disk.faults c.args.now old c.self.invariant c.set.result c.set.new.self c.set.ensures.run c.set.ensures.run_on c.set.ensures.opened c.set.ensures.adds;
       reading = refl;
-      taken = subst (λ finds. TakesTurn (port_of old) (its_turn c.args.now old c.self.invariant c.set.result c.set.new.self c.set.ensures.run c.set.ensures.run_on c.set.ensures.opened c.set.ensures.adds) c.set.result (port_of (record old { book = c.set.new.self; finds = finds }))) (sym c.remember.ensures) (single_turn c.args.now old c.self.invariant c.set.result c.set.new.self c.set.ensures.run c.set.ensures.run_on c.set.ensures.opened c.set.ensures.adds);
+      taken = subst (λ finds. TakesTurn (port_of g.D.Disk.faults old) (its_turn g.D.Disk.faults c.args.now old c.self.invariant c.set.result c.set.new.self c.set.ensures.run c.set.ensures.run_on c.set.ensures.opened c.set.ensures.adds) c.set.result (port_of g.D.Disk.faults (record old { book = c.set.new.self; finds = finds }))) (sym c.remember.ensures) (single_turn g.D.Disk.faults c.args.now old c.self.invariant c.set.result c.set.new.self c.set.ensures.run c.set.ensures.run_on c.set.ensures.opened c.set.ensures.adds c.set.ensures.fault c.set.ensures.quiet);
       answer = c.set.ensures.answer;
     })
 
