@@ -1,6 +1,7 @@
 -- Openings behind a stop, and what may be in doubt.
 use Rattle.std.proofs.Common.{◌≡◌, ◌⊎◌, inl, inr, ℕ, ◌<◌, List, [], ◌∷◌, ◌++◌, false, Option, Some, None, Result, Ok, Err, refl, sym, ap, ◌∙◌, subst, if◌then◌else◌}
 use Rattle.std.specs.List.{AllByRecursion}
+use Rattle.std.proofs.lemmas.List.{append_cancel_right}
 use Rattle.base_kinds.specs.declared.operation.Row.{Row}
 use Rattle.base_kinds.specs.declared.entry.Ask.{Ask}
 use Rattle.base_kinds.specs.declared.entry.Entry.{Entry}
@@ -16,7 +17,8 @@ use Rattle.history_laws.proofs.States.{world_after_one}
 use Rattle.disk_model.specs.Calls.{Fuse}
 use Rattle.disk_model.specs.Content.{Content, Tells}
 use Rattle.disk_model.specs.Images.{IsImage}
-use Rattle.disk_model.specs.Moments.{LeavesNow}
+use Rattle.disk_model.specs.Moments.{Each, HoldsThroughout, Leaves, LeavesNow, LeavesOnly}
+use Rattle.disk_model.proofs.Moving.{leaves_weaker, leaves_then}
 use Rattle.journal_format.specs.Journal.{IsJournal, IsDamaged}
 use Rattle.journal_format.proofs.Runs.{one_history, not_both}
 use Rattle.commit_journal.specs.Images.{IsOneOf, IsJournalOr, IsJournalOfAny, histories_or}
@@ -28,11 +30,11 @@ use Rattle.book_port.proofs.Chronicled.{history_of_entered}
 use Rattle.book_port.proofs.Runs.{run_on, run_is_base, run_accepts, run_at_expiry, reopened_has_no_trial, reopened_once}
 use Rattle.book_core.specs.declared.opening.BookOpening.{BookOpening}
 use Rattle.book_core.specs.declared.opening.BookOpening.TheVariants.{Ready, Damaged, Unfit, DiskFault, NoMemory}
-use Rattle.book_core.specs.Moments.{IsAttempted, IsDoubted}
+use Rattle.book_core.specs.Moments.{GoesThrough, IsAttempted, IsDoubted}
 use Rattle.book_core.specs.Openings.{Opens, IsReady}
 use Rattle.book_core.specs.Views.{BookView, history_in}
 use Rattle.book_core.specs.laws.DoubtLaws.{IsRunWith}
-use Rattle.book_core.specs.laws.ReopeningLaws.{CanReopen, GoesOnFrom, Reopens}
+use Rattle.book_core.specs.laws.ReopeningLaws.{CanReopen, GoesOnFrom, Reopens, IsAmong, IsMoment}
 
 -- ---- the tree behind the end of an open trial
 
@@ -63,7 +65,7 @@ of_one P [] h all is = absurd is
 of_one P (first ∷ histories) h all (inl is) = subst P (sym is) all.0
 of_one P (first ∷ histories) h all (inr is) = of_one P histories h all.1 is
 
-module _ {D C : Type 0} (told : D → Option Content) (faults : D → ℕ) (fuse : D → Fuse) (disk : D) where
+module _ {D : Type 0} (C : Type 0) (told : D → Option Content) (faults : D → ℕ) (fuse : D → Fuse) (disk : D) where
   -- what is found is the journal that is there
   found_is : (content : Content) (limits found_limits : Limits) (h found : List Entry) → told disk ≡ Some content → IsJournal content.seen limits h → Tells (told disk) (λ c. IsJournal c.seen found_limits found) → (limits ≡ found_limits) × (h ≡ found)
   found_is content limits found_limits h found is journal tells = one_history content.seen limits found_limits h found journal (subst (λ t. Tells t (λ c. IsJournal c.seen found_limits found)) is tells)
@@ -97,11 +99,61 @@ both_can : (opened : Opened) (h : List Entry) (doubt : Option Entry) → IsRun o
 both_can opened h None run with = (runs_can_reopen opened h run, tt)
 both_can opened h (Some attempt) run with = (runs_can_reopen opened h run, runs_can_reopen opened (h ++ attempt ∷ []) with, tt)
 
-pub books_reopen : {D C : Type 0} (told : D → Option Content) (faults : D → ℕ) (fuse : D → Fuse) (disk : D) (left content : Content) (opened : Opened) (h : List Entry) (doubt : Option Entry) (now : ℕ) (opening : BookOpening D C)
+pub books_reopen : {D : Type 0} (C : Type 0) (told : D → Option Content) (faults : D → ℕ) (fuse : D → Fuse) (disk : D) (left content : Content) (opened : Opened) (h : List Entry) (doubt : Option Entry) (now : ℕ) (opening : BookOpening D C)
     → IsRun opened h → IsRunWith opened h doubt → LeavesNow (IsJournalOr opened.limits h doubt) (Some left) → told disk ≡ Some content → IsImage left.mask content.seen → Opens told faults fuse disk opened.schema now opening
     → Reopens opened.limits (histories_or h doubt) now opening
-books_reopen told faults fuse disk left content opened h doubt now opening run with leaves is image opens =
-    journals_reopen told faults fuse disk content opened.schema opened.limits (histories_or h doubt) now opening is ((one_of_two opened.limits h doubt content.seen).0 (leaves content.seen image)) (both_can opened h doubt run with) opens
+books_reopen C told faults fuse disk left content opened h doubt now opening run with leaves is image opens =
+    journals_reopen C told faults fuse disk content opened.schema opened.limits (histories_or h doubt) now opening is ((one_of_two opened.limits h doubt content.seen).0 (leaves content.seen image)) (both_can opened h doubt run with) opens
+
+-- ---- at any moment of a call
+
+all_of_both : (P : List Entry → Type 0) (xs ys : List (List Entry)) → AllByRecursion P xs → AllByRecursion P ys → AllByRecursion P (xs ++ ys)
+all_of_both P [] ys first second = second
+all_of_both P (x ∷ xs) ys first second = (first.0, all_of_both P xs ys first.1 second)
+
+all_can : (opened : Opened) (hs : List (List Entry)) → AllByRecursion (IsRun opened) hs → AllByRecursion (CanReopen opened.schema) hs
+all_can opened [] runs = tt
+all_can opened (h ∷ hs) runs = (runs_can_reopen opened h runs.0, all_can opened hs runs.1)
+
+of_first : (limits : Limits) (xs ys : List (List Entry)) (octets : List ℕ) → IsJournalOfAny limits xs octets → IsJournalOfAny limits (xs ++ ys) octets
+of_first limits [] ys octets any = absurd any
+of_first limits (x ∷ xs) ys octets (inl journal) = inl journal
+of_first limits (x ∷ xs) ys octets (inr any) = inr (of_first limits xs ys octets any)
+
+of_second : (limits : Limits) (xs ys : List (List Entry)) (octets : List ℕ) → IsJournalOfAny limits ys octets → IsJournalOfAny limits (xs ++ ys) octets
+of_second limits [] ys octets any = any
+of_second limits (x ∷ xs) ys octets any = inr (of_second limits xs ys octets any)
+
+each_among : (P : List (Option ℕ) → Type 0) (later : List (List (Option ℕ))) (first mask : List (Option ℕ)) → Each P later → P first → IsAmong mask (later ++ first ∷ []) → P mask
+each_among P [] first mask each at_first (inl is) = subst P (sym is) at_first
+each_among P [] first mask each at_first (inr none) = absurd none
+each_among P (other ∷ later) first mask each at_first (inl is) = subst P (sym is) each.0
+each_among P (other ∷ later) first mask each at_first (inr among) = each_among P later first mask each.1 at_first among
+
+at_moment : (P : List (Option ℕ) → Type 0) (old new : Content) (mask : List (Option ℕ)) → HoldsThroughout P old new → IsMoment old new mask → P mask
+at_moment P old new mask holds moment =
+    let same : holds.later ≡ moment.later = append_cancel_right holds.later moment.later (old.mask ∷ old.past) (sym holds.past ∙ moment.past) in
+    each_among P holds.later old.mask mask holds.each holds.first (subst (λ masks. IsAmong mask (masks ++ old.mask ∷ [])) (sym same) moment.among)
+
+through_call : (limits : Limits) (h : List Entry) (doubt : Option Entry) (stages : List (List Entry)) (doubt_left : Option Entry) (old new : Content)
+    → GoesThrough limits h doubt stages doubt_left (Some old) (Some new) → LeavesOnly (IsJournalOfAny limits (histories_or h doubt ++ stages)) (Some old) (Some new)
+through_call limits h doubt stages doubt_left old new (inl kept) =
+    leaves_weaker (IsJournalOr limits h doubt) (IsJournalOfAny limits (histories_or h doubt ++ stages)) (Some old) (Some new)
+    (λ octets journal. of_first limits (histories_or h doubt) stages octets ((one_of_two limits h doubt octets).0 journal)) kept.2
+through_call limits h doubt stages doubt_left old new (inr settles) =
+    leaves_then (IsJournalOfAny limits (histories_or h doubt ++ stages)) (Some old) (Some settles.between) (Some new)
+    (leaves_weaker (IsJournalOr limits h doubt) (IsJournalOfAny limits (histories_or h doubt ++ stages)) (Some old) (Some settles.between)
+    (λ octets journal. of_first limits (histories_or h doubt) stages octets ((one_of_two limits h doubt octets).0 journal)) settles.before)
+    (leaves_weaker (IsJournalOfAny limits stages) (IsJournalOfAny limits (histories_or h doubt ++ stages)) (Some settles.between) (Some new)
+    (λ octets journal. of_second limits (histories_or h doubt) stages octets journal) settles.after)
+
+pub calls_reopen : {D : Type 0} (C : Type 0) (told : D → Option Content) (faults : D → ℕ) (fuse : D → Fuse) (disk : D) (old new content : Content) (mask : List (Option ℕ)) (opened : Opened) (h : List Entry) (doubt : Option Entry) (stages : List (List Entry)) (doubt_left : Option Entry) (now : ℕ) (opening : BookOpening D C)
+    → IsRun opened h → IsRunWith opened h doubt → AllByRecursion (IsRun opened) stages → GoesThrough opened.limits h doubt stages doubt_left (Some old) (Some new) → IsMoment old new mask → told disk ≡ Some content → IsImage mask content.seen
+    → Opens told faults fuse disk opened.schema now opening → Reopens opened.limits (histories_or h doubt ++ stages) now opening
+calls_reopen C told faults fuse disk old new content mask opened h doubt stages doubt_left now opening run with runs through moment is image opens =
+    journals_reopen C told faults fuse disk content opened.schema opened.limits (histories_or h doubt ++ stages) now opening is
+    (at_moment (Leaves (IsJournalOfAny opened.limits (histories_or h doubt ++ stages))) old new mask (through_call opened.limits h doubt stages doubt_left old new through) moment content.seen image)
+    (all_of_both (CanReopen opened.schema) (histories_or h doubt) stages (both_can opened h doubt run with) (all_can opened stages runs)) opens
 
 -- ---- what is in doubt
 

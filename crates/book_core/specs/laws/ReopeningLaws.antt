@@ -1,5 +1,5 @@
 -- What the opening of a disk gives that a stop has left, under the schema of the book that was there.
-use Rattle.std.specs.Prelude.{◌≡◌, ℕ, List, Option, Some, None}
+use Rattle.std.specs.Prelude.{◌≡◌, ◌⊎◌, ℕ, List, [], ◌∷◌, ◌++◌, Option, Some, None}
 use Rattle.std.specs.List.{AllByRecursion}
 use Rattle.base_kinds.specs.declared.entry.Entry.{Entry}
 use Rattle.base_kinds.specs.declared.entry.Limits.{Limits}
@@ -14,6 +14,7 @@ use Rattle.commit_journal.specs.Images.{IsOneOf, IsJournalOr, IsJournalOfAny, hi
 use Rattle.book_port.specs.Opened.{Opened, IsRun, reopened}
 use Rattle.book_core.specs.declared.opening.BookOpening.{BookOpening}
 use Rattle.book_core.specs.declared.opening.BookOpening.TheVariants.{Ready, Damaged, Unfit, DiskFault, NoMemory}
+use Rattle.book_core.specs.Moments.{GoesThrough}
 use Rattle.book_core.specs.Openings.{Opens}
 use Rattle.book_core.specs.Views.{BookView, history_in}
 use Rattle.book_core.specs.laws.DoubtLaws.{IsRunWith}
@@ -54,23 +55,44 @@ SoundCanReopen = (schema : List SchemaNode) (h : List Entry) (now : ℕ)
     → IsSound schema (world_of (reopened h now)).tree
     → CanReopen schema h × CanReopen schema (reopened h now)
 
--- A disk with a journal of one of these histories is opened to go on from it.
-abbrev pub JournalsReopen : Type 0
-JournalsReopen = {D C : Type 0} (told : D → Option Content) (faults : D → ℕ) (fuse : D → Fuse)
-    (disk : D) (content : Content) (schema : List SchemaNode) (limits : Limits)
-    (histories : List (List Entry)) (now : ℕ) (opening : BookOpening D C)
-    → told disk ≡ Some content → IsJournalOfAny limits histories content.seen
-    → AllByRecursion (CanReopen schema) histories
-    → Opens told faults fuse disk schema now opening → Reopens limits histories now opening
+abbrev pub IsAmong : List (Option ℕ) → List (List (Option ℕ)) → Type 0
+IsAmong mask [] = ⊥
+IsAmong mask (other ∷ masks) = (mask ≡ other) ⊎ IsAmong mask masks
 
--- So whatever a stop leaves of a book's disk is opened under the book's schema to go on from its
--- history, or from that with what was in doubt.
-abbrev pub BooksReopen : Type 0
-BooksReopen = {D C : Type 0} (told : D → Option Content) (faults : D → ℕ) (fuse : D → Fuse)
-    (disk : D) (left content : Content) (opened : Opened) (h : List Entry) (doubt : Option Entry)
-    (now : ℕ) (opening : BookOpening D C)
-    → IsRun opened h → IsRunWith opened h doubt
-    → LeavesNow (IsJournalOr opened.limits h doubt) (Some left)
-    → told disk ≡ Some content → IsImage left.mask content.seen
-    → Opens told faults fuse disk opened.schema now opening
-    → Reopens opened.limits (histories_or h doubt) now opening
+-- At old, or at a moment after it up to new, a stop left an image of this mask.
+pub record IsMoment (old new : Content) (mask : List (Option ℕ)) : Type 0 where
+  pub later : List (List (Option ℕ))
+  pub past : new.mask ∷ new.past ≡ later ++ (old.mask ∷ old.past)
+  pub among : IsAmong mask (later ++ old.mask ∷ [])
+
+module _ {D : Type 0} (C : Type 0) (told : D → Option Content) (faults : D → ℕ) (fuse : D → Fuse) where
+  -- A disk with a journal of one of these histories is opened to go on from it.
+  abbrev pub JournalsReopen : Type 0
+  JournalsReopen = (disk : D) (content : Content) (schema : List SchemaNode) (limits : Limits)
+      (histories : List (List Entry)) (now : ℕ) (opening : BookOpening D C)
+      → told disk ≡ Some content → IsJournalOfAny limits histories content.seen
+      → AllByRecursion (CanReopen schema) histories
+      → Opens told faults fuse disk schema now opening → Reopens limits histories now opening
+
+  -- So whatever a stop leaves of a book's disk is opened under the book's schema to go on from its
+  -- history, or from that with what was in doubt.
+  abbrev pub BooksReopen : Type 0
+  BooksReopen = (disk : D) (left content : Content) (opened : Opened) (h : List Entry)
+      (doubt : Option Entry) (now : ℕ) (opening : BookOpening D C)
+      → IsRun opened h → IsRunWith opened h doubt
+      → LeavesNow (IsJournalOr opened.limits h doubt) (Some left)
+      → told disk ≡ Some content → IsImage left.mask content.seen
+      → Opens told faults fuse disk opened.schema now opening
+      → Reopens opened.limits (histories_or h doubt) now opening
+
+  -- What a stop leaves at any moment of a call goes on too: from the history found, from that with
+  -- what was in doubt, or from one that the call goes through.
+  abbrev pub CallsReopen : Type 0
+  CallsReopen = (disk : D) (old new content : Content) (mask : List (Option ℕ)) (opened : Opened)
+      (h : List Entry) (doubt : Option Entry) (stages : List (List Entry))
+      (doubt_left : Option Entry) (now : ℕ) (opening : BookOpening D C)
+      → IsRun opened h → IsRunWith opened h doubt → AllByRecursion (IsRun opened) stages
+      → GoesThrough opened.limits h doubt stages doubt_left (Some old) (Some new)
+      → IsMoment old new mask → told disk ≡ Some content → IsImage mask content.seen
+      → Opens told faults fuse disk opened.schema now opening
+      → Reopens opened.limits (histories_or h doubt ++ stages) now opening
