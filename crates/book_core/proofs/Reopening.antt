@@ -22,7 +22,6 @@ use Rattle.disk_model.proofs.Moving.{leaves_weaker, leaves_then}
 use Rattle.journal_format.specs.Journal.{IsJournal, IsDamaged}
 use Rattle.journal_format.proofs.Runs.{one_history, not_both}
 use Rattle.commit_journal.specs.Images.{IsOneOf, IsJournalOr, IsJournalOfAny, histories_or}
-use Rattle.commit_journal.proofs.AnyOf.{one_of_them, one_of_two}
 use Rattle.book_port.specs.Answers.{set_stages, look_stages}
 use Rattle.book_port.specs.Chronicles.{history_of}
 use Rattle.book_port.specs.Opened.{Opened, IsRun, rules_in, reopened, restart_entry}
@@ -60,6 +59,16 @@ sound_can_reopen schema h now sound =
 
 -- ---- openings
 
+any_is_one : (limits : Limits) (histories : List (List Entry)) (octets : List ℕ) → IsJournalOfAny limits histories octets → (h : List Entry) × IsOneOf histories h × IsJournal octets limits h
+any_is_one limits [] octets any = absurd any
+any_is_one limits (h ∷ histories) octets (inl journal) = (h, inl refl, journal)
+any_is_one limits (h ∷ histories) octets (inr any) = let one = any_is_one limits histories octets any in (one.0, inr one.1, one.2)
+
+or_is_any : (limits : Limits) (h : List Entry) (doubt : Option Entry) (octets : List ℕ) → IsJournalOr limits h doubt octets → IsJournalOfAny limits (histories_or h doubt) octets
+or_is_any limits h None octets journal = inl journal
+or_is_any limits h (Some attempt) octets (inl journal) = inl journal
+or_is_any limits h (Some attempt) octets (inr journal) = inr (inl journal)
+
 of_one : (P : List Entry → Type 0) (histories : List (List Entry)) (h : List Entry) → AllByRecursion P histories → IsOneOf histories h → P h
 of_one P [] h all is = absurd is
 of_one P (first ∷ histories) h all (inl is) = subst P (sym is) all.0
@@ -73,7 +82,7 @@ module _ {D : Type 0} (C : Type 0) (told : D → Option Content) (faults : D →
   pub journals_reopen : (content : Content) (schema : List SchemaNode) (limits : Limits) (histories : List (List Entry)) (now : ℕ) (opening : BookOpening D C)
       → told disk ≡ Some content → IsJournalOfAny limits histories content.seen → AllByRecursion (CanReopen schema) histories → Opens told faults fuse disk schema now opening → Reopens limits histories now opening
   journals_reopen content schema limits histories now (Ready book) is any can ready =
-      let one = (one_of_them limits histories content.seen).0 any in
+      let one = any_is_one limits histories content.seen any in
       let same = found_is content limits book.opened.limits one.0 ready.found is one.2 ready.has_journal.journal in
       let history : history_in book ≡ reopened ready.found now = ap history_of ready.chronicle ∙ history_of_entered (reopened ready.found now) in
       record {
@@ -86,10 +95,10 @@ module _ {D : Type 0} (C : Type 0) (told : D → Option Content) (faults : D →
         no_doubt = ready.no_doubt;
       }
   journals_reopen content schema limits histories now (Damaged place left) is any can damaged =
-      let one = (one_of_them limits histories content.seen).0 any in
+      let one = any_is_one limits histories content.seen any in
       not_both content.seen limits one.0 place one.2 (subst (λ t. Tells t (λ c. IsDamaged c.seen place)) is damaged.damaged.damaged)
   journals_reopen content schema limits histories now (Unfit left) is any can unfit =
-      let one = (one_of_them limits histories content.seen).0 any in
+      let one = any_is_one limits histories content.seen any in
       let same = found_is content limits unfit.limits one.0 unfit.found is one.2 unfit.has_journal.journal in
       unfit.unsound (subst (CanReopen schema) same.1 (of_one (CanReopen schema) histories one.0 can one.1) now)
   journals_reopen content schema limits histories now (DiskFault left) is any can faulty = tt
@@ -97,13 +106,13 @@ module _ {D : Type 0} (C : Type 0) (told : D → Option Content) (faults : D →
 
 both_can : (opened : Opened) (h : List Entry) (doubt : Option Entry) → IsRun opened h → IsRunWith opened h doubt → AllByRecursion (CanReopen opened.schema) (histories_or h doubt)
 both_can opened h None run with = (runs_can_reopen opened h run, tt)
-both_can opened h (Some attempt) run with = (runs_can_reopen opened h run, runs_can_reopen opened (h ++ attempt ∷ []) with, tt)
+both_can opened h (Some attempt) run with = (runs_can_reopen opened h run, (runs_can_reopen opened (h ++ attempt ∷ []) with, tt))
 
 pub books_reopen : {D : Type 0} (C : Type 0) (told : D → Option Content) (faults : D → ℕ) (fuse : D → Fuse) (disk : D) (left content : Content) (opened : Opened) (h : List Entry) (doubt : Option Entry) (now : ℕ) (opening : BookOpening D C)
     → IsRun opened h → IsRunWith opened h doubt → LeavesNow (IsJournalOr opened.limits h doubt) (Some left) → told disk ≡ Some content → IsImage left.mask content.seen → Opens told faults fuse disk opened.schema now opening
     → Reopens opened.limits (histories_or h doubt) now opening
 books_reopen C told faults fuse disk left content opened h doubt now opening run with leaves is image opens =
-    journals_reopen C told faults fuse disk content opened.schema opened.limits (histories_or h doubt) now opening is ((one_of_two opened.limits h doubt content.seen).0 (leaves content.seen image)) (both_can opened h doubt run with) opens
+    journals_reopen C told faults fuse disk content opened.schema opened.limits (histories_or h doubt) now opening is (or_is_any opened.limits h doubt content.seen (leaves content.seen image)) (both_can opened h doubt run with) opens
 
 -- ---- at any moment of a call
 
@@ -139,11 +148,11 @@ through_call : (limits : Limits) (h : List Entry) (doubt : Option Entry) (stages
     → GoesThrough limits h doubt stages doubt_left (Some old) (Some new) → LeavesOnly (IsJournalOfAny limits (histories_or h doubt ++ stages)) (Some old) (Some new)
 through_call limits h doubt stages doubt_left old new (inl kept) =
     leaves_weaker (IsJournalOr limits h doubt) (IsJournalOfAny limits (histories_or h doubt ++ stages)) (Some old) (Some new)
-    (λ octets journal. of_first limits (histories_or h doubt) stages octets ((one_of_two limits h doubt octets).0 journal)) kept.2
+    (λ octets journal. of_first limits (histories_or h doubt) stages octets (or_is_any limits h doubt octets journal)) kept.2
 through_call limits h doubt stages doubt_left old new (inr settles) =
     leaves_then (IsJournalOfAny limits (histories_or h doubt ++ stages)) (Some old) (Some settles.between) (Some new)
     (leaves_weaker (IsJournalOr limits h doubt) (IsJournalOfAny limits (histories_or h doubt ++ stages)) (Some old) (Some settles.between)
-    (λ octets journal. of_first limits (histories_or h doubt) stages octets ((one_of_two limits h doubt octets).0 journal)) settles.before)
+    (λ octets journal. of_first limits (histories_or h doubt) stages octets (or_is_any limits h doubt octets journal)) settles.before)
     (leaves_weaker (IsJournalOfAny limits stages) (IsJournalOfAny limits (histories_or h doubt ++ stages)) (Some settles.between) (Some new)
     (λ octets journal. of_second limits (histories_or h doubt) stages octets journal) settles.after)
 
@@ -158,14 +167,14 @@ calls_reopen C told faults fuse disk old new content mask opened h doubt stages 
 -- ---- what is in doubt
 
 pub set_stages_are_runs : (opened : Opened) (h : List Entry) (now author : ℕ) (ask : Ask) → IsRun opened h → 0 < author → IsFit ask → AllByRecursion (IsRun opened) (set_stages (rules_in opened) h now author ask)
-set_stages_are_runs opened h now author ask run some fit = (run, run_at_expiry opened h now run, answered (step (rules_in opened) h now author ask) refl, tt)
+set_stages_are_runs opened h now author ask run some fit = (run, (run_at_expiry opened h now run, (answered (step (rules_in opened) h now author ask) refl, tt)))
   where
     answered : (answer : Result Entry Refusal) → step (rules_in opened) h now author ask ≡ answer → IsRun opened (with_answer (after_expiry h now) answer)
     answered (Ok entry) is = run_on opened (after_expiry h now) entry (run_at_expiry opened h now run) (run_accepts opened (after_expiry h now) now author ask entry (run_at_expiry opened h now run) some fit (quiet_after_clock h now) is)
     answered (Err refusal) is = run_at_expiry opened h now run
 
 pub look_stages_are_runs : (opened : Opened) (h : List Entry) (now : ℕ) → IsRun opened h → AllByRecursion (IsRun opened) (look_stages h now)
-look_stages_are_runs opened h now run = (run, run_at_expiry opened h now run, tt)
+look_stages_are_runs opened h now run = (run, (run_at_expiry opened h now run, tt))
 
 attempted_is_run : (opened : Opened) (stages : List (List Entry)) (left : List Entry) (doubt : Option Entry) → AllByRecursion (IsRun opened) stages → IsAttempted stages left doubt → IsRunWith opened left doubt
 attempted_is_run opened stages left None all is = tt
