@@ -1,17 +1,16 @@
 -- What the parts of a call answer and add.
-use Rattle.std.proofs.Common.{◌≡◌, ◌≢◌, ◌⊎◌, inl, inr, ℕ, List, [], ◌∷◌, ◌++◌, Bool, true, false, Option, Some, None, Result, Ok, Err, IsErrAnd, refl, sym, ap, ◌∙◌, subst, append-nil, append_assoc, if◌then◌else◌}
+use Rattle.std.proofs.Common.{◌≡◌, ◌≢◌, inl, inr, ℕ, List, [], ◌∷◌, ◌++◌, false, Option, Some, None, Result, Ok, Err, IsErrAnd, refl, sym, ap, ◌∙◌, subst, append-nil, append_assoc}
 use Rattle.std.specs.List.{AllByRecursion}
 use Rattle.std.proofs.lemmas.List.{map-append}
-use Rattle.base_lists.specs.Results.{IsUnlessMemory}
 use Rattle.base_kinds.specs.declared.entry.Entry.{Entry}
 use Rattle.base_kinds.specs.declared.entry.Ask.{Ask}
 use Rattle.base_kinds.specs.declared.refusal.Refusal.{Refusal}
 use Rattle.base_kinds.specs.declared.refusal.Refusal.TheVariants as refusals
 use Rattle.base_kinds.specs.Step.{Rules, is_due, after_expiry, step, judge, with_answer}
 use Rattle.book_port.specs.declared.happening.Happening.{Happening}
-use Rattle.book_port.specs.declared.happening.Happening.TheVariants.{Entered, Marked}
-use Rattle.book_port.specs.Answers.{IsCutShort, IsAccepted, IsRefused, AnswersSet, AnswersLook, set_stages, look_stages}
-use Rattle.book_port.specs.Chronicles.{history_of, marks_of, entered, mark_after, IsBy, Adds}
+use Rattle.book_port.specs.declared.happening.Happening.TheVariants.{Entered}
+use Rattle.book_port.specs.Answers.{AnswersSet, set_stages, look_stages}
+use Rattle.book_port.specs.Chronicles.{marks_of, entered, mark_after, IsBy, Adds}
 use Rattle.book_port.proofs.Answering.{quiet_expiry, expires_once, step_again, judged_without_disk}
 use Rattle.book_port.proofs.Chronicled.{marks_of_more, marks_of_entered}
 use Rattle.book_core.specs.Moments.{IsAttempted}

@@ -1,13 +1,13 @@
 -- How many calls of the disk a call of a book makes, part by part.
-use Rattle.std.proofs.Common.{◌≡◌, ◌≢◌, ◌⊎◌, inl, inr, ℕ, ◌+◌, ◌≤◌, ◌<◌, List, Bool, true, false, Option, Some, None, Result, Ok, Err, refl, sym, ap, ◌∙◌, subst, arith}
+use Rattle.std.proofs.Common.{◌≡◌, ◌≢◌, inl, inr, ℕ, ◌+◌, List, Option, Some, None, Result, Ok, Err, refl, sym, ap, subst, arith}
 use Rattle.base_kinds.specs.declared.entry.Entry.{Entry}
 use Rattle.base_kinds.specs.declared.refusal.Refusal.{Refusal}
 use Rattle.base_kinds.specs.declared.refusal.Refusal.TheVariants as refusals
-use Rattle.base_kinds.specs.Step.{is_due, after_expiry}
-use Rattle.disk_model.specs.Calls.{Fuse, CallsPassed, CallsFailed, FailsWithin, PassesWithin}
+use Rattle.base_kinds.specs.Step.{after_expiry}
+use Rattle.disk_model.specs.Calls.{Fuse, CallsPassed, CallsFailed, FailsWithin}
 use Rattle.disk_model.proofs.Calls.{passed_none, passed_then, failed_then, passes_within}
 use Rattle.commit_journal.specs.Ledgers.{FailsAppending}
-use Rattle.book_core.specs.Calls.{CallsFor, FailsBehind, FailsAtRepair, FailsAtEntry, FailsInTurn, repair_calls, append_calls, expiry_entry, expiry_calls, calls_before}
+use Rattle.book_core.specs.Calls.{CallsFor, FailsBehind, FailsAtEntry, repair_calls, append_calls, expiry_entry, expiry_calls, calls_before}
 use Rattle.book_core.specs.inner.Parts.{CallsOfPart}
 use Rattle.book_core.specs.Views.{BookView, history_in}
 

@@ -1,16 +1,15 @@
 -- The event of the clock and the answer to an ask, over the parts of a book.
-use Rattle.std.proofs.Common.{◌≡◌, ◌≢◌, ◌⊎◌, inl, inr, ℕ, ◌+◌, ◌≤◌, ◌<◌, List, [], ◌∷◌, ◌++◌, Bool, true, false, Option, Some, None, Result, Ok, Err, IsErrOf, IsTrue, ◌↔◌, true≢false, refl, sym, ap, ◌∙◌, subst, arith, if◌then◌else◌}
+use Rattle.std.proofs.Common.{◌≡◌, ◌≢◌, ◌⊎◌, inl, inr, ℕ, ◌+◌, ◌≤◌, List, [], ◌∷◌, ◌++◌, Bool, true, false, Option, Some, None, Result, Ok, Err, IsErrOf, IsTrue, ◌↔◌, true≢false, refl, sym, ap, ◌∙◌, subst, arith}
 use Rattle.base_kinds.specs.declared.entry.Entry.{Entry}
 use Rattle.base_kinds.specs.declared.entry.Ask.{Ask}
 use Rattle.base_kinds.specs.declared.entry.Ask.TheVariants as asks
 use Rattle.base_kinds.specs.declared.entry.Kind.TheVariants as kinds
 use Rattle.base_kinds.specs.declared.refusal.Refusal.{Refusal}
 use Rattle.base_kinds.specs.declared.refusal.Refusal.TheVariants as refusals
-use Rattle.base_kinds.specs.History.{OpenTrial, world_of}
-use Rattle.base_kinds.specs.Legal.{Gives, IsFit}
+use Rattle.base_kinds.specs.Legal.{Gives}
 use Rattle.base_kinds.specs.Records.{record_octets}
 use Rattle.base_kinds.specs.Rules.{rules_of}
-use Rattle.base_kinds.specs.Step.{Rules, is_due, after_expiry, step, judge, next_entry, new_stamp, kind_of_ask, with_answer}
+use Rattle.base_kinds.specs.Step.{is_due, after_expiry, step, judge, next_entry, new_stamp, kind_of_ask, with_answer}
 use Rattle.disk_model.specs.Content.{Content}
 use Rattle.commit_journal.specs.Images.{IsJournalOr, IsJournalOfAny}
 use Rattle.commit_journal.specs.Ledgers.{LedgerView}
@@ -19,19 +18,19 @@ use Rattle.disk_model.proofs.Moving.{leaves_weaker, leaves_then}
 use Rattle.history_laws.proofs.Given.{expiry_is_given, quiet_after_clock}
 use Rattle.history_laws.proofs.Judged.{asked, accepted_is_next}
 use Rattle.book_port.specs.declared.happening.Happening.{Happening}
-use Rattle.book_port.specs.declared.happening.Happening.TheVariants.{Entered, Marked}
+use Rattle.book_port.specs.declared.happening.Happening.TheVariants.{Entered}
 use Rattle.book_core.specs.inner.Books.{IsBook}
 use Rattle.book_port.specs.Chronicles.{history_of, IsBy}
 use Rattle.book_port.specs.Opened.{Opened, rules_in}
 use Rattle.book_port.proofs.Answering.{quiet_expiry, expires_once, step_again, set_behind}
-use Rattle.commit_core.specs.CoreView.{CoreView, EndsTrial, IsNext}
+use Rattle.commit_core.specs.CoreView.{CoreView, EndsTrial}
 use Rattle.book_core.specs.Moments.{IsAttempted, GoesThrough}
 use Rattle.book_port.specs.Answers.{look_stages, set_stages, AnswersSet}
 use Rattle.disk_model.specs.Calls.{Fuse}
 use Rattle.book_core.specs.Calls.{append_calls, expiry_entry, expiry_calls, answer_entry}
 use Rattle.book_core.specs.inner.Parts.{CallsOfPart}
 use Rattle.book_core.specs.Views.{BookView, history_in}
-use Rattle.book_core.proofs.Answering.{with_entry, accepted_now, refused_now, attempted_behind, last_again}
+use Rattle.book_core.proofs.Answering.{with_entry, accepted_now, attempted_behind, last_again}
 use Rattle.book_core.proofs.Exits.{history_entered}
 use Rattle.book_core.proofs.Passing.{append_through, append_through_last, look_in_set, behind_in_set, behind_repair}
 

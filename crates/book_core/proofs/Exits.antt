@@ -1,15 +1,12 @@
 -- What a book keeps at the end of each part of a call.
-use Rattle.std.proofs.Common.{◌≡◌, ◌⊎◌, inl, inr, ℕ, ◌+◌, ◌-◌, ◌^◌, ◌<◌, ◌≤◌, List, [], ◌∷◌, ◌++◌, Bool, true, false, Option, Some, None, Result, Ok, Err, length, refl, sym, ap, ◌∙◌, subst, arith, length-append, append-nil}
+use Rattle.std.proofs.Common.{◌≡◌, ◌⊎◌, inl, inr, ℕ, ◌+◌, ◌<◌, ◌≤◌, List, [], ◌∷◌, ◌++◌, Option, Some, None, Result, Ok, Err, length, refl, sym, ap, ◌∙◌, subst, arith, length-append, append-nil}
 use Rattle.base_kinds.specs.declared.entry.Entry.{Entry}
-use Rattle.base_kinds.specs.declared.entry.Ask.{Ask}
-use Rattle.base_kinds.specs.declared.entry.Limits.{Limits}
 use Rattle.base_kinds.specs.declared.refusal.Refusal.{Refusal}
 use Rattle.base_kinds.specs.declared.refusal.Refusal.TheVariants as refusals
 use Rattle.base_kinds.specs.Legal.{Gives}
 use Rattle.disk_model.specs.Calls.{Fuse, CallsPassed}
 use Rattle.disk_model.specs.Content.{Content}
-use Rattle.disk_model.specs.Moments.{Leaves, LeavesNow, LeavesOnly}
-use Rattle.disk_model.proofs.Calls.{passed_none}
+use Rattle.disk_model.specs.Moments.{LeavesNow, LeavesOnly}
 use Rattle.disk_model.proofs.Moving.{leaves_weaker, leaves_same}
 use Rattle.edge_traits.specs.Faults.{Rose}
 use Rattle.commit_journal.specs.Images.{IsJournalOr, IsJournalOfAny}
@@ -19,7 +16,7 @@ use Rattle.journal_format.proofs.Following.{given_may_follow}
 use Rattle.journal_format.proofs.Histories.{legal_more}
 use Rattle.book_port.specs.declared.happening.Happening.{Happening}
 use Rattle.book_port.specs.declared.happening.Happening.TheVariants.{Entered, Marked}
-use Rattle.book_port.specs.Chronicles.{history_of, marks_of, entered, mark_after, Adds, IsBy}
+use Rattle.book_port.specs.Chronicles.{history_of, marks_of, mark_after, IsBy}
 use Rattle.book_port.specs.Opened.{Opened, rules_in, IsRun}
 use Rattle.book_port.proofs.Chronicled.{history_of_more, marks_of_more}
 use Rattle.book_port.proofs.Runs.{run_on}

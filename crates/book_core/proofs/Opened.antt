@@ -1,7 +1,6 @@
 -- What an opening gives, from what its ledger and its core give.
-use Rattle.std.proofs.Common.{◌≡◌, ◌⊎◌, inl, inr, ℕ, ◌+◌, ◌<◌, ◌≤◌, List, [], ◌∷◌, ◌++◌, true, false, Option, Some, None, IfSome, IsSome, length, refl, sym, ap, ◌∙◌, subst, arith}
+use Rattle.std.proofs.Common.{◌≡◌, ◌⊎◌, inl, inr, ℕ, ◌+◌, ◌≤◌, List, Option, Some, None, IfSome, IsSome, length, refl, sym, ap, ◌∙◌, subst, arith}
 use Rattle.base_kinds.specs.declared.entry.Entry.{Entry}
-use Rattle.base_kinds.specs.declared.entry.Limits.{Limits}
 use Rattle.base_kinds.specs.Bases.{IsSound}
 use Rattle.base_kinds.specs.History.{world_of}
 use Rattle.base_kinds.specs.Schema.{SchemaNode}
@@ -9,14 +8,13 @@ use Rattle.edge_traits.specs.Faults.{Rose}
 use Rattle.disk_model.specs.Arming.{Arming}
 use Rattle.disk_model.specs.Calls.{Fuse, CallsPassed, FailsWithin, PassesWithin, WhereArmed}
 use Rattle.book_core.specs.Calls.{FailsBehind, append_calls}
-use Rattle.base_kinds.specs.Step.{is_open}
 use Rattle.disk_model.specs.Content.{Content, WhereTold, Tells}
 use Rattle.disk_model.specs.Moments.{LeavesNow, LeavesOnly}
 use Rattle.disk_model.proofs.Calls.{passed_then, passes_within}
 use Rattle.disk_model.proofs.Moving.{leaves_weaker, moved_on}
 use Rattle.journal_format.specs.Histories.{IsJournalHistory}
 use Rattle.journal_format.specs.Journal.{IsJournal}
-use Rattle.commit_journal.specs.Images.{IsJournalOr, IsJournalOfAny}
+use Rattle.commit_journal.specs.Images.{IsJournalOr}
 use Rattle.commit_journal.specs.Ledgers.{LedgerView}
 use Rattle.commit_journal.specs.Openings.{IsSynced, opening_calls}
 use Rattle.commit_journal.specs.Openings.{IsReady as IsLedgerReady}
@@ -25,8 +23,7 @@ use Rattle.book_port.specs.Chronicles.{history_of, marks_of, entered}
 use Rattle.book_port.specs.Opened.{Opened, IsRun, reopened}
 use Rattle.book_port.proofs.Chronicled.{history_of_entered, marks_of_entered}
 use Rattle.commit_core.specs.CoreView.{CoreView}
-use Rattle.book_core.specs.Openings.{SyncsThen, HasJournal, opening_stages, restart_calls, IsReady, IsUnfit, IsUnread, IsCutAtRestart, IsFaulty, IsStarved}
-use Rattle.book_core.specs.Views.{BookView}
+use Rattle.book_core.specs.Openings.{SyncsThen, HasJournal, opening_stages, IsReady, IsUnfit, IsFaulty, IsStarved}
 use Rattle.book_core.specs.inner.Books.{IsBook, opened_with}
 use Rattle.book_core.specs.inner.Restarts.{IsRestartOf, with_one}
 use Rattle.book_core.proofs.Calling.{fails_behind}

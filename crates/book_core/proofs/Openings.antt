@@ -1,5 +1,5 @@
 -- What an opening goes on from.
-use Rattle.std.proofs.Common.{◌≡◌, ◌⊎◌, inl, inr, ℕ, ◌+◌, ◌<◌, ◌≤◌, List, [], ◌∷◌, ◌++◌, true, false, cond, Option, Some, None, IfSome, IsSome, true≢false, length, refl, sym, ap, ◌∙◌, subst, arith}
+use Rattle.std.proofs.Common.{◌≡◌, inl, inr, ℕ, ◌+◌, ◌≤◌, List, [], ◌∷◌, ◌++◌, true, cond, Option, Some, None, IfSome, IsSome, true≢false, refl, sym, ap, ◌∙◌, subst, arith}
 use Rattle.base_kinds.specs.declared.path.Elem.{Elem}
 use Rattle.base_kinds.specs.declared.operation.Row.{Row}
 use Rattle.base_kinds.specs.declared.entry.Entry.{Entry}
@@ -20,7 +20,7 @@ use Rattle.journal_format.specs.Journal.{IsJournal}
 use Rattle.std.proofs.lemmas.List.{map-append}
 use Rattle.book_port.specs.declared.happening.Happening.TheVariants.{Entered}
 use Rattle.book_port.specs.Chronicles.{entered}
-use Rattle.book_port.specs.Opened.{Opened, IsFounded, IsRun, reopened, restart_entry}
+use Rattle.book_port.specs.Opened.{IsRun, reopened, restart_entry}
 use Rattle.book_port.proofs.Runs.{founded_is_run, reopened_has_no_trial}
 use Rattle.commit_core.specs.CoreView.{IsReplayable}
 use Rattle.book_core.specs.Openings.{opening_stages, restart_calls}

@@ -1,16 +1,13 @@
 -- The moments of a call, part by part.
-use Rattle.std.proofs.Common.{◌≡◌, ◌⊎◌, inl, inr, ℕ, List, [], ◌∷◌, ◌++◌, Bool, true, false, Option, Some, None, Result, Ok, Err, IsSome, refl, sym, ap, ◌∙◌, subst, if◌then◌else◌}
+use Rattle.std.proofs.Common.{◌≡◌, inl, inr, ℕ, List, [], ◌∷◌, ◌++◌, Option, Some, None, IsSome, refl, sym, subst}
 use Rattle.base_kinds.specs.declared.entry.Entry.{Entry}
-use Rattle.base_kinds.specs.declared.entry.Ask.{Ask}
 use Rattle.base_kinds.specs.declared.entry.Limits.{Limits}
-use Rattle.base_kinds.specs.Step.{Rules, is_due, after_expiry, step, judge, with_answer}
-use Rattle.disk_model.specs.Content.{Content, WhereTold}
-use Rattle.disk_model.specs.Moments.{Leaves, LeavesNow, LeavesOnly, HoldsThroughout}
-use Rattle.disk_model.proofs.Moving.{leaves_weaker, leaves_then, leaves_same, moved_on}
+use Rattle.disk_model.specs.Content.{Content}
+use Rattle.disk_model.specs.Moments.{LeavesNow, LeavesOnly}
+use Rattle.disk_model.proofs.Moving.{leaves_weaker, leaves_same, moved_on}
 use Rattle.journal_format.specs.Journal.{IsJournal}
 use Rattle.commit_journal.specs.Images.{IsJournalOr, IsJournalOfAny}
-use Rattle.book_core.specs.Moments.{Settles, GoesThrough, IsAttempted, IsDoubted}
-use Rattle.book_port.specs.Answers.{look_stages, set_stages}
+use Rattle.book_core.specs.Moments.{GoesThrough}
 use Rattle.book_core.specs.Views.{BookView, history_in}
 
 module _ (limits : Limits) where

@@ -1,5 +1,5 @@
 -- Openings behind a stop, and what may be in doubt.
-use Rattle.std.proofs.Common.{◌≡◌, ◌⊎◌, inl, inr, ℕ, ◌<◌, List, [], ◌∷◌, ◌++◌, false, Option, Some, None, Result, Ok, Err, refl, sym, ap, ◌∙◌, subst, if◌then◌else◌}
+use Rattle.std.proofs.Common.{◌≡◌, inl, inr, ℕ, ◌<◌, List, [], ◌∷◌, ◌++◌, Option, Some, None, Result, Ok, Err, refl, sym, ap, ◌∙◌, subst, if◌then◌else◌}
 use Rattle.std.specs.List.{AllByRecursion}
 use Rattle.std.proofs.lemmas.List.{append_cancel_right}
 use Rattle.base_kinds.specs.declared.operation.Row.{Row}
@@ -30,10 +30,10 @@ use Rattle.book_port.proofs.Runs.{run_on, run_is_base, run_accepts, run_at_expir
 use Rattle.book_core.specs.declared.opening.BookOpening.{BookOpening}
 use Rattle.book_core.specs.declared.opening.BookOpening.TheVariants.{Ready, Damaged, Unfit, DiskFault, NoMemory}
 use Rattle.book_core.specs.Moments.{GoesThrough, IsAttempted, IsDoubted}
-use Rattle.book_core.specs.Openings.{Opens, IsReady}
-use Rattle.book_core.specs.Views.{BookView, history_in}
+use Rattle.book_core.specs.Openings.{Opens}
+use Rattle.book_core.specs.Views.{history_in}
 use Rattle.book_core.specs.laws.DoubtLaws.{IsRunWith}
-use Rattle.book_core.specs.laws.ReopeningLaws.{CanReopen, GoesOnFrom, Reopens, IsAmong, IsMoment}
+use Rattle.book_core.specs.laws.ReopeningLaws.{CanReopen, Reopens, IsAmong, IsMoment}
 
 -- ---- the tree behind the end of an open trial
 
@@ -53,9 +53,10 @@ runs_can_reopen opened h run = let trees : HasSoundTrees opened.schema (world_of
     λ now. subst (λ (tree : List Row). IsSound opened.schema tree) (sym (closed_tree h now)) (sound_before opened.schema (world_of h).tree (world_of h).trial trees.tree trees.before)
 
 pub sound_can_reopen : (schema : List SchemaNode) (h : List Entry) (now : ℕ) → IsSound schema (world_of (reopened h now)).tree → CanReopen schema h × CanReopen schema (reopened h now)
-sound_can_reopen schema h now sound =
-    (λ later. subst (λ (tree : List Row). IsSound schema tree) (closed_tree h now ∙ sym (closed_tree h later)) sound,
-    λ later. subst (λ g. IsSound schema (world_of g).tree) (sym (reopened_once h now later)) sound)
+sound_can_reopen schema h now sound = (
+  λ later. subst (λ (tree : List Row). IsSound schema tree) (closed_tree h now ∙ sym (closed_tree h later)) sound,
+  λ later. subst (λ g. IsSound schema (world_of g).tree) (sym (reopened_once h now later)) sound,
+)
 
 -- ---- openings
 

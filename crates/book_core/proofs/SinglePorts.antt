@@ -1,16 +1,13 @@
 -- A turn of a port that nobody else has.
-use Rattle.std.proofs.Common.{◌≡◌, ◌⊎◌, ℕ, ◌+◌, ◌-◌, ◌<◌, ◌≤◌, ◌==◌, List, [], ◌∷◌, ◌++◌, Bool, true, false, map, length, drop, Option, Some, Result, Ok, Err, IsErrOf, IsTrue, refl, sym, ap, ◌∙◌, subst, arith, length-append, append-nil, append_assoc, if◌then◌else◌}
+use Rattle.std.proofs.Common.{◌≡◌, ℕ, ◌+◌, ◌-◌, ◌≤◌, [], ◌∷◌, ◌++◌, true, length, drop, Some, Result, Ok, Err, IsErrOf, refl, ap, ◌∙◌, subst, arith, length-append, append_assoc}
 use Rattle.std.proofs.lemmas.List.{drop-append-le, map-append}
-use Rattle.base_kinds.specs.declared.entry.Entry.{Entry}
 use Rattle.base_kinds.specs.declared.refusal.Refusal.{Refusal}
 use Rattle.base_kinds.specs.declared.refusal.Refusal.TheVariants as refusals
 use Rattle.edge_traits.specs.Faults.{Rose}
-use Rattle.book_port.specs.declared.happening.Happening.{Happening}
-use Rattle.book_port.specs.declared.happening.Happening.TheVariants.{Entered, Marked}
 use Rattle.book_port.specs.Chronicles.{history_of, marks_of, entered, mark_after, entries_by, Adds}
-use Rattle.book_port.specs.Ports.{PortView, TakesTurn, marks_after, HasFaultCause}
-use Rattle.book_port.specs.Follows.{Turn, OthersWentOn}
-use Rattle.book_port.specs.Opened.{Opened, IsRun, rules_in}
+use Rattle.book_port.specs.Ports.{TakesTurn, marks_after, HasFaultCause}
+use Rattle.book_port.specs.Follows.{Turn}
+use Rattle.book_port.specs.Opened.{Opened, IsRun}
 use Rattle.book_core.specs.Singles.{SingleView, IsSingle, port_of}
 use Rattle.book_core.specs.Views.{BookView, history_in}
 use Rattle.book_port.proofs.Chronicled.{history_of_more, marks_of_more, history_added, marks_added, entries_by_more}

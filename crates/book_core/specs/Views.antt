@@ -1,5 +1,5 @@
 -- A book as its callers see it.
-use Rattle.std.specs.Prelude.{ℕ, ◌^◌, List, Option, Some, None, refl}
+use Rattle.std.specs.Prelude.{ℕ, ◌^◌, List, Option, refl}
 use Rattle.std.specs.Coded.{Coded, code_by, coded×}
 use Rattle.base_kinds.specs.declared.entry.Entry.{Entry}
 use Rattle.book_port.specs.declared.happening.Happening.{Happening}

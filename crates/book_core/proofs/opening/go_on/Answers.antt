@@ -1,4 +1,4 @@
-use Rattle.std.proofs.Common.{◌≡◌, ◌≤◌, ◌+◌, length, IfSome, Err, refl, sym, ap, ◌∙◌, subst, arith}
+use Rattle.std.proofs.Common.{length, IfSome, Err, sym, ap, ◌∙◌, subst, arith}
 use Rattle.disk_model.specs.Calls.{CallsPassed, WhereArmed}
 use Rattle.journal_format.specs.Histories.{MayFollow}
 use Rattle.commit_journal.specs.Ledgers.{LedgerView}

@@ -1,11 +1,10 @@
-use Rattle.std.proofs.Common.{◌≡◌, ◌≢◌, ℕ, true, false, refl, ap, subst, sym, ◌∙◌, inl, inr, Ok, Err, [], ◌∷◌, ◌++◌, arith}
-use Rattle.base_kinds.specs.declared.entry.Entry.{Entry}
-use Rattle.base_kinds.specs.declared.refusal.Refusal.TheVariants.{DiskFault, NoMemory}
+use Rattle.std.proofs.Common.{◌≡◌, ℕ, false, refl, ap, subst, sym, ◌∙◌, Ok, Err, [], ◌∷◌, ◌++◌}
+use Rattle.base_kinds.specs.declared.refusal.Refusal.TheVariants.{NoMemory}
 use Rattle.base_kinds.specs.Rules.{rules_of}
 use Rattle.base_kinds.specs.Step.{is_due, step}
 use Rattle.disk_model.specs.Calls.{CallsPassed}
 use Rattle.commit_journal.specs.Ledgers.{LedgerView}
-use Rattle.book_port.specs.declared.happening.Happening.TheVariants.{Entered, Marked}
+use Rattle.book_port.specs.declared.happening.Happening.TheVariants.{Marked}
 use Rattle.book_port.specs.Answers.{set_stages, AnswersSet}
 use Rattle.book_port.specs.Chronicles.{history_of, mark_after}
 use Rattle.book_port.specs.Opened.{rules_in}

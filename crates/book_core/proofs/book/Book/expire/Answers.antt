@@ -1,5 +1,4 @@
-use Rattle.std.proofs.Common.{◌≡◌, true, refl, ap, subst, sym, ◌∙◌, inl, inr, Err, [], ◌∷◌, ◌++◌, arith}
-use Rattle.base_kinds.specs.declared.refusal.Refusal.{Refusal}
+use Rattle.std.proofs.Common.{ap, subst, sym, ◌∙◌, Err, [], ◌∷◌, ◌++◌}
 use Rattle.disk_model.specs.Calls.{CallsPassed}
 use Rattle.book_port.specs.declared.happening.Happening.TheVariants.{Marked}
 use Rattle.book_port.specs.Chronicles.{history_of}

@@ -1,5 +1,4 @@
-use Rattle.std.proofs.Common.{◌≡◌, ℕ, true, false, refl, ap, subst, sym, ◌∙◌, inl, inr, None, Ok, Err, [], ◌∷◌, ◌++◌, arith}
-use Rattle.base_kinds.specs.declared.refusal.Refusal.TheVariants.{DiskFault, NoMemory}
+use Rattle.std.proofs.Common.{refl, ap, subst, sym, ◌∙◌, inl, inr, None, Err, [], ◌∷◌}
 use Rattle.base_kinds.specs.Step.{after_expiry}
 use Rattle.book_port.specs.Chronicles.{history_of}
 use Rattle.book_core.specs.Moments.{GoesThrough}

@@ -1,4 +1,3 @@
-use Rattle.std.proofs.Common.{◌≡◌, sym, ap, subst}
 use Rattle.book_core.proofs.Opened.{fault_of_ledger, want_of_ledger}
 use Rattle.book_core.proofs.book.Book.reopen.Goals as goal
 

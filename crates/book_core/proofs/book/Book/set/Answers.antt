@@ -1,5 +1,4 @@
-use Rattle.std.proofs.Common.{◌≡◌, ℕ, length, true, false, refl, ap, subst, sym, ◌∙◌, inl, inr, Ok, Err, [], ◌∷◌, ◌++◌, arith}
-use Rattle.base_kinds.specs.declared.refusal.Refusal.TheVariants.{DiskFault, NoMemory}
+use Rattle.std.proofs.Common.{◌≡◌, ℕ, length, refl, ap, subst, sym, ◌∙◌, inl, inr, Err, arith}
 use Rattle.base_kinds.specs.Step.{after_expiry, step}
 use Rattle.book_port.specs.Chronicles.{history_of, marks_of, Adds}
 use Rattle.book_core.specs.Moments.{GoesThrough, IsAttempted}

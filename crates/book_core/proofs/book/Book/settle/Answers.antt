@@ -1,4 +1,4 @@
-use Rattle.std.proofs.Common.{refl, ap, subst, sym, ◌∙◌, ◌≤◌, arith}
+use Rattle.std.proofs.Common.{refl, ap, subst, sym, ◌≤◌, arith}
 use Rattle.commit_journal.specs.Ledgers.{LedgerView}
 use Rattle.book_core.proofs.Exits.{kept_marked, few_marks, repaired}
 use Rattle.book_core.proofs.book.Book.settle.Goals as goal

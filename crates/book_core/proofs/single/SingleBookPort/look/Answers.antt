@@ -1,11 +1,8 @@
 use Rattle.std.proofs.Common.{◌≡◌, None, [], ◌∷◌, ◌++◌, refl, subst, sym}
-use Rattle.base_kinds.specs.Step.{step}
-use Rattle.book_port.specs.Answers.{set_stages, look_stages}
+use Rattle.book_port.specs.Answers.{look_stages}
 use Rattle.book_port.specs.Chronicles.{Adds}
-use Rattle.book_port.specs.Opened.{rules_in}
-use Rattle.book_core.specs.Calls.{answer_entry}
 use Rattle.book_core.specs.Uses.{UsesDisk}
-use Rattle.book_core.specs.Views.{BookView, history_in}
+use Rattle.book_core.specs.Views.{history_in}
 use Rattle.book_port.specs.Ports.{LooksOnce, TakesTurn}
 use Rattle.book_core.specs.Singles.{SingleView, port_of}
 use Rattle.book_core.proofs.SinglePorts.{its_turn, single_turn}
