@@ -1,0 +1,72 @@
+-- How each call ends.
+use Rattle.std.proofs.Common.{◌≡◌, ◌≢◌, ◌⊎◌, ℕ, List, [], ◌∷◌, ◌++◌, Bool, true, false, cond, refl, sym, ap, ◌∙◌, subst, inl, inr, Option, Some, None, Result, Ok, Err}
+use Rattle.std.specs.Prelude.{not}
+use Rattle.base_kinds.specs.declared.entry.Ask.{Ask}
+use Rattle.base_kinds.specs.declared.entry.Entry.{Entry}
+use Rattle.base_kinds.specs.declared.entry.View.{View}
+use Rattle.base_kinds.specs.declared.path.Elem.{Elem}
+use Rattle.base_kinds.specs.declared.refusal.Refusal.{Refusal}
+use Rattle.base_kinds.specs.declared.refusal.Refusal.TheVariants as refusals
+use Rattle.base_kinds.specs.Schema.{SchemaNode}
+use Rattle.book_port.specs.Ports.{PortView, SetsOnce, LooksOnce}
+use Rattle.gnmi_data_msg.specs.Writing.{number_field}
+use Rattle.gnmi_get_msg.specs.Replies.{capabilities}
+use Rattle.gnmi_set_msg.specs.Numbers.{reply_timestamp}
+use Rattle.gnmi_set_msg.specs.declared.request.SetRequest.{SetRequest}
+use Rattle.pb_message.specs.Fields.{is_message}
+use Rattle.rpc_desk.specs.Answers.{IsSaid, IsAnsweredBy}
+use Rattle.rpc_desk.specs.Services.{capabilities_task}
+use Rattle.rpc_desk.specs.Sets.{request_task}
+use Rattle.rpc_desk.specs.Tasks.{Task, Says, Changes, Looks}
+use Rattle.rpc_desk.specs.inner.Sets.{set_ask, reply_front}
+use Rattle.rpc_desk.proofs.SetAsks.{IsChange, is_change, ask_refused, reply_refused}
+use Rattle.rpc_desk.proofs.Turns.{refused_alone, change_accepted, change_refused, look_refused, look_answered, look_not_answered}
+
+-- ---- a Set
+
+pub set_ask_refused : (schema : List SchemaNode) (read : Option SetRequest) (port : PortView) (now : ℕ) (refusal : Refusal)
+    → (refusal ≢ refusals.NoMemory → set_ask schema read ≡ Err refusal) → IsAnsweredBy (request_task schema read) port now (Err refusal) port
+set_ask_refused schema read port now refusal is =
+    refused_alone (request_task schema read) port now refusal (λ other. ask_refused schema read refusal (is other))
+
+pub set_reply_refused : (schema : List SchemaNode) (read : Option SetRequest) (port : PortView) (now : ℕ) (ask : Ask) (refusal : Refusal)
+    → set_ask schema read ≡ Ok ask → (refusal ≢ refusals.NoMemory → reply_front read ≡ Err refusal)
+    → IsAnsweredBy (request_task schema read) port now (Err refusal) port
+set_reply_refused schema read port now ask refusal asked is =
+    refused_alone (request_task schema read) port now refusal (λ other. reply_refused schema read ask refusal asked (is other))
+
+pub set_accepted : (schema : List SchemaNode) (read : Option SetRequest) (old new : PortView) (now : ℕ) (ask : Ask) (front octets : List ℕ) (stamp : ℕ)
+    → set_ask schema read ≡ Ok ask → reply_front read ≡ Ok front → octets ≡ front ++ number_field reply_timestamp stamp
+    → SetsOnce old now ask (Ok stamp) new → IsAnsweredBy (request_task schema read) old now (Ok octets) new
+set_accepted schema read old new now ask front octets stamp asked fits written set =
+    let change = is_change schema read ask front asked fits in
+    subst (λ (t : Task). IsAnsweredBy t old now (Ok octets) new) (sym change.task)
+    (change_accepted old new now ask change.reply stamp octets (written ∙ change.written stamp) set)
+
+pub set_refused : (schema : List SchemaNode) (read : Option SetRequest) (old new : PortView) (now : ℕ) (ask : Ask) (front : List ℕ) (refusal : Refusal)
+    → set_ask schema read ≡ Ok ask → reply_front read ≡ Ok front
+    → SetsOnce old now ask (Err refusal) new → IsAnsweredBy (request_task schema read) old now (Err refusal) new
+set_refused schema read old new now ask front refusal asked fits set =
+    let change = is_change schema read ask front asked fits in
+    subst (λ (t : Task). IsAnsweredBy t old now (Err refusal) new) (sym change.task)
+    (change_refused old new now ask change.reply refusal set)
+
+-- ---- without a turn
+
+pub starved : (task : Task) (port : PortView) (now : ℕ) → IsAnsweredBy task port now (Err refusals.NoMemory) port
+starved task port now = refused_alone task port now refusals.NoMemory (λ other. absurd (other refl))
+
+pub said : (task : Task) (port : PortView) (now : ℕ) (answer : Result (List ℕ) Refusal) → task ≡ Says answer → IsAnsweredBy task port now answer port
+said task port now answer is = record { turn = None; answers = inl (subst (λ (t : Task). IsSaid t answer) (sym is) refl); moves = refl }
+
+pub no_message : (schema : List SchemaNode) (octets : List ℕ) (port : PortView) (now : ℕ) → is_message octets ≡ false
+    → IsAnsweredBy (capabilities_task schema octets) port now (Err refusals.BadMessage) port
+no_message schema octets port now is =
+    said (capabilities_task schema octets) port now (Err refusals.BadMessage)
+    (ap (λ (b : Bool). cond b (Says (Ok (capabilities schema))) (Says (Err refusals.BadMessage))) is)
+
+pub capable : (schema : List SchemaNode) (octets reply : List ℕ) (port : PortView) (now : ℕ) → is_message octets ≡ true → reply ≡ capabilities schema
+    → IsAnsweredBy (capabilities_task schema octets) port now (Ok reply) port
+capable schema octets reply port now is written =
+    said (capabilities_task schema octets) port now (Ok reply)
+    (ap (λ (b : Bool). cond b (Says (Ok (capabilities schema))) (Says (Err refusals.BadMessage))) is ∙ ap (λ (r : List ℕ). Says (Ok r)) (sym written))

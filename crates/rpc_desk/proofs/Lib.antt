@@ -1,0 +1,5 @@
+pub mod Exits
+pub mod Fronts
+pub mod Groups
+pub mod SetAsks
+pub mod Turns
