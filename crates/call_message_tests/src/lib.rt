@@ -3,6 +3,14 @@
 #![tactic(auto)]
 
 #[cfg(test)]
+mod get_tables;
+#[cfg(test)]
+mod gets;
+#[cfg(test)]
 mod set_tables;
 #[cfg(test)]
 mod sets;
+#[cfg(test)]
+mod sub_tables;
+#[cfg(test)]
+mod subs;
