@@ -9,7 +9,9 @@ ghost use Rattle.gnmi_note_msg.specs.Reading.{note_of};
 ghost use Rattle.gnmi_note_msg.specs.ReadBack.{IsWritableNote, IsWritableWhole, read_note, read_whole};
 
 /// The octets of a Notification are read as just that one: its stamp, its prefix where it has a target, its updates with their
-/// paths and values, and its deletes, in their order; not atomic.
+/// paths and values, and its deletes, in their order; not atomic. This holds where they are fewer than 2^64, the stamp is below
+/// 2^64, its texts are UTF-8, the keys of each element rise by name, and, where values aren't written as JSON, no list holds a list
+/// and numbers fit their types. A stamp of 2^63 and more is read as that less 2^64, JSON as its text, and an enum as a text.
 pub fn notes_read_back()
     ensures rows { (schema : List SchemaNode) (encoding : EncodingValue) (target : List ℕ)
         (note : NoteValue) → IsWritableNote schema encoding target note
