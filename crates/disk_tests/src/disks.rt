@@ -2,7 +2,7 @@
 use base_kinds::Fill;
 use base_lists::NoMemory;
 use disk_model::{Armed, Disk, put_synced, read_part, read_whole};
-use edge_traits::ReadFault;
+use edge_traits::{Failed, ReadFault};
 use memory_disks::{FuseDisk, MemDisk, NO_STOP};
 use std::alloc::Global;
 
@@ -241,4 +241,19 @@ fn a_part_is_read_up_to_the_end(rt: HostRuntime) -> Result<(), NoMemory> {
         }
     }
     Ok(())
+}
+
+fn failure_prints(alloc: Global, text: &str) -> bool {
+    format!(in alloc; "{}", Failed).is_ok_and(|printed| printed.as_str() == text)
+}
+
+fn read_fault_prints(alloc: Global, fault: ReadFault, text: &str) -> bool {
+    format!(in alloc; "{fault}").is_ok_and(|printed| printed.as_str() == text)
+}
+
+#[test]
+fn failures_print_as_they_are_called(rt: HostRuntime) {
+    assert!(rt; failure_prints(rt.alloc(), "fault"));
+    assert!(rt; read_fault_prints(rt.alloc(), ReadFault::Failed, "read fault"));
+    assert!(rt; read_fault_prints(rt.alloc(), ReadFault::NoMemory, "no memory"));
 }
