@@ -1,5 +1,5 @@
 -- A run in its stages.
-use Rattle.std.proofs.Common.{Bool, ◌≡◌, ℕ, List, Result, Ok, Err, inl, inr, sym, subst, true, false, refl}
+use Rattle.std.proofs.Common.{Bool, ◌≡◌, ℕ, List, Result, Ok, Err, inl, inr, sym, subst}
 use Rattle.base_kinds.specs.Limits.{most_script_octets}
 use Rattle.base_kinds.specs.Schema.{SchemaNode}
 use Rattle.base_kinds.specs.declared.entry.Limits.{Limits}
@@ -10,15 +10,15 @@ use Rattle.edge_traits.specs.Output.{Output}
 use Rattle.base_kinds.specs.declared.entry.Entry.{Entry}
 use Rattle.disk_model.specs.Content.{Tells}
 use Rattle.disk_model.specs.Moments.{LeavesNow}
-use Rattle.journal_format.specs.Journal.{IsJournal, IsDamaged}
+use Rattle.journal_format.specs.Journal.{IsJournal}
 use Rattle.commit_report.specs.Logs.{log_text}
 use Rattle.script_run.specs.Scripts.{RunsScript}
 use Rattle.target_top.specs.declared.ending.Ending.{Ending}
-use Rattle.target_top.specs.declared.ending.Ending.TheVariants.{Done, NoSchema, JournalDamaged}
+use Rattle.target_top.specs.declared.ending.Ending.TheVariants.{Done, NoSchema}
 use Rattle.target_top.specs.ScriptRun.{script_ending, RunsLines, ScriptRun}
 use Rattle.target_top.specs.Printing.{PrintsText, MakesText}
 use Rattle.target_top.specs.Environment.{Environment, SeenFiles, SeenDisk, GaveText}
-use Rattle.target_top.specs.LogRun.{ListsDisk, OnlySynced, damage_line}
+use Rattle.target_top.specs.LogRun.{ListsDisk, OnlySynced}
 use Rattle.target_top.specs.SchemaFile.{fault_line, UnderText, UnderSchema}
 use Rattle.target_top.specs.inner.OpenedSchema.{Opened}
 
@@ -68,11 +68,7 @@ answered limits before after ending schema script text is_whole read runs output
   output = output;
 })
 
--- what a journal holds, or where it is damaged, was printed, unless memory was wanting for the text
+-- what a journal holds was printed, unless memory was wanting for the text
 pub history_printed : (limits : Limits) (history : List Entry) (initial final : SeenDisk) (old new : Output) (ending : Ending) → Tells initial.told (λ content. IsJournal content.seen limits history) → LeavesNow (λ octets. IsJournal octets limits history) final.told → OnlySynced initial final → MakesText (log_text history) Done old new ending → ListsDisk initial final old new ending
 history_printed limits history initial final old new ending journal images synced (inl printed) = inl (synced, inl (record { limits = limits; history = history; journal = journal; images = images; output = printed }))
 history_printed limits history initial final old new ending journal images synced (inr out) = inl (synced, inr (inr out))
-
-pub damage_printed : (place : ℕ) (initial final : SeenDisk) (old new : Output) (ending : Ending) → Tells initial.told (λ content. IsDamaged content.seen place) → OnlySynced initial final → MakesText (damage_line place) JournalDamaged old new ending → ListsDisk initial final old new ending
-damage_printed place initial final old new ending damaged synced (inl printed) = inl (synced, inr (inl (record { place = place; damaged = damaged; output = printed })))
-damage_printed place initial final old new ending damaged synced (inr out) = inl (synced, inr (inr out))

@@ -4,7 +4,7 @@ use Rattle.target_top.specs.declared.ending.Ending.TheVariants.{Done}
 use Rattle.target_top.specs.Environment.{seen_disk}
 use Rattle.target_top.specs.LogRun.{ListsDisk}
 use Rattle.target_top.specs.Printing.{MakesText}
-use Rattle.target_top.proofs.Stages.{history_printed, damage_printed}
+use Rattle.target_top.proofs.Stages.{history_printed}
 use Rattle.target_top.proofs.log_command.list.Goals as goal
 
 pub returns-in-Ready : goal.returns-in-Ready
