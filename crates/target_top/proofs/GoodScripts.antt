@@ -1,13 +1,8 @@
 -- Runs of scripts of which every line is one of a script.
-use Rattle.std.proofs.Common.{◌≡◌, ℕ, List, Result, Ok, Err, inl, inr, sym, ap, ◌∙◌, subst}
+use Rattle.std.proofs.Common.{ℕ, List, Ok, inl, inr, ap, ◌∙◌, subst}
 use Rattle.edge_traits.specs.Output.{Wrote}
 use Rattle.base_kinds.specs.declared.entry.Limits.{Limits}
 use Rattle.base_kinds.specs.Schema.{SchemaNode}
-use Rattle.schema_text.specs.declared.cause.SchemaFault.{SchemaFault}
-use Rattle.schema_text.specs.Schemas.{schema_of}
-use Rattle.script_run.specs.ScriptStates.{fresh}
-use Rattle.script_run.specs.laws.ScriptLaws.{script_events}
-use Rattle.script_run.specs.laws.ScriptTexts.{events_text}
 use Rattle.script_run.proofs.ScriptTexts.{prints_events}
 use Rattle.target_top.specs.Ending.{exit_status}
 use Rattle.target_top.specs.Environment.{Environment}

@@ -1,7 +1,7 @@
 -- Runs over objects in memory.
-use Rattle.std.proofs.Common.{◌≡◌, ℕ, zero, suc, ◌+◌, List, [], ◌∷◌, ◌++◌, ◌⊎◌, ◌≢◌, Option, Some, None, IfSome, Contains, Result, Ok, Err, inl, inr, refl, sym, ap, ◌∙◌, subst, codes, append_assoc, arith}
+use Rattle.std.proofs.Common.{◌≡◌, ℕ, zero, suc, List, [], ◌++◌, ◌≢◌, Option, Some, None, IfSome, Contains, Result, Ok, Err, inl, inr, refl, sym, ap, ◌∙◌, subst, codes, append_assoc, arith}
 use Rattle.std.specs.Io.KnownBytes.{Consumes}
-use Rattle.edge_traits.specs.Input.{Input, Read, FailedAfter, input_with_fault}
+use Rattle.edge_traits.specs.Input.{Input, Read, input_with_fault}
 use Rattle.edge_traits.specs.Output.{Output, Wrote, unwritten_output}
 use Rattle.base_kinds.specs.declared.entry.Limits.{Limits}
 use Rattle.base_kinds.specs.Schema.{SchemaNode}
@@ -13,7 +13,7 @@ use Rattle.commit_report.specs.Logs.{log_text}
 use Rattle.schema_text.specs.declared.cause.SchemaFault.{SchemaFault}
 use Rattle.schema_text.specs.Schemas.{schema_of}
 use Rattle.target_top.specs.declared.ending.Ending.{Ending}
-use Rattle.target_top.specs.declared.ending.Ending.TheVariants.{Done, NoMemory, NoSchema, JournalNotEmpty, JournalDamaged}
+use Rattle.target_top.specs.declared.ending.Ending.TheVariants.{Done, NoSchema, JournalNotEmpty, JournalDamaged}
 use Rattle.target_top.specs.declared.files_record.NamedText.{NamedText}
 use Rattle.target_top.specs.Ending.{exit_status}
 use Rattle.target_top.specs.Environment.{Environment, SeenDisk, GaveText, DiskAsk, GaveDisk, IsDiskOf, texts_of, files_after_disk, files_after_new_disk}
@@ -26,7 +26,7 @@ use Rattle.target_top.specs.HelpRun.{help_text, version_text}
 use Rattle.target_top.specs.Run.{Run, Does}
 use Rattle.target_top.specs.SchemaFile.{fault_line, UnderText, UnderSchema}
 use Rattle.target_top.specs.ScriptRun.{RunsLines}
-use Rattle.target_top.specs.laws.RunLaws.{WroteAndEnded, CheckedAs, RanAs, WroteAnswers, PreparedAs, ListedAs}
+use Rattle.target_top.specs.laws.RunLaws.{WroteAndEnded, CheckedAs, RanAs, PreparedAs, ListedAs}
 use Rattle.target_top.specs.laws.MemoryRuns.{Memory, IsFreshMemory, IsInputOf, LosesNoOctet, WentWell, WroteAlike, RunsAlike}
 use Rattle.target_top.proofs.RunLaws.{checks_complete, scripts_complete, inits_complete, logs_complete, whole_answered, same_written}
 use Rattle.target_top.proofs.WordLaws.{help_completes, version_completes, refusals_complete}

@@ -1,5 +1,5 @@
 -- Runs that need nothing but the output.
-use Rattle.std.proofs.Common.{◌≡◌, ℕ, ◌+◌, List, inl, inr, ap, ◌∙◌, codes}
+use Rattle.std.proofs.Common.{◌≡◌, ℕ, List, inl, inr, ap, ◌∙◌, codes}
 use Rattle.edge_traits.specs.Output.{Output}
 use Rattle.target_top.specs.declared.ending.Ending.{Ending}
 use Rattle.target_top.specs.declared.ending.Ending.TheVariants.{Done}
