@@ -1,4 +1,4 @@
-ghost use Rattle.std.specs.Prelude.{◌≡◌, ◌^◌, IfOk, length};
+ghost use Rattle.std.specs.Prelude.{IfOk};
 ghost use Rattle.h2_events.specs.Ports.{FitsMessage};
 
 use crate::counter::Counter;
@@ -53,7 +53,7 @@ impl Case {
     }
 
     /// How many octets one of its replies has.
-    fn octets(self) -> usize {
+    fn octets(self) -> u32 {
         match self {
             Case::Large => 4_194_304,
             Case::Small => 100,
@@ -73,10 +73,10 @@ impl Case {
     }
 }
 
-fn message(alloc: Global, octets: usize) -> Result<Piece, Fault>
+fn message(alloc: Global, octets: u32) -> Result<Piece, Fault>
     ensures { IfOk result (λ piece. FitsMessage piece) }
 {
-    let Ok(octets) = vec![in alloc; 7u8; octets] else {
+    let Ok(octets) = vec![in alloc; 7u8; octets as usize] else {
         return Err(Fault::NoMemory);
     };
     if octets.len() <= 4_194_304 {
@@ -87,18 +87,10 @@ fn message(alloc: Global, octets: usize) -> Result<Piece, Fault>
 }
 
 // A client's call is answered with one message, and granted what was sent.
-fn reply(
-    alloc: Global,
-    stream: u32,
-    octets: usize,
-    wire: &mut Wire<Counter>,
-) -> Result<(), Fault> {
+fn reply(alloc: Global, stream: u32, octets: u32, wire: &mut Wire<Counter>) -> Result<(), Fault> {
     wire.act(alloc, &RecvEvent::TooLong(stream))?;
     if stream == 1 {
-        wire.act(
-            alloc,
-            &RecvEvent::Window(0, LARGEST_WINDOW - FIRST_WINDOW),
-        )?;
+        wire.act(alloc, &RecvEvent::Window(0, LARGEST_WINDOW - FIRST_WINDOW))?;
     }
     let message = message(alloc, octets)?;
     if wire.say(alloc, stream, &message) != Took::Taken {
@@ -107,9 +99,6 @@ fn reply(
     if wire.say(alloc, stream, &Piece::Finish(None)) != Took::Taken {
         return Err(Fault::NotTaken);
     }
-    wire.act(
-        alloc,
-        &RecvEvent::Window(0, (octets as u32).saturating_add(5)),
-    )?;
+    wire.act(alloc, &RecvEvent::Window(0, octets.saturating_add(5)))?;
     Ok(())
 }

@@ -5,7 +5,7 @@ use edge_traits::{Failed, OutputRecord, Sink};
 pub struct Counter {
     octets: u64,
     writes: u64,
-    record: OutputRecord,
+    output: OutputRecord,
 }
 
 impl Counter {
@@ -13,7 +13,7 @@ impl Counter {
         Counter {
             octets: 0,
             writes: 0,
-            record: OutputRecord::unwritten(),
+            output: OutputRecord::unwritten(),
         }
     }
 
@@ -29,12 +29,12 @@ impl Counter {
 }
 
 impl Sink for Counter {
-    ghost seen = { λ c. c.record };
+    ghost seen = { λ c. c.output };
 
     fn write(&mut self, piece: &[u8]) -> Result<usize, Failed> {
         self.octets = self.octets.saturating_add(piece.len() as u64);
         self.writes = self.writes.saturating_add(1);
-        self.record.took(piece);
+        self.output.took(piece);
         Ok(piece.len())
     }
 }
