@@ -12,14 +12,15 @@ use Rattle.book_port.specs.Answers.{AnswersSet, AnswersLook, IsAccepted, IsRefus
 use Rattle.book_port.specs.Chronicles.{entries_by}
 use Rattle.book_port.specs.Follows.{Turn}
 use Rattle.book_port.specs.Opened.{rules_in}
-use Rattle.book_port.specs.Ports.{PortView, TakesTurn, SetsOnce, LooksOnce, marks_after}
+use Rattle.book_port.specs.Ports.{PortView, TakesTurn, HasFaultCause, SetsOnce, LooksOnce, marks_after}
 use Rattle.rpc_desk.specs.Tasks.{Task, Says, Changes, Looks, stamped, needs_turn, answer_at, left_at}
 use Rattle.rpc_desk.specs.Answers.{IsDone, IsEnded, IsSaid, Answers, Moves, IsAnsweredBy}
 
--- a turn that is answered otherwise, with the same marks
+-- a turn that is answered otherwise, with the same marks and the same faults of the disk
 pub retaken : {A B : Type 0} (old : PortView) (turn : Turn) (a : Result A Refusal) (b : Result B Refusal) (new : PortView)
-    → marks_after old.marks a ≡ marks_after old.marks b → TakesTurn old turn a new → TakesTurn old turn b new
-retaken old turn a b new same taken = record {
+    → marks_after old.marks a ≡ marks_after old.marks b → (HasFaultCause {T = A} old.faults a new.faults → HasFaultCause {T = B} old.faults b new.faults)
+    → TakesTurn old turn a new → TakesTurn old turn b new
+retaken old turn a b new same faults taken = record {
   own = taken.own;
   begins = taken.begins;
   alone = taken.alone;
@@ -27,13 +28,32 @@ retaken old turn a b new same taken = record {
   left_run = taken.left_run;
   more = taken.more;
   goes_on = taken.goes_on;
+  fault = faults taken.fault;
   new_is = taken.new_is ∙ ap (λ (n : ℕ). record old {
     seen = turn.left;
     finds = old.finds ++ turn.found ∷ [];
     made = old.made ++ entries_by old.author taken.more;
     marks = n;
+    faults = new.faults;
   }) same;
 }
+
+-- what is given leaves the same faults, whatever it is
+given_faults : (A B : Type 0) (before now : Option ℕ) (a : A) (b : B)
+    → HasFaultCause {T = A} before (Ok a) now → HasFaultCause {T = B} before (Ok b) now
+given_faults A B None None a b h = h
+given_faults A B None (Some n) a b h = h
+given_faults A B (Some m) None a b h = h
+given_faults A B (Some m) (Some n) a b h = h
+
+-- so do refusals, whatever else might have been answered
+refused_faults : (A B : Type 0) (before now : Option ℕ) (refusal : Refusal)
+    → HasFaultCause {T = A} before (Err refusal) now → HasFaultCause {T = B} before (Err refusal) now
+refused_faults A B None None refusal h = h
+refused_faults A B None (Some n) refusal h = h
+refused_faults A B (Some m) None refusal h = h
+refused_faults A B (Some m) (Some n) refusals.DiskFault h = h
+refused_faults A B (Some m) (Some n) refusal h = h
 
 -- refusals leave the same marks, whatever else might have been answered
 same_marks : (A B : Type 0) (marks : ℕ) (refusal : Refusal) → marks_after {T = A} marks (Err refusal) ≡ marks_after {T = B} marks (Err refusal)
@@ -84,7 +104,7 @@ pub change_accepted : (old new : PortView) (now : ℕ) (ask : Ask) (reply : ℕ 
 change_accepted old new now ask reply stamp octets written set = record {
   turn = Some set.turn;
   answers = (refl, inl (accepted (rules_in old.opened) old.author now ask reply set.turn stamp octets set.reading written set.answer));
-  moves = (set.reading, retaken old set.turn (Ok stamp) (Ok octets) new refl set.taken);
+  moves = (set.reading, retaken old set.turn (Ok stamp) (Ok octets) new refl (given_faults ℕ (List ℕ) old.faults new.faults stamp octets) set.taken);
 }
 
 pub change_refused : (old new : PortView) (now : ℕ) (ask : Ask) (reply : ℕ → List ℕ) (refusal : Refusal)
@@ -92,7 +112,7 @@ pub change_refused : (old new : PortView) (now : ℕ) (ask : Ask) (reply : ℕ �
 change_refused old new now ask reply refusal set = record {
   turn = Some set.turn;
   answers = (refl, not_changed (rules_in old.opened) old.author now ask reply set.turn refusal set.reading set.answer);
-  moves = (set.reading, retaken old set.turn (Err refusal) (Err refusal) new (same_marks ℕ (List ℕ) old.marks refusal) set.taken);
+  moves = (set.reading, retaken old set.turn (Err refusal) (Err refusal) new (same_marks ℕ (List ℕ) old.marks refusal) (refused_faults ℕ (List ℕ) old.faults new.faults refusal) set.taken);
 }
 
 -- ---- a look
@@ -122,7 +142,7 @@ pub look_refused : (old new : PortView) (now : ℕ) (patterns : List (List Elem)
 look_refused old new now patterns reply refusal look = record {
   turn = Some look.turn;
   answers = (refl, look_refused_so (rules_in old.opened) old.author now reply patterns look.turn refusal look.reading look.answer);
-  moves = (look.reading, retaken old look.turn (Err refusal) (Err refusal) new (same_marks View (List ℕ) old.marks refusal) look.taken);
+  moves = (look.reading, retaken old look.turn (Err refusal) (Err refusal) new (same_marks View (List ℕ) old.marks refusal) (refused_faults View (List ℕ) old.faults new.faults refusal) look.taken);
 }
 
 pub look_answered : (old new : PortView) (now : ℕ) (patterns : List (List Elem)) (reply : List Entry → Result (List ℕ) Refusal) (view : View)
@@ -131,7 +151,7 @@ pub look_answered : (old new : PortView) (now : ℕ) (patterns : List (List Elem
 look_answered old new now patterns reply view octets look gives = record {
   turn = Some look.turn;
   answers = (refl, inl (looked (rules_in old.opened) old.author now reply patterns look.turn view (Ok octets) look.reading look.answer gives));
-  moves = (look.reading, retaken old look.turn (Ok view) (Ok octets) new refl look.taken);
+  moves = (look.reading, retaken old look.turn (Ok view) (Ok octets) new refl (given_faults View (List ℕ) old.faults new.faults view octets) look.taken);
 }
 
 -- a refusal behind a view is no fault of the disk
@@ -139,6 +159,14 @@ no_mark : (marks : ℕ) (view : View) (refusal : Refusal) → refusal ≢ refusa
     → marks_after {T = View} marks (Ok view) ≡ marks_after {T = List ℕ} marks (Err refusal)
 no_mark marks view refusals.DiskFault other = absurd (other refl)
 no_mark marks view refusal other = refl
+
+no_fault : (before now : Option ℕ) (view : View) (refusal : Refusal) → refusal ≢ refusals.DiskFault
+    → HasFaultCause {T = View} before (Ok view) now → HasFaultCause {T = List ℕ} before (Err refusal) now
+no_fault None None view refusal other h = h
+no_fault None (Some n) view refusal other h = h
+no_fault (Some m) None view refusal other h = h
+no_fault (Some m) (Some n) view refusals.DiskFault other h = absurd (other refl)
+no_fault (Some m) (Some n) view refusal other h = h
 
 found_so : (rules : Rules) (author now : ℕ) (reply : List Entry → Result (List ℕ) Refusal) (patterns : List (List Elem)) (turn : Turn) (view : View)
     (refusal : Refusal) → turn.reading ≡ now → AnswersLook turn.found now patterns (Ok view) turn.left
@@ -155,7 +183,7 @@ pub look_not_answered : (old new : PortView) (now : ℕ) (patterns : List (List 
 look_not_answered old new now patterns reply view refusal look other gives = record {
   turn = Some look.turn;
   answers = (refl, found_so (rules_in old.opened) old.author now reply patterns look.turn view refusal look.reading look.answer gives);
-  moves = (look.reading, retaken old look.turn (Ok view) (Err refusal) new (no_mark old.marks view refusal other) look.taken);
+  moves = (look.reading, retaken old look.turn (Ok view) (Err refusal) new (no_mark old.marks view refusal other) (no_fault old.faults new.faults view refusal other) look.taken);
 }
 
 -- ---- no turn

@@ -393,7 +393,11 @@ const FAILING: &[(&[u8], (Took, Took, usize))] = &[
 #[test]
 fn a_failed_write_closes_the_wire(rt: HostRuntime) -> Result<(), Fail> {
     for (number, expected) in FAILING.iter().copied() {
-        assert_eq!(rt; failing(&rt, rt.alloc(), number), expected, "write {number:?}");
+        assert_eq!(rt;
+            failing(&rt, rt.alloc(), number),
+            expected,
+            "write {number:?}"
+        );
     }
     Ok(())
 }
