@@ -25,6 +25,7 @@ use base_kinds::{Ask, Entries, Entry, Paths, Refusal, TreeLike, View};
 use commit_core::Core;
 use commit_journal::{Ledger, LedgerFault};
 use disk_model::Disk;
+use schema_core::Schema;
 use std::alloc::Global;
 use std::marker::Model;
 use std::snapshot::Snapshot;
@@ -355,6 +356,13 @@ impl<D: Disk, T: TreeLike + Drop> Book<D, T> {
             return Err(Refusal::NoMemory);
         };
         Ok(view)
+    }
+
+    /// What trees are judged by.
+    pub fn schema(&self) -> &Schema
+        ensures { result.now ≡ self.now.opened.schema }
+    {
+        self.core.schema()
     }
 
     /// How many entries and marks there are together.

@@ -10,10 +10,10 @@ pub counts_author : (octets : List ℕ) (line : Line) → IsLine octets line →
 counts_author octets (lines.Set author) is = let range = lines_are_in_range octets (lines.Set author) is in omega (arith, range.0)
 counts_author octets (lines.At reading) is = tt
 counts_author octets (lines.Add act path value) is = tt
-counts_author octets (lines.Trial author id span) is = tt
-counts_author octets (lines.Confirm author id) is = tt
-counts_author octets (lines.Cancel author id) is = tt
-counts_author octets (lines.Extend author id span) is = tt
+counts_author octets (lines.Trial author id span) is = let range = lines_are_in_range octets (lines.Trial author id span) is in omega (arith, range.0.0)
+counts_author octets (lines.Confirm author id) is = let range = lines_are_in_range octets (lines.Confirm author id) is in omega (arith, range.0.0)
+counts_author octets (lines.Cancel author id) is = let range = lines_are_in_range octets (lines.Cancel author id) is in omega (arith, range.0.0)
+counts_author octets (lines.Extend author id span) is = let range = lines_are_in_range octets (lines.Extend author id span) is in omega (arith, range.0.0)
 counts_author octets (lines.Get author pattern) is = let range = lines_are_in_range octets (lines.Get author pattern) is in omega (arith, range.0.0)
 counts_author octets (lines.Sub line) is = tt
 counts_author octets (lines.Open author name mode only) is = tt

@@ -1,7 +1,10 @@
+pub mod Answering
 pub mod Authors
 pub mod LastFeeds
+pub mod NewBooks
 pub mod Pieces
-pub mod PlainHistories
 pub mod Runs
 pub mod ScriptLaws
 pub mod ScriptTexts
+pub mod TurnHistories
+pub mod Turns

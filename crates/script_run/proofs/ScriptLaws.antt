@@ -1,12 +1,17 @@
 -- What holds of every script.
-use Rattle.std.proofs.Common.{◌≡◌, ℕ, ◌+◌, ◌<◌, ◌≤◌, List, [], ◌∷◌, ◌++◌, Bool, true, false, Option, Some, None, Result, Ok, Err, refl, sym, ap, ◌∙◌, subst, inl, inr, arith}
+use Rattle.std.proofs.Common.{◌≡◌, ◌≢◌, ◌⊎◌, ℕ, ◌+◌, ◌<◌, ◌≤◌, List, [], ◌∷◌, ◌++◌, Bool, true, false, Option, Some, None, Result, Ok, Err, refl, sym, ap, ◌∙◌, subst, inl, inr, arith, append-nil, append_assoc, if◌then◌else◌}
+use Rattle.std.specs.List.{list_any}
 use Rattle.base_kinds.specs.declared.entry.Ask.{Ask}
 use Rattle.base_kinds.specs.declared.entry.Entry.{Entry}
 use Rattle.base_kinds.specs.declared.entry.Limits.{Limits}
+use Rattle.base_kinds.specs.declared.entry.View.{View}
 use Rattle.base_kinds.specs.declared.refusal.Refusal.{Refusal}
+use Rattle.base_kinds.specs.declared.refusal.Refusal.TheVariants.{DiskFault}
 use Rattle.base_kinds.specs.declared.request.SetAsk.{SetAsk}
+use Rattle.base_kinds.specs.declared.request.Action.{Action}
+use Rattle.base_kinds.specs.declared.request.Action.TheVariants as actions
 use Rattle.base_kinds.specs.Bases.{HasSoundTrees}
-use Rattle.base_kinds.specs.Events.{Event, set_answer, history_after_set, history_after_all}
+use Rattle.base_kinds.specs.Events.{Request, Set, Get, Event, Answer, OfSet, OfGet, is_long, set_answer, get_answer, history_after, history_after_request, history_after_set, history_after_all}
 use Rattle.base_kinds.specs.History.{IsHistory, world_of}
 use Rattle.base_kinds.specs.Legal.{IsLegal}
 use Rattle.base_kinds.specs.Rules.{rules_of}
@@ -16,6 +21,7 @@ use Rattle.history_laws.specs.LegalLaws.{AsksFit, IsFitEvent, AreFitEvents}
 use Rattle.history_laws.proofs.Judged.{events_keep_history}
 use Rattle.history_laws.proofs.Given.{base_is_legal, events_are_legal}
 use Rattle.history_laws.proofs.SoundTrees.{no_rows_are_sound, legal_trees_are_sound}
+use Rattle.disk_model.specs.Arming.{Arming}
 use Rattle.set_txn.specs.Resolution.{resolved}
 use Rattle.script_text.specs.declared.line.Line.{Line}
 use Rattle.script_text.specs.declared.line.Line.TheVariants as lines
@@ -23,26 +29,52 @@ use Rattle.script_text.specs.Lines.{lines_of}
 use Rattle.script_text.proofs.Meanings.{one_meaning}
 use Rattle.script_run.specs.Requests.{set_ask}
 use Rattle.script_run.specs.ScriptOctets.{is_too_long, within_limit}
-use Rattle.script_run.specs.ScriptStates.{ScriptState, fresh, rules_in, CountsAuthor, line_event, history_behind, state_after}
-use Rattle.script_run.specs.AnswerLines.{line_text}
+use Rattle.script_run.specs.ScriptStates.{ScriptState, fresh, rules_in, CountsAuthor, set_event, line_event, arming_with, book_in, book_behind, state_after}
+use Rattle.book_core.specs.Calls.{expiry_entry}
+use Rattle.script_run.specs.AnswerLines.{event_reply, line_answer, line_text}
 use Rattle.script_run.specs.Scripts.{Ends, Prints, RunsScript}
-use Rattle.script_run.specs.laws.ScriptLaws.{state_behind, with_event, script_events, HaveAuthors}
+use Rattle.script_run.specs.Turns.{BookState, request_reply, unless_failed}
+use Rattle.script_run.specs.laws.ScriptLaws.{state_behind, with_event, script_events, HaveAuthors, LetsPass, LetPass, IsQuiet, clock_event, IsDone, AreDone, LeavesBy}
 use Rattle.set_txn.proofs.FitAsks.{resolved_is_fit}
+use Rattle.script_run.proofs.Turns.{book, with_entry, expiry_is}
+use Rattle.script_run.proofs.TurnHistories.{Leaves, request_turn, request_leaves, quiet, event_quiet}
 
--- ---- events
+event_leaves : (state : ScriptState) (event : Event) → Leaves state.history event.reading (history_after (rules_in state) state.history event) (book_behind (Some event) state)
+event_leaves state event = request_leaves (rules_in state) state.history state.doubt state.arming event.reading event.author event.request
 
-one_event : (rules : Rules) (h : List Entry) (event : Option Event) (events : List Event) → history_after_all rules (history_behind rules h event) events ≡ history_after_all rules h (with_event event events)
-one_event rules h None events = refl
-one_event rules h (Some event) events = refl
+-- ---- events that were done
 
-pub makes_events : (ls : List Line) (state : ScriptState) → (state_behind ls state).history ≡ history_after_all (rules_in state) state.history (script_events ls state)
-makes_events [] state = refl
-makes_events (line ∷ ls) state =
-    makes_events ls (state_after line state) ∙ one_event (rules_in state) state.history (line_event line state) (script_events ls (state_after line state))
+record Done (rules : Rules) (h left : List Entry) (event : Option Event) (failed : Bool) (others : List Event) : Type 0 where
+  events : List Event
+  are : IsDone event failed others events
+  whole : history_after_all rules left others ≡ history_after_all rules h events
+
+done_event : (rules : Rules) (h : List Entry) (event : Event) (failed : Bool) (left : List Entry) (others : List Event) → (failed ≡ false → left ≡ history_after rules h event) → (failed ≡ true → (left ≡ h) ⊎ (left ≡ after_expiry h event.reading)) → Done rules h left (Some event) failed others
+done_event rules h event false left others done cut = record { events = event ∷ others; are = refl; whole = ap (λ l. history_after_all rules l others) (done refl) }
+done_event rules h event true left others done cut = by (cut refl)
+  where
+    by : (left ≡ h) ⊎ (left ≡ after_expiry h event.reading) → Done rules h left (Some event) true others
+    by (inl same) = record { events = others; are = inl refl; whole = ap (λ l. history_after_all rules l others) same }
+    by (inr behind) = record { events = clock_event event ∷ others; are = inr refl; whole = ap (λ l. history_after_all rules l others) behind }
+
+done_first : (event : Option Event) (state : ScriptState) (others : List Event) → Done (rules_in state) state.history (book_behind event state).history event (book_behind event state).failed others
+done_first None state others = record { events = others; are = refl; whole = refl }
+done_first (Some event) state others =
+    let left : BookState = book_behind (Some event) state in
+    let leaves = event_leaves state event in
+    done_event (rules_in state) state.history event left.failed left.history others leaves.done leaves.cut
+
+pub makes_done : (ls : List Line) (state : ScriptState) → (done : List Event) × AreDone ls state done × ((state_behind ls state).history ≡ history_after_all (rules_in state) state.history done)
+makes_done [] state = ([], refl, refl)
+makes_done (line ∷ ls) state =
+    let rest = makes_done ls (state_after line state) in
+    let first = done_first (line_event line state) state rest.0 in
+    (first.events, (rest.0, first.are, rest.1), rest.2 ∙ first.whole)
 
 pub makes_histories : (schema : List SchemaNode) (limits : Limits) (ls : List Line) → IsHistory (state_behind ls (fresh schema limits)).history
 makes_histories schema limits ls =
-    subst IsHistory (sym (makes_events ls (fresh schema limits))) (events_keep_history (rules_of schema limits) [] (script_events ls (fresh schema limits)) tt)
+    let made = makes_done ls (fresh schema limits) in
+    subst IsHistory (sym made.2) (events_keep_history (rules_of schema limits) [] made.0 tt)
 
 -- ---- legal histories
 
@@ -54,16 +86,19 @@ abbrev IsFitIfAny : Option Event → Type 0
 IsFitIfAny None = Unit {0}
 IsFitIfAny (Some event) = IsFitEvent event
 
+set_fits : (state : ScriptState) (author : ℕ) (action : Action) → 0 < author → IsFitEvent (set_event state author action)
+set_fits state author action counts =
+    record { author = omega (arith, counts); request_fits = asks_fit state.schema (set_ask action state.pending) (resolved state.schema (set_ask action state.pending)) refl }
+
 event_fits : (line : Line) (state : ScriptState) → CountsAuthor line → IsFitIfAny (line_event line state)
-event_fits (lines.Set author) state counts =
-    record { author = omega (arith, counts); request_fits = asks_fit state.schema (set_ask state.pending) (resolved state.schema (set_ask state.pending)) refl }
+event_fits (lines.Set author) state counts = set_fits state author actions.Plain counts
 event_fits (lines.Get author pattern) state counts = record { author = omega (arith, counts); request_fits = tt }
+event_fits (lines.Trial author id span) state counts = set_fits state author (actions.Trial id span) counts
+event_fits (lines.Confirm author id) state counts = set_fits state author (actions.Confirm id) counts
+event_fits (lines.Cancel author id) state counts = set_fits state author (actions.Cancel id) counts
+event_fits (lines.Extend author id span) state counts = set_fits state author (actions.Extend id span) counts
 event_fits (lines.At reading) state counts = tt
 event_fits (lines.Add act path value) state counts = tt
-event_fits (lines.Trial author id span) state counts = tt
-event_fits (lines.Confirm author id) state counts = tt
-event_fits (lines.Cancel author id) state counts = tt
-event_fits (lines.Extend author id span) state counts = tt
 event_fits (lines.Sub line) state counts = tt
 event_fits (lines.Open author name mode only) state counts = tt
 event_fits (lines.Turn name) state counts = tt
@@ -72,24 +107,76 @@ event_fits (lines.End name) state counts = tt
 event_fits (lines.Stop calls fill) state counts = tt
 event_fits (lines.Fail calls) state counts = tt
 
-with_fit : (event : Option Event) (events : List Event) → IsFitIfAny event → AreFitEvents events → AreFitEvents (with_event event events)
-with_fit None events fit others = others
-with_fit (Some event) events fit others = (fit, others)
+with_fit : (event : Option Event) (failed : Bool) (others done : List Event) → IsFitIfAny event → AreFitEvents others → IsDone event failed others done → AreFitEvents done
+with_fit None failed others done fit rest is = subst AreFitEvents (sym is) rest
+with_fit (Some event) false others done fit rest is = subst AreFitEvents (sym is) (fit, rest)
+with_fit (Some event) true others done fit rest (inl is) = subst AreFitEvents (sym is) rest
+with_fit (Some event) true others done fit rest (inr is) = subst AreFitEvents (sym is) (record { author = fit.author; request_fits = tt }, rest)
 
-events_fit : (ls : List Line) (state : ScriptState) → HaveAuthors ls → AreFitEvents (script_events ls state)
-events_fit [] state have = tt
-events_fit (line ∷ ls) state have =
-    with_fit (line_event line state) (script_events ls (state_after line state)) (event_fits line state have.0) (events_fit ls (state_after line state) have.1)
+done_fit : (ls : List Line) (state : ScriptState) (done : List Event) → HaveAuthors ls → AreDone ls state done → AreFitEvents done
+done_fit [] state done have is = subst AreFitEvents (sym is) tt
+done_fit (line ∷ ls) state done have is =
+    with_fit (line_event line state) (book_behind (line_event line state) state).failed is.0 done (event_fits line state have.0) (done_fit ls (state_after line state) is.0 have.1 is.2) is.1
 
 pub makes_legal_histories : (schema : List SchemaNode) (limits : Limits) (ls : List Line) → HaveAuthors ls → IsLegal (rules_of schema limits) [] (state_behind ls (fresh schema limits)).history
 makes_legal_histories schema limits ls have =
     let rules = rules_of schema limits in
-    let events = script_events ls (fresh schema limits) in
-    subst (IsLegal rules []) (sym (makes_events ls (fresh schema limits))) (events_are_legal rules [] [] events tt (events_fit ls (fresh schema limits) have) (base_is_legal rules []))
+    let made = makes_done ls (fresh schema limits) in
+    subst (IsLegal rules []) (sym made.2) (events_are_legal rules [] [] made.0 tt (done_fit ls (fresh schema limits) made.0 have made.1) (base_is_legal rules []))
 
 pub makes_sound_trees : (schema : List SchemaNode) (limits : Limits) (ls : List Line) → HaveAuthors ls → HasSoundTrees schema (world_of (state_behind ls (fresh schema limits)).history)
 makes_sound_trees schema limits ls have =
     legal_trees_are_sound schema limits [] (state_behind ls (fresh schema limits)).history (record { tree = no_rows_are_sound schema; before = tt }) (makes_legal_histories schema limits ls have)
+
+-- ---- without `fail` lines
+
+abbrev pub history_behind : Rules → List Entry → Option Event → List Entry
+history_behind rules h None = h
+history_behind rules h (Some event) = history_after rules h event
+
+book_quiet : (state : ScriptState) → IsQuiet state → book_in state ≡ quiet state.history
+book_quiet state is = ap (λ d. book state.history d state.arming false) is.doubt ∙ ap (λ a. book state.history None a false) is.arming
+
+pub behind_quiet : (event : Option Event) (state : ScriptState) → IsQuiet state → book_behind event state ≡ quiet (history_behind (rules_in state) state.history event)
+behind_quiet None state is = book_quiet state is
+behind_quiet (Some event) state is = ap (λ b. book_behind (Some event) (record state { history = b.history; doubt = b.doubt; arming = b.arming })) (book_quiet state is) ∙ event_quiet (rules_in state) state.history event
+
+arming_same : (line : Line) (arming : Arming) → LetsPass line → arming_with line arming ≡ arming
+arming_same (lines.Set author) arming lets = refl
+arming_same (lines.Get author pattern) arming lets = refl
+arming_same (lines.Trial author id span) arming lets = refl
+arming_same (lines.Confirm author id) arming lets = refl
+arming_same (lines.Cancel author id) arming lets = refl
+arming_same (lines.Extend author id span) arming lets = refl
+arming_same (lines.At reading) arming lets = refl
+arming_same (lines.Add act path value) arming lets = refl
+arming_same (lines.Sub line) arming lets = refl
+arming_same (lines.Open author name mode only) arming lets = refl
+arming_same (lines.Turn name) arming lets = refl
+arming_same (lines.Poll name) arming lets = refl
+arming_same (lines.End name) arming lets = refl
+arming_same (lines.Stop calls fill) arming lets = refl
+arming_same (lines.Fail calls) arming lets = absurd lets
+
+pub stays_quiet : (line : Line) (state : ScriptState) → LetsPass line → IsQuiet state → IsQuiet (state_after line state)
+stays_quiet line state lets is =
+    let left = behind_quiet (line_event line state) state is in
+    record {
+      doubt = ap (λ (b : BookState). b.doubt) left;
+      arming = arming_same line (book_behind (line_event line state) state).arming lets ∙ ap (λ (b : BookState). b.arming) left;
+    }
+
+one_event : (rules : Rules) (h : List Entry) (event : Option Event) (events : List Event) → history_after_all rules (history_behind rules h event) events ≡ history_after_all rules h (with_event event events)
+one_event rules h None events = refl
+one_event rules h (Some event) events = refl
+
+pub makes_events : (ls : List Line) (state : ScriptState) → LetPass ls → IsQuiet state → (state_behind ls state).history ≡ history_after_all (rules_in state) state.history (script_events ls state)
+makes_events [] state lets is = refl
+makes_events (line ∷ ls) state lets is =
+    let events = script_events ls (state_after line state) in
+    makes_events ls (state_after line state) lets.1 (stays_quiet line state lets.0 is)
+    ∙ ap (λ (b : BookState). history_after_all (rules_in state) b.history events) (behind_quiet (line_event line state) state is)
+    ∙ one_event (rules_in state) state.history (line_event line state) events
 
 -- ---- one text
 
@@ -115,11 +202,161 @@ pub prints_one_text : (schema : List SchemaNode) (limits : Limits) (script text 
 unfolding RunsScript
 prints_one_text schema limits script text text' whole whole' p q = prints_one (is_too_long script) 1 (lines_of (within_limit script)) (fresh schema limits) text text' whole whole' p q
 
+-- ---- what an answer says of the history
+
+abbrev IsCut : List Entry → ℕ → List Entry → Type 0
+IsCut h reading left = (left ≡ h) ⊎ (left ≡ after_expiry h reading)
+
+set_done : (rules : Rules) (h : List Entry) (reading author : ℕ) (request : Result Ask Refusal) (left : List Entry) → left ≡ history_after_set rules h reading author request → LeavesBy h reading (Some (OfSet (set_answer rules h reading author request))) left
+set_done rules h reading author (Ok ask) left is = by (step rules h reading author ask) is
+  where
+    by : (answer : Result Entry Refusal) → left ≡ with_answer (after_expiry h reading) answer → LeavesBy h reading (Some (OfSet answer)) left
+    by (Ok entry) same = same
+    by (Err refusal) same = inr same
+set_done rules h reading author (Err refusal) left is = inl is
+
+set_tells : (h : List Entry) (reading : ℕ) (failed : Bool) (answer : Result Entry Refusal) (left : List Entry) → (failed ≡ true → IsCut h reading left) → (failed ≡ false → LeavesBy h reading (Some (OfSet answer)) left) → LeavesBy h reading (Some (OfSet (unless_failed failed answer))) left
+set_tells h reading true answer left cut done = cut refl
+set_tells h reading false answer left cut done = done refl
+
+get_tells : (h : List Entry) (reading : ℕ) (failed long : Bool) (left : List Entry) → (failed ≡ true → IsCut h reading left) → (failed ≡ false → left ≡ (if long then h else after_expiry h reading)) → IsCut h reading left
+get_tells h reading true long left cut done = cut refl
+get_tells h reading false true left cut done = inl (done refl)
+get_tells h reading false false left cut done = inr (done refl)
+
+tells : (rules : Rules) (h : List Entry) (doubt : Option Entry) (arming : Arming) (reading author : ℕ) (request : Request) → let left = request_turn rules h doubt arming reading author request in LeavesBy h reading (Some (request_reply rules h reading author request left.failed)) left.history
+tells rules h doubt arming reading author (Set request) =
+    let left : BookState = request_turn rules h doubt arming reading author (Set request) in
+    let leaves = request_leaves rules h doubt arming reading author (Set request) in
+    set_tells h reading left.failed (set_answer rules h reading author request) left.history leaves.cut (λ is. set_done rules h reading author request left.history (leaves.done is))
+tells rules h doubt arming reading author (Get patterns) =
+    let left : BookState = request_turn rules h doubt arming reading author (Get patterns) in
+    let leaves = request_leaves rules h doubt arming reading author (Get patterns) in
+    get_tells h reading left.failed (list_any is_long patterns) left.history leaves.cut leaves.done
+
+event_tells : (state : ScriptState) (author : ℕ) (request : Request) → let left = request_turn (rules_in state) state.history state.doubt state.arming state.reading author request in LeavesBy state.history state.reading (Some (request_reply (rules_in state) state.history state.reading author request left.failed)) left.history
+event_tells state author request = tells (rules_in state) state.history state.doubt state.arming state.reading author request
+
+pub answers_tell : (line : Line) (state : ScriptState) → LeavesBy state.history state.reading (line_answer line state) (state_after line state).history
+answers_tell (lines.Set author) state = event_tells state author (set_event state author actions.Plain).request
+answers_tell (lines.Get author pattern) state = event_tells state author (Get (pattern ∷ []))
+answers_tell (lines.Trial author id span) state = event_tells state author (set_event state author (actions.Trial id span)).request
+answers_tell (lines.Confirm author id) state = event_tells state author (set_event state author (actions.Confirm id)).request
+answers_tell (lines.Cancel author id) state = event_tells state author (set_event state author (actions.Cancel id)).request
+answers_tell (lines.Extend author id span) state = event_tells state author (set_event state author (actions.Extend id span)).request
+answers_tell (lines.At reading) state = refl
+answers_tell (lines.Add act path value) state = refl
+answers_tell (lines.Sub line) state = refl
+answers_tell (lines.Open author name mode only) state = refl
+answers_tell (lines.Turn name) state = refl
+answers_tell (lines.Poll name) state = refl
+answers_tell (lines.End name) state = refl
+answers_tell (lines.Stop calls fill) state = refl
+answers_tell (lines.Fail calls) state = refl
+
+-- ---- what was accepted stays
+
+record GoesOn (h left : List Entry) : Type 0 where
+  later : List Entry
+  whole : left ≡ h ++ later
+
+entry_goes_on : (h : List Entry) (entry : Option Entry) → GoesOn h (with_entry h entry)
+entry_goes_on h None = record { later = []; whole = sym (append-nil h) }
+entry_goes_on h (Some entry) = record { later = entry ∷ []; whole = refl }
+
+goes_on_then : (a b c : List Entry) → GoesOn a b → GoesOn b c → GoesOn a c
+goes_on_then a b c first second = record { later = first.later ++ second.later; whole = second.whole ∙ ap (λ l. l ++ second.later) first.whole ∙ append_assoc a first.later second.later }
+
+expiry_goes_on : (h : List Entry) (reading : ℕ) → GoesOn h (after_expiry h reading)
+expiry_goes_on h reading = subst (GoesOn h) (expiry_is h reading) (entry_goes_on h (expiry_entry h reading))
+
+cut_goes_on : (h : List Entry) (reading : ℕ) (left : List Entry) → IsCut h reading left → GoesOn h left
+cut_goes_on h reading left (inl same) = record { later = []; whole = same ∙ sym (append-nil h) }
+cut_goes_on h reading left (inr behind) = subst (GoesOn h) (sym behind) (expiry_goes_on h reading)
+
+line_goes_on : (h : List Entry) (reading : ℕ) (answer : Option Answer) (left : List Entry) → LeavesBy h reading answer left → GoesOn h left
+line_goes_on h reading (Some (OfSet (Ok entry))) left is = goes_on_then h (after_expiry h reading) left (expiry_goes_on h reading) (record { later = entry ∷ []; whole = is })
+line_goes_on h reading (Some (OfSet (Err refusal))) left is = cut_goes_on h reading left is
+line_goes_on h reading (Some (OfGet view)) left is = cut_goes_on h reading left is
+line_goes_on h reading None left is = record { later = []; whole = is ∙ sym (append-nil h) }
+
+lines_go_on : (ls : List Line) (state : ScriptState) → GoesOn state.history (state_behind ls state).history
+lines_go_on [] state = record { later = []; whole = sym (append-nil state.history) }
+lines_go_on (line ∷ ls) state =
+    goes_on_then state.history (state_after line state).history (state_behind ls (state_after line state)).history (line_goes_on state.history state.reading (line_answer line state) (state_after line state).history (answers_tell line state)) (lines_go_on ls (state_after line state))
+
+pub accepted_stay : (line : Line) (more : List Line) (state : ScriptState) (entry : Entry) → line_answer line state ≡ Some (OfSet (Ok entry)) → (later : List Entry) × ((state_behind more (state_after line state)).history ≡ (after_expiry state.history state.reading ++ entry ∷ []) ++ later)
+accepted_stay line more state entry is =
+    let added : (state_after line state).history ≡ after_expiry state.history state.reading ++ entry ∷ [] = subst (λ a. LeavesBy state.history state.reading a (state_after line state).history) is (answers_tell line state) in
+    let on = lines_go_on more (state_after line state) in
+    (on.later, on.whole ∙ ap (λ l. l ++ on.later) added)
+
 -- ---- refusals
 
-pub refused_changes_nothing : (state : ScriptState) (author : ℕ) (ask : Ask) (refusal : Refusal) → resolved state.schema (set_ask state.pending) ≡ Ok ask → set_answer (rules_in state) state.history state.reading author (Ok ask) ≡ Err refusal → (state_after (lines.Set author) state).history ≡ after_expiry state.history state.reading
-refused_changes_nothing state author ask refusal is refused =
-    ap (history_after_set (rules_in state) state.history state.reading author) is ∙ ap (with_answer (after_expiry state.history state.reading)) refused
+abbrev reading_of : Option Event → ℕ
+reading_of None = 0
+reading_of (Some event) = event.reading
 
-pub bad_request_changes_nothing : (state : ScriptState) (author : ℕ) (refusal : Refusal) → resolved state.schema (set_ask state.pending) ≡ Err refusal → (state_after (lines.Set author) state).history ≡ state.history
-bad_request_changes_nothing state author refusal is = ap (history_after_set (rules_in state) state.history state.reading author) is
+reading_is : (line : Line) (state : ScriptState) (event : Event) → line_event line state ≡ Some event → event.reading ≡ state.reading
+reading_is (lines.Set author) state event is = sym (ap reading_of is)
+reading_is (lines.Get author pattern) state event is = sym (ap reading_of is)
+reading_is (lines.Trial author id span) state event is = sym (ap reading_of is)
+reading_is (lines.Confirm author id) state event is = sym (ap reading_of is)
+reading_is (lines.Cancel author id) state event is = sym (ap reading_of is)
+reading_is (lines.Extend author id span) state event is = sym (ap reading_of is)
+reading_is (lines.At reading) state event is = cc is
+reading_is (lines.Add act path value) state event is = cc is
+reading_is (lines.Sub line) state event is = cc is
+reading_is (lines.Open author name mode only) state event is = cc is
+reading_is (lines.Turn name) state event is = cc is
+reading_is (lines.Poll name) state event is = cc is
+reading_is (lines.End name) state event is = cc is
+reading_is (lines.Stop calls fill) state event is = cc is
+reading_is (lines.Fail calls) state event is = cc is
+
+event_lets_pass : (line : Line) (state : ScriptState) (event : Event) → line_event line state ≡ Some event → LetsPass line
+event_lets_pass (lines.Fail calls) state event is = cc is
+event_lets_pass (lines.Set author) state event is = tt
+event_lets_pass (lines.Get author pattern) state event is = tt
+event_lets_pass (lines.Trial author id span) state event is = tt
+event_lets_pass (lines.Confirm author id) state event is = tt
+event_lets_pass (lines.Cancel author id) state event is = tt
+event_lets_pass (lines.Extend author id span) state event is = tt
+event_lets_pass (lines.At reading) state event is = tt
+event_lets_pass (lines.Add act path value) state event is = tt
+event_lets_pass (lines.Sub line) state event is = tt
+event_lets_pass (lines.Open author name mode only) state event is = tt
+event_lets_pass (lines.Turn name) state event is = tt
+event_lets_pass (lines.Poll name) state event is = tt
+event_lets_pass (lines.End name) state event is = tt
+event_lets_pass (lines.Stop calls fill) state event is = tt
+
+unless_refused : (failed : Bool) (answer : Result Entry Refusal) (refusal : Refusal) → unless_failed failed answer ≡ Err refusal → refusal ≢ DiskFault → (failed ≡ false) × (answer ≡ Err refusal)
+unless_refused true answer refusal is other = absurd (other (cc is))
+unless_refused false answer refusal is other = (refl, is)
+
+refused_request : (rules : Rules) (h : List Entry) (doubt : Option Entry) (arming : Arming) (reading author : ℕ) (ask : Ask) (refusal : Refusal) (request : Request) → Set (Ok ask) ≡ request → request_reply rules h reading author request (request_turn rules h doubt arming reading author request).failed ≡ OfSet (Err refusal) → refusal ≢ DiskFault → (request_turn rules h doubt arming reading author request).history ≡ after_expiry h reading
+refused_request rules h doubt arming reading author ask refusal request is replied other =
+    subst (λ r. request_reply rules h reading author r (request_turn rules h doubt arming reading author r).failed ≡ OfSet (Err refusal) → (request_turn rules h doubt arming reading author r).history ≡ after_expiry h reading) is here replied
+  where
+    here : request_reply rules h reading author (Set (Ok ask)) (request_turn rules h doubt arming reading author (Set (Ok ask))).failed ≡ OfSet (Err refusal) → (request_turn rules h doubt arming reading author (Set (Ok ask))).history ≡ after_expiry h reading
+    here same =
+        let left : BookState = request_turn rules h doubt arming reading author (Set (Ok ask)) in
+        let leaves = request_leaves rules h doubt arming reading author (Set (Ok ask)) in
+        let parts = unless_refused left.failed (step rules h reading author ask) refusal (cc same) other in
+        leaves.done parts.0 ∙ ap (with_answer (after_expiry h reading)) parts.1
+
+pub refused_changes_nothing : (line : Line) (state : ScriptState) (event : Event) (ask : Ask) (refusal : Refusal) → line_event line state ≡ Some event → event.request ≡ Set (Ok ask) → line_answer line state ≡ Some (OfSet (Err refusal)) → refusal ≢ DiskFault → (state_after line state).history ≡ after_expiry state.history state.reading
+refused_changes_nothing line state event ask refusal is asks answered other =
+    let replied = sym (ap (λ e. event_reply e state) is) ∙ answered in
+    ap (λ e. (book_behind e state).history) is
+    ∙ refused_request (rules_in state) state.history state.doubt state.arming event.reading event.author ask refusal event.request (sym asks) (cc replied) other
+    ∙ ap (after_expiry state.history) (reading_is line state event is)
+
+bad_request : (rules : Rules) (h : List Entry) (doubt : Option Entry) (arming : Arming) (reading author : ℕ) (refusal : Refusal) (request : Request) → Set (Err refusal) ≡ request → request_turn rules h doubt arming reading author request ≡ book h doubt arming false
+bad_request rules h doubt arming reading author refusal request is = subst (λ r. request_turn rules h doubt arming reading author r ≡ book h doubt arming false) is refl
+
+pub bad_request_changes_nothing : (line : Line) (state : ScriptState) (event : Event) (refusal : Refusal) → line_event line state ≡ Some event → event.request ≡ Set (Err refusal) → ((state_after line state).history ≡ state.history) × ((state_after line state).doubt ≡ state.doubt) × ((state_after line state).arming ≡ state.arming)
+bad_request_changes_nothing line state event refusal is asks =
+    let left : book_behind (line_event line state) state ≡ book_in state = ap (λ e. book_behind e state) is ∙ bad_request (rules_in state) state.history state.doubt state.arming event.reading event.author refusal event.request (sym asks) in
+    (ap (λ (b : BookState). b.history) left, ap (λ (b : BookState). b.doubt) left, arming_same line (book_behind (line_event line state) state).arming (event_lets_pass line state event is) ∙ ap (λ (b : BookState). b.arming) left)

@@ -3,7 +3,7 @@ use Rattle.std.proofs.Common.{◌≡◌, ℕ, ◌+◌, List, [], ◌∷◌, ◌+
 use Rattle.std.specs.List.{flat_map}
 use Rattle.base_kinds.specs.declared.entry.Entry.{Entry}
 use Rattle.base_kinds.specs.declared.entry.Limits.{Limits}
-use Rattle.base_kinds.specs.Events.{Event, event_answers, history_after_all}
+use Rattle.base_kinds.specs.Events.{Event, event_answer, event_answers, history_after_all}
 use Rattle.base_kinds.specs.Limits.{most_script_octets}
 use Rattle.base_kinds.specs.Rules.{rules_of}
 use Rattle.base_kinds.specs.Schema.{SchemaNode}
@@ -11,32 +11,45 @@ use Rattle.base_kinds.specs.Step.{Rules}
 use Rattle.commit_report.specs.Logs.{log_text}
 use Rattle.script_text.specs.declared.line.Line.{Line}
 use Rattle.script_text.specs.Lines.{lines_of}
-use Rattle.script_run.specs.AnswerLines.{answer_lines, event_lines, line_text}
+use Rattle.script_run.specs.AnswerLines.{answer_lines, event_reply, lines_if_any, line_text}
 use Rattle.script_run.specs.ScriptOctets.{is_too_long, to_last_feed, within_limit}
-use Rattle.script_run.specs.ScriptStates.{ScriptState, fresh, rules_in, line_event, history_behind, state_after}
+use Rattle.script_run.specs.ScriptStates.{ScriptState, fresh, rules_in, line_event, state_after}
 use Rattle.script_run.specs.Scripts.{Prints, RunsScript}
-use Rattle.script_run.specs.laws.ScriptLaws.{state_behind, with_event, script_events}
-use Rattle.script_run.specs.laws.ScriptTexts.{AreScriptLines, events_text, PrintsEvents}
-use Rattle.script_run.proofs.ScriptLaws.{makes_events, prints_one_text}
+use Rattle.script_run.specs.Turns.{BookState, turn_answer}
+use Rattle.script_run.specs.laws.ScriptLaws.{IsQuiet, LetPass, state_behind, with_event, script_events}
+use Rattle.script_run.specs.laws.ScriptTexts.{AreScriptLines, texts_of, whole_text, PrintsAnswers, AnswersEvents}
+use Rattle.script_run.proofs.ScriptLaws.{history_behind, behind_quiet, stays_quiet, makes_events, prints_one_text}
+use Rattle.script_run.proofs.TurnHistories.{answer_quiet}
 
--- the answers to these lines, one after another
-abbrev answers_to : List Line → ScriptState → List ℕ
-answers_to [] state = []
-answers_to (line ∷ lines) state = line_text line state ++ answers_to lines (state_after line state)
+abbrev quiet_lines : Rules → List Entry → Option Event → List ℕ
+quiet_lines rules h None = []
+quiet_lines rules h (Some event) = answer_lines (event_answer rules h event)
 
-one_answer : (rules : Rules) (h : List Entry) (event : Option Event) (events : List Event) → event_lines rules h event ++ flat_map answer_lines (event_answers rules (history_behind rules h event) events) ≡ flat_map answer_lines (event_answers rules h (with_event event events))
+one_answer : (rules : Rules) (h : List Entry) (event : Option Event) (events : List Event) → quiet_lines rules h event ++ flat_map answer_lines (event_answers rules (history_behind rules h event) events) ≡ flat_map answer_lines (event_answers rules h (with_event event events))
 one_answer rules h None events = refl
 one_answer rules h (Some event) events = refl
 
--- and they are those to their events
-answers_are_of_events : (lines : List Line) (state : ScriptState) → answers_to lines state ≡ flat_map answer_lines (event_answers (rules_in state) state.history (script_events lines state))
-answers_are_of_events [] state = refl
-answers_are_of_events (line ∷ lines) state =
-    ap (λ rest. line_text line state ++ rest) (answers_are_of_events lines (state_after line state))
-    ∙ one_answer (rules_in state) state.history (line_event line state) (script_events lines (state_after line state))
+-- what is printed where nothing fails
+line_quiet : (event : Option Event) (state : ScriptState) → IsQuiet state → lines_if_any (event_reply event state) ≡ quiet_lines (rules_in state) state.history event
+line_quiet None state is = refl
+line_quiet (Some event) state is =
+    ap (λ (b : BookState). answer_lines (turn_answer (rules_in state) state.history event b.failed)) (behind_quiet (Some event) state is)
+    ∙ ap answer_lines (answer_quiet (rules_in state) state.history event)
+
+-- and that is of the events
+texts_are_of_events : (lines : List Line) (state : ScriptState) → LetPass lines → IsQuiet state → texts_of lines state ≡ flat_map answer_lines (event_answers (rules_in state) state.history (script_events lines state))
+texts_are_of_events [] state lets is = refl
+texts_are_of_events (line ∷ lines) state lets is =
+    let rules = rules_in state in
+    let event = line_event line state in
+    let events = script_events lines (state_after line state) in
+    ap (λ rest. line_text line state ++ rest) (texts_are_of_events lines (state_after line state) lets.1 (stays_quiet line state lets.0 is))
+    ∙ ap (λ text. text ++ flat_map answer_lines (event_answers rules (state_after line state).history events)) (line_quiet event state is)
+    ∙ ap (λ (b : BookState). quiet_lines rules state.history event ++ flat_map answer_lines (event_answers rules b.history events)) (behind_quiet event state is)
+    ∙ one_answer rules state.history event events
 
 -- lines that are all taken print their answers and the log
-prints_all : (number : ℕ) (octets : List (List ℕ)) (lines : List Line) (state : ScriptState) → AreScriptLines octets lines → Prints false number octets state (answers_to lines state ++ (codes "log\n" ++ log_text (state_behind lines state).history)) true
+prints_all : (number : ℕ) (octets : List (List ℕ)) (lines : List Line) (state : ScriptState) → AreScriptLines octets lines → Prints false number octets state (texts_of lines state ++ (codes "log\n" ++ log_text (state_behind lines state).history)) true
 prints_all number [] [] state are = (refl, refl)
 prints_all number [] (line ∷ lines) state are = absurd are
 prints_all number (first ∷ others) [] state are = absurd are
@@ -45,27 +58,31 @@ prints_all number (first ∷ others) (line ∷ lines) state are =
     inl (record {
       line = line;
       meaning = are.0;
-      rest = answers_to lines (state_after line state) ++ log;
-      whole = append_assoc (line_text line state) (answers_to lines (state_after line state)) log;
+      rest = texts_of lines (state_after line state) ++ log;
+      whole = append_assoc (line_text line state) (texts_of lines (state_after line state)) log;
       goes_on = prints_all (number + 1) others lines (state_after line state) are.1;
     })
 
 short_script : (script : List ℕ) → is_too_long script ≡ false → within_limit script ≡ script
 short_script script short = ap (λ b. if b then to_last_feed (take most_script_octets script) else script) short
 
-runs_all : (schema : List SchemaNode) (limits : Limits) (script : List ℕ) (lines : List Line) → is_too_long script ≡ false → AreScriptLines (lines_of script) lines → RunsScript schema limits script (events_text schema limits (script_events lines (fresh schema limits))) true
+runs_all : (schema : List SchemaNode) (limits : Limits) (script : List ℕ) (lines : List Line) → is_too_long script ≡ false → AreScriptLines (lines_of script) lines → RunsScript schema limits script (whole_text schema limits lines) true
 unfolding RunsScript
 runs_all schema limits script lines short are =
     let start = fresh schema limits in
-    let events = script_events lines start in
-    let text = events_text schema limits events in
-    let log : (state_behind lines start).history ≡ history_after_all (rules_of schema limits) [] events = makes_events lines start in
-    let answers : answers_to lines start ≡ flat_map answer_lines (event_answers (rules_of schema limits) [] events) = answers_are_of_events lines start in
-    let same : answers_to lines start ++ (codes "log\n" ++ log_text (state_behind lines start).history) ≡ text = ap (λ a. a ++ (codes "log\n" ++ log_text (state_behind lines start).history)) answers ∙ ap (λ h. flat_map answer_lines (event_answers (rules_of schema limits) [] events) ++ (codes "log\n" ++ log_text h)) log in
-    let all : Prints false 1 (lines_of script) start text true = subst (λ t. Prints false 1 (lines_of script) start t true) same (prints_all 1 (lines_of script) lines start are) in
+    let text = whole_text schema limits lines in
     subst (λ b. Prints b 1 (lines_of (within_limit script)) start text true) (sym short)
-    (subst (λ s. Prints false 1 (lines_of s) start text true) (sym (short_script script short)) all)
+    (subst (λ s. Prints false 1 (lines_of s) start text true) (sym (short_script script short)) (prints_all 1 (lines_of script) lines start are))
 
-pub prints_events : PrintsEvents
-prints_events schema limits script lines text is_whole short are runs =
-    prints_one_text schema limits script text (events_text schema limits (script_events lines (fresh schema limits))) is_whole true runs (runs_all schema limits script lines short are)
+pub prints_answers : PrintsAnswers
+prints_answers schema limits script lines text is_whole short are runs =
+    prints_one_text schema limits script text (whole_text schema limits lines) is_whole true runs (runs_all schema limits script lines short are)
+
+pub answers_events : AnswersEvents
+answers_events schema limits lines lets =
+    let start = fresh schema limits in
+    let events = script_events lines start in
+    let quiet : IsQuiet start = record { doubt = refl; arming = refl } in
+    let log = codes "log\n" ++ log_text (state_behind lines start).history in
+    ap (λ answers. answers ++ log) (texts_are_of_events lines start lets quiet)
+    ∙ ap (λ h. flat_map answer_lines (event_answers (rules_of schema limits) [] events) ++ (codes "log\n" ++ log_text h)) (makes_events lines start lets quiet)

@@ -6,12 +6,12 @@ use Rattle.base_kinds.specs.declared.operation.Row.{Row}
 use Rattle.base_kinds.specs.declared.entry.Entry.{Entry}
 use Rattle.base_kinds.specs.declared.entry.View.{View}
 use Rattle.base_kinds.specs.declared.refusal.Refusal.{Refusal}
-use Rattle.base_kinds.specs.Events.{Event, Answer, OfSet, OfGet, event_answer}
+use Rattle.base_kinds.specs.Events.{Event, Answer, OfSet, OfGet}
 use Rattle.base_kinds.specs.Refusals.{number_of, code_of}
-use Rattle.base_kinds.specs.Step.{Rules}
 use Rattle.commit_report.specs.Logs.{row_text}
 use Rattle.script_text.specs.declared.line.Line.{Line}
-use Rattle.script_run.specs.ScriptStates.{ScriptState, rules_in, line_event}
+use Rattle.script_run.specs.ScriptStates.{ScriptState, rules_in, line_event, book_behind}
+use Rattle.script_run.specs.Turns.{turn_answer}
 
 -- `refused` with the number and the gRPC code of the refusal
 abbrev pub refusal_line : Refusal → List ℕ
@@ -44,10 +44,19 @@ abbrev pub answer_lines : Answer → List ℕ
 answer_lines (OfSet reply) = reply_line (entry_stamp reply)
 answer_lines (OfGet view) = view_lines view
 
-abbrev pub event_lines : Rules → List Entry → Option Event → List ℕ
-event_lines rules h None = []
-event_lines rules h (Some event) = answer_lines (event_answer rules h event)
+-- the answer to the event that a line is, where it is one
+abbrev pub event_reply : Option Event → ScriptState → Option Answer
+event_reply None state = None
+event_reply (Some event) state =
+    Some (turn_answer (rules_in state) state.history event (book_behind (Some event) state).failed)
+
+abbrev pub line_answer : Line → ScriptState → Option Answer
+line_answer line state = event_reply (line_event line state) state
+
+abbrev pub lines_if_any : Option Answer → List ℕ
+lines_if_any None = []
+lines_if_any (Some answer) = answer_lines answer
 
 -- what is printed at a line in this state: nothing where it is no event
 abbrev pub line_text : Line → ScriptState → List ℕ
-line_text line state = event_lines (rules_in state) state.history (line_event line state)
+line_text line state = lines_if_any (line_answer line state)

@@ -3,6 +3,7 @@ pub mod Requests
 pub mod ScriptOctets
 pub mod ScriptStates
 pub mod Scripts
+pub mod Turns
 pub mod inner
 pub mod laws
 pub mod worked

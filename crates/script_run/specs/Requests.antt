@@ -5,7 +5,7 @@ use Rattle.base_kinds.specs.declared.operation.Act.{Act}
 use Rattle.base_kinds.specs.declared.operation.Act.TheVariants.{Delete, Replace, Update}
 use Rattle.base_kinds.specs.declared.request.Change.{Change}
 use Rattle.base_kinds.specs.declared.request.Given.TheVariants.{Json}
-use Rattle.base_kinds.specs.declared.request.Action.TheVariants.{Plain}
+use Rattle.base_kinds.specs.declared.request.Action.{Action}
 use Rattle.base_kinds.specs.declared.request.SetAsk.{SetAsk}
 use Rattle.script_run.specs.declared.pending.Pending.{Pending}
 
@@ -24,7 +24,7 @@ with_operation Replace path value pending =
 with_operation Update path value pending =
     record pending { updates = pending.updates ++ change path value ∷ [] }
 
--- a plain Set of these operations, without a prefix
-abbrev pub set_ask : Pending → SetAsk
-set_ask pending =
-    record { prefix = []; target = []; deletes = pending.deletes; replaces = pending.replaces; updates = pending.updates; action = Plain; unsupported = false }
+-- a Set of these operations with this action, without a prefix
+abbrev pub set_ask : Action → Pending → SetAsk
+set_ask action pending =
+    record { prefix = []; target = []; deletes = pending.deletes; replaces = pending.replaces; updates = pending.updates; action = action; unsupported = false }

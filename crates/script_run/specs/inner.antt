@@ -1,1 +1,2 @@
-pub mod PlainSets
+-- What private functions alone cite.
+pub mod ScriptBooks

@@ -1,10 +1,12 @@
 // Laws of what scripts make and print.
-ghost use Rattle.script_run.specs.laws.ScriptLaws.{MakesEvents, MakesHistories, MakesLegalHistories, MakesSoundTrees, PrintsOne, RefusedChangesNothing, BadRequestsChangeNothing};
-ghost use Rattle.script_run.specs.laws.ScriptTexts.{PrintsEvents};
+ghost use Rattle.script_run.specs.laws.ScriptLaws.{MakesEvents, MakesDoneEvents, MakesHistories, MakesLegalHistories, MakesSoundTrees, PrintsOne, AnswersTell, AcceptedStay, RefusedChangesNothing, BadRequestsChangeNothing};
+ghost use Rattle.script_run.specs.laws.ScriptTexts.{PrintsAnswers, AnswersEvents};
 
-/// What a script's lines make of the history, their events make of it, as those of every other front end.
+/// What a script's lines make of the history, their events make of it, as those of every other front end. Where a line
+/// lets the disk fail, that is so of all events but those in whose turns a call of the disk failed.
 pub fn scripts_are_events()
-    ensures { MakesEvents }
+    ensures all { MakesEvents }
+    ensures done { MakesDoneEvents }
 {}
 
 /// Whatever a script's lines are, the entries that they make are numbered from 1, and their stamps rise from 1 on.
@@ -23,18 +25,27 @@ pub fn scripts_print_one_text()
     ensures { PrintsOne }
 {}
 
-/// A Set that is refused over the history leaves it as the clock alone makes it.
+/// Whatever waits for the disk, each answer says what its line has added: the entry of an `ok`, which stays in the history,
+/// and else nothing but the event of the clock.
+pub fn answers_tell_the_history()
+    ensures added { AnswersTell }
+    ensures stays { AcceptedStay }
+{}
+
+/// A Set that is refused over the history, and for no fault of the disk, leaves it as the clock alone makes it.
 pub fn refused_sets_change_nothing()
     ensures { RefusedChangesNothing }
 {}
 
-/// A Set whose request is refused by itself changes nothing, and the clock's event doesn't come.
+/// A Set whose request is refused by itself changes nothing, settles nothing, and the clock's event doesn't come.
 pub fn bad_requests_change_nothing()
     ensures { BadRequestsChangeNothing }
 {}
 
-/// A script within the limit of its octets, whose every line is one of a script, prints the answers to their events, in order,
-/// and then the log of the history that they made, and it is whole.
+/// A script within the limit of its octets, whose every line is one of a script, prints the answers to its lines, in order,
+/// and then the log of the history that they made, and it is whole. Where no line lets the disk fail, the answers are those
+/// to the events that the lines are.
 pub fn scripts_print_their_answers()
-    ensures { PrintsEvents }
+    ensures answers { PrintsAnswers }
+    ensures events { AnswersEvents }
 {}

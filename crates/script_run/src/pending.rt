@@ -36,9 +36,9 @@ impl Pending {
         }
     }
 
-    /// A plain Set of these operations.
-    pub fn into_set(self, alloc: Global) -> Result<SetAsk, NoMemory>
-        ensures { IfOk result (λ ask. ask ≡ set_ask self) }
+    /// A Set of these operations with this action.
+    pub fn into_set(self, alloc: Global, action: Action) -> Result<SetAsk, NoMemory>
+        ensures { IfOk result (λ ask. ask ≡ set_ask action self) }
     {
         let target = empty_text(alloc)?;
         let Pending {
@@ -52,7 +52,7 @@ impl Pending {
             deletes,
             replaces,
             updates,
-            action: Action::Plain,
+            action,
             unsupported: false,
         })
     }

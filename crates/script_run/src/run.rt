@@ -1,5 +1,5 @@
 ghost use Rattle.std.specs.Prelude.{◌≡◌, ◌≤◌, ◌++◌, length, IfOk, OnOk, IfSome, IfNone};
-ghost use Rattle.base_kinds.specs.Limits.{most_script_octets};
+ghost use Rattle.base_kinds.specs.Limits.{AreInRange, most_script_octets};
 ghost use Rattle.script_text.specs.declared.line.Line.{Line as ScriptLine};
 ghost use Rattle.script_text.specs.Lines.{lines_of};
 ghost use Rattle.script_run.specs.ScriptStates.{CountsAuthor, is_supported};
@@ -20,7 +20,8 @@ pub struct Transcript {
     pub is_whole: bool,
 }
 
-/// Runs the script's lines in order, up to the first that is none.
+/// Runs the script's lines in order, up to the first that is none, over a book on a disk in memory, whose journal takes these
+/// limits (`Limits::in_range`). `NoMemory` comes wherever memory was wanting, for that disk too.
 #[tactic(auto, unfolding(crate::specs::Scripts::RunsScript))]
 pub fn run_script(
     alloc: Global,
@@ -28,10 +29,11 @@ pub fn run_script(
     limits: Limits,
     script: &[u8],
 ) -> Result<Transcript, NoMemory>
+    requires { AreInRange limits }
     ensures { IfOk result (λ transcript.
         RunsScript schema limits script.now transcript.text transcript.is_whole) }
 {
-    let state = ScriptState::fresh(alloc, schema, limits);
+    let state = ScriptState::fresh(alloc, schema, limits)?;
     run_lines(alloc, state, is_too_long(script), within_limit(script))
 }
 
@@ -101,10 +103,23 @@ fn script_line(alloc: Global, octets: &[u8]) -> Result<Option<Line>, NoMemory>
 fn is_supported(line: &Line) -> bool
     ensures { result ≡ is_supported line.now }
 {
-    matches!(
-        line,
-        Line::At(_) | Line::Add(_, _, _) | Line::Set(_) | Line::Get(_, _)
-    )
+    match line {
+        Line::At(_)
+        | Line::Add(_, _, _)
+        | Line::Set(_)
+        | Line::Get(_, _)
+        | Line::Trial(_, _, _)
+        | Line::Confirm(_, _)
+        | Line::Cancel(_, _)
+        | Line::Extend(_, _, _)
+        | Line::Fail(_) => true,
+        Line::Sub(_)
+        | Line::Open(_, _, _, _)
+        | Line::Turn(_)
+        | Line::Poll(_)
+        | Line::End(_)
+        | Line::Stop(_, _) => false,
+    }
 }
 
 fn put_refused_line(alloc: Global, number: u64, out: &mut Bytes) -> Result<(), NoMemory>

@@ -4,6 +4,8 @@
 #[cfg(test)]
 mod examples;
 #[cfg(test)]
+mod failures;
+#[cfg(test)]
 mod journals;
 #[cfg(test)]
 mod lines;
@@ -13,3 +15,5 @@ mod logs;
 mod runs;
 #[cfg(test)]
 mod scripts;
+#[cfg(test)]
+mod trials;

@@ -7,7 +7,7 @@ use std::alloc::Global;
 use std::process::Abort;
 use std::test::Fail;
 
-const LIMITS: Limits = Limits {
+pub const LIMITS: Limits = Limits {
     entries: MOST_LOG_ENTRIES,
     octets: MOST_LOG_OCTETS,
 };
@@ -17,7 +17,7 @@ fn schema(rt: &impl Abort, alloc: Global) -> Schema {
 }
 
 /// What the script prints, and whether each of its lines was taken.
-fn run(rt: &impl Abort, alloc: Global, limits: Limits, script: &[u8]) -> Transcript {
+pub fn run(rt: &impl Abort, alloc: Global, limits: Limits, script: &[u8]) -> Transcript {
     let schema = schema(rt, alloc);
     run_script(alloc, schema, limits, script).expect(rt, "memory")
 }
@@ -93,7 +93,9 @@ const SCRIPTS: &[(&str, &str, bool)] = &[
         true,
     ),
     // Lines that are read and have no meaning for scripts as yet.
-    ("trial 1 t 60\n", "script line 1 refused\n", false),
+    ("sub / change 0\n", "script line 1 refused\n", false),
+    ("open 1 s stream 0\n", "script line 1 refused\n", false),
+    ("fail 0\nturn s\n", "script line 2 refused\n", false),
     (
         "set 1\nstop 0 old\n",
         "ok 1\nscript line 2 refused\n",
@@ -148,15 +150,22 @@ fn a_replace_leaves_only_its_own_rows(rt: HostRuntime) -> Result<(), Fail> {
     Ok(())
 }
 
-/// A Set of the hostname with so many octets, and what is behind it.
-fn long_hostname(rt: &impl Abort, alloc: Global, count: usize, rest: &str) -> String {
+/// An update of the hostname with so many octets, the line that makes it a request, and what is behind it.
+pub fn long_hostname(
+    rt: &impl Abort,
+    alloc: Global,
+    count: usize,
+    line: &str,
+    rest: &str,
+) -> String {
     let mut script = String::from_str(alloc, "update /system/config/hostname \"").expect(
         rt, "memory",
     );
     for _ in 0..count {
         script.push_str("h").expect(rt, "memory");
     }
-    script.push_str("\"\nset 1\n").expect(rt, "memory");
+    script.push_str("\"\n").expect(rt, "memory");
+    script.push_str(line).expect(rt, "memory");
     script.push_str(rest).expect(rt, "memory");
     script
 }
@@ -175,7 +184,7 @@ fn a_tree_and_a_log_have_limits(rt: HostRuntime) -> Result<(), Fail> {
         (short, 3_972, "refused 18 8\nscript line 3 refused\n"),
     ];
     for (limits, count, printed) in table.iter().copied() {
-        let script = long_hostname(&rt, alloc, count, "!");
+        let script = long_hostname(&rt, alloc, count, "set 1\n", "!");
         let transcript = run(&rt, alloc, limits, script.as_bytes());
         assert_eq!(rt;
             transcript.text.items(),

@@ -3,7 +3,7 @@ use Rattle.std.proofs.Common.{ℕ, List, Ok, inl, inr, ap, ◌∙◌, subst}
 use Rattle.edge_traits.specs.Output.{Wrote}
 use Rattle.base_kinds.specs.declared.entry.Limits.{Limits}
 use Rattle.base_kinds.specs.Schema.{SchemaNode}
-use Rattle.script_run.proofs.ScriptTexts.{prints_events}
+use Rattle.script_run.proofs.ScriptTexts.{prints_answers}
 use Rattle.target_top.specs.Ending.{exit_status}
 use Rattle.target_top.specs.Environment.{Environment}
 use Rattle.target_top.specs.ScriptRun.{script_ending}
@@ -17,7 +17,7 @@ ran_lines schema limits before after status ran = record {
   read = ran.1;
   wrote = λ lines short are.
       let runs = ran.2 in
-      let prints = prints_events schema limits ran.0 lines runs.answers runs.is_whole short are runs.runs in (
+      let prints = prints_answers schema limits ran.0 lines runs.answers runs.is_whole short are runs.runs in (
         subst (λ text. Wrote text before.output after.output) prints.0 runs.written.0,
         runs.written.1 ∙ ap (λ whole. exit_status (script_ending whole)) prints.1,
       );

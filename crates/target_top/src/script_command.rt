@@ -1,4 +1,5 @@
 ghost use Rattle.std.specs.Prelude.{◌≡◌};
+ghost use Rattle.base_kinds.specs.Limits.{AreInRange};
 ghost use Rattle.target_top.specs.ScriptRun.{ScriptRun, RunsLines, script_ending};
 
 use crate::ending::Ending;
@@ -13,6 +14,7 @@ use std::alloc::Global;
 
 /// Runs a script under these limits and the schema whose text is in the file with this name.
 pub fn script<K: Kit>(alloc: Global, name: &str, limits: Limits, host: &mut Host<K>) -> Ending
+    requires { AreInRange limits }
     ensures { ScriptRun name.now limits host.old host.new result }
 {
     match open_schema(alloc, name, host) {
@@ -23,6 +25,7 @@ pub fn script<K: Kit>(alloc: Global, name: &str, limits: Limits, host: &mut Host
 
 /// Reads the script, and prints the answers to its lines.
 fn run_lines<K: Kit>(alloc: Global, schema: Schema, limits: Limits, host: &mut Host<K>) -> Ending
+    requires { AreInRange limits }
     ensures lines { RunsLines limits host.old host.new result schema }
     ensures files { host.new.files ≡ host.old.files }
 {

@@ -1,27 +1,43 @@
 -- What holds of every script.
-use Rattle.std.specs.Prelude.{◌≡◌, ℕ, List, [], ◌∷◌, Bool, Option, Some, None, Ok, Err}
+use Rattle.std.specs.Prelude.{◌≡◌, ◌≢◌, ◌⊎◌, ℕ, List, [], ◌∷◌, ◌++◌, Bool, true, false, Option, Some, None, Result, Ok, Err}
 use Rattle.std.specs.List.{AllByRecursion}
-use Rattle.base_kinds.specs.declared.refusal.Refusal.{Refusal}
 use Rattle.base_kinds.specs.declared.entry.Ask.{Ask}
+use Rattle.base_kinds.specs.declared.entry.Entry.{Entry}
 use Rattle.base_kinds.specs.declared.entry.Limits.{Limits}
+use Rattle.base_kinds.specs.declared.refusal.Refusal.{Refusal}
+use Rattle.base_kinds.specs.declared.refusal.Refusal.TheVariants.{DiskFault}
 use Rattle.base_kinds.specs.Bases.{HasSoundTrees}
-use Rattle.base_kinds.specs.Events.{Event, set_answer, history_after_all}
+use Rattle.base_kinds.specs.Events.{Set, Get, Event, Answer, OfSet, OfGet, history_after_all}
 use Rattle.base_kinds.specs.History.{IsHistory, world_of}
 use Rattle.base_kinds.specs.Legal.{IsLegal}
 use Rattle.base_kinds.specs.Rules.{rules_of}
 use Rattle.base_kinds.specs.Schema.{SchemaNode}
 use Rattle.base_kinds.specs.Step.{after_expiry}
-use Rattle.set_txn.specs.Resolution.{resolved}
+use Rattle.disk_model.specs.Arming.{unarmed}
 use Rattle.script_text.specs.declared.line.Line.{Line}
 use Rattle.script_text.specs.declared.line.Line.TheVariants as lines
-use Rattle.script_run.specs.Requests.{set_ask}
-use Rattle.script_run.specs.ScriptStates.{ScriptState, fresh, rules_in, CountsAuthor, line_event, state_after}
+use Rattle.script_run.specs.AnswerLines.{line_answer}
+use Rattle.script_run.specs.ScriptStates.{ScriptState, fresh, rules_in, CountsAuthor, line_event, book_behind, state_after}
 use Rattle.script_run.specs.Scripts.{RunsScript}
 
 -- the state behind these lines
 abbrev pub state_behind : List Line → ScriptState → ScriptState
 state_behind [] state = state
 state_behind (line ∷ lines) state = state_behind lines (state_after line state)
+
+-- ---- without `fail` lines
+
+abbrev pub LetsPass : Line → Type 0
+LetsPass (lines.Fail calls) = ⊥
+LetsPass _ = Unit {0}
+
+abbrev pub LetPass : List Line → Type 0
+LetPass = AllByRecursion LetsPass
+
+-- nothing is in doubt, and the disk isn't to fail
+pub record IsQuiet (state : ScriptState) : Type 0 where
+  pub doubt : state.doubt ≡ None
+  pub arming : state.arming ≡ unarmed
 
 abbrev pub with_event : Option Event → List Event → List Event
 with_event None events = events
@@ -33,12 +49,37 @@ script_events [] state = []
 script_events (line ∷ lines) state =
     with_event (line_event line state) (script_events lines (state_after line state))
 
--- the history behind lines is that behind their events
+-- the history behind such lines is that behind their events
 abbrev pub MakesEvents : Type 0
 MakesEvents =
-    (lines : List Line) (state : ScriptState) →
+    (lines : List Line) (state : ScriptState) → LetPass lines → IsQuiet state →
     (state_behind lines state).history ≡
     history_after_all (rules_in state) state.history (script_events lines state)
+
+-- ---- with them
+
+-- the event of the clock alone: a read of nothing
+abbrev pub clock_event : Event → Event
+clock_event event = record { reading = event.reading; author = event.author; request = Get [] }
+
+-- an event is done in front of others, or where a call of the disk failed in its turn, that of the clock alone, or none
+abbrev pub IsDone : Option Event → Bool → List Event → List Event → Type 0
+IsDone None failed others done = done ≡ others
+IsDone (Some event) false others done = done ≡ event ∷ others
+IsDone (Some event) true others done = (done ≡ others) ⊎ (done ≡ clock_event event ∷ others)
+
+-- the events that lines have done
+abbrev pub AreDone : List Line → ScriptState → List Event → Type 0
+AreDone [] state done = done ≡ []
+AreDone (line ∷ lines) state done = let event = line_event line state in
+    (others : List Event) × IsDone event (book_behind event state).failed others done
+    × AreDone lines (state_after line state) others
+
+-- whatever waits for the disk, the history behind lines is that behind the events that they have done
+abbrev pub MakesDoneEvents : Type 0
+MakesDoneEvents =
+    (lines : List Line) (state : ScriptState) → (done : List Event) × AreDone lines state done
+    × ((state_behind lines state).history ≡ history_after_all (rules_in state) state.history done)
 
 -- whatever the lines are, the entries that they make are numbered from 1, and their stamps rise
 abbrev pub MakesHistories : Type 0
@@ -62,6 +103,8 @@ MakesSoundTrees =
     (schema : List SchemaNode) (limits : Limits) (lines : List Line) → HaveAuthors lines →
     HasSoundTrees schema (world_of (state_behind lines (fresh schema limits)).history)
 
+-- ---- one text
+
 -- under a schema and limits a script prints one text
 abbrev pub PrintsOne : Type 0
 PrintsOne =
@@ -69,17 +112,42 @@ PrintsOne =
     RunsScript schema limits script text is_whole → RunsScript schema limits script other is_other →
     (text ≡ other) × (is_whole ≡ is_other)
 
--- a Set that is refused over the history leaves that as it was, but for the event of the clock
+-- ---- what an answer says of the history
+
+-- The history that a line leaves which is answered so: with the entry of an accepted Set, behind the event of the clock,
+-- and else with that event at most.
+abbrev pub LeavesBy : List Entry → ℕ → Option Answer → List Entry → Type 0
+LeavesBy h reading (Some (OfSet (Ok entry))) left = left ≡ after_expiry h reading ++ entry ∷ []
+LeavesBy h reading (Some (OfSet (Err refusal))) left = (left ≡ h) ⊎ (left ≡ after_expiry h reading)
+LeavesBy h reading (Some (OfGet view)) left = (left ≡ h) ⊎ (left ≡ after_expiry h reading)
+LeavesBy h reading None left = left ≡ h
+
+abbrev pub AnswersTell : Type 0
+AnswersTell =
+    (line : Line) (state : ScriptState) →
+    LeavesBy state.history state.reading (line_answer line state) (state_after line state).history
+
+-- an entry that was answered with `ok` stands in the history from then on, behind what stood before it
+abbrev pub AcceptedStay : Type 0
+AcceptedStay =
+    (line : Line) (more : List Line) (state : ScriptState) (entry : Entry) →
+    line_answer line state ≡ Some (OfSet (Ok entry)) →
+    (later : List Entry) × ((state_behind more (state_after line state)).history ≡
+    (after_expiry state.history state.reading ++ entry ∷ []) ++ later)
+
+-- a Set that is refused over the history, and for no fault of the disk, leaves that as it was, but for the event of the clock
 abbrev pub RefusedChangesNothing : Type 0
 RefusedChangesNothing =
-    (state : ScriptState) (author : ℕ) (ask : Ask) (refusal : Refusal) →
-    resolved state.schema (set_ask state.pending) ≡ Ok ask →
-    set_answer (rules_in state) state.history state.reading author (Ok ask) ≡ Err refusal →
-    (state_after (lines.Set author) state).history ≡ after_expiry state.history state.reading
+    (line : Line) (state : ScriptState) (event : Event) (ask : Ask) (refusal : Refusal) →
+    line_event line state ≡ Some event → event.request ≡ Set (Ok ask) →
+    line_answer line state ≡ Some (OfSet (Err refusal)) → refusal ≢ DiskFault →
+    (state_after line state).history ≡ after_expiry state.history state.reading
 
--- and one whose request is refused by itself leaves out even that event
+-- and one whose request is refused by itself leaves out even that event, and calls nothing of the disk
 abbrev pub BadRequestsChangeNothing : Type 0
 BadRequestsChangeNothing =
-    (state : ScriptState) (author : ℕ) (refusal : Refusal) →
-    resolved state.schema (set_ask state.pending) ≡ Err refusal →
-    (state_after (lines.Set author) state).history ≡ state.history
+    (line : Line) (state : ScriptState) (event : Event) (refusal : Refusal) →
+    line_event line state ≡ Some event → event.request ≡ Set (Err refusal) →
+    ((state_after line state).history ≡ state.history)
+    × ((state_after line state).doubt ≡ state.doubt)
+    × ((state_after line state).arming ≡ state.arming)

@@ -8,11 +8,11 @@ use Rattle.base_kinds.specs.Schema.{SchemaNode}
 use Rattle.commit_report.specs.Logs.{log_text}
 use Rattle.script_text.specs.declared.line.Line.{Line}
 use Rattle.script_text.specs.Lines.{lines_of}
-use Rattle.script_run.specs.AnswerLines.{answer_lines}
+use Rattle.script_run.specs.AnswerLines.{answer_lines, line_text}
 use Rattle.script_run.specs.ScriptOctets.{is_too_long}
-use Rattle.script_run.specs.ScriptStates.{fresh}
+use Rattle.script_run.specs.ScriptStates.{ScriptState, fresh, state_after}
 use Rattle.script_run.specs.Scripts.{IsScriptLine, RunsScript}
-use Rattle.script_run.specs.laws.ScriptLaws.{script_events}
+use Rattle.script_run.specs.laws.ScriptLaws.{LetPass, script_events, state_behind}
 
 -- these octets are these lines, one by one
 abbrev pub AreScriptLines : List (List ℕ) → List Line → Type 0
@@ -22,19 +22,34 @@ AreScriptLines (octets ∷ others) [] = ⊥
 AreScriptLines (octets ∷ others) (line ∷ lines) =
     IsScriptLine octets line × AreScriptLines others lines
 
--- the answers to the events, one after another, and then the log of the history that they made
+-- what is printed at these lines, one after another
+abbrev pub texts_of : List Line → ScriptState → List ℕ
+texts_of [] state = []
+texts_of (line ∷ lines) state = line_text line state ++ texts_of lines (state_after line state)
+
+-- these texts, and then the log of the history that the lines made
+abbrev pub whole_text : List SchemaNode → Limits → List Line → List ℕ
+whole_text schema limits lines = let start = fresh schema limits in
+    texts_of lines start ++ (codes "log\n" ++ log_text (state_behind lines start).history)
+
+-- a script within the limit of its octets whose lines are these prints that, and it is whole
+abbrev pub PrintsAnswers : Type 0
+PrintsAnswers =
+    (schema : List SchemaNode) (limits : Limits) (script : List ℕ) (lines : List Line)
+    (text : List ℕ) (is_whole : Bool) →
+    is_too_long script ≡ false → AreScriptLines (lines_of script) lines →
+    RunsScript schema limits script text is_whole →
+    (text ≡ whole_text schema limits lines) × (is_whole ≡ true)
+
+-- the answers to events, one after another, and then the log of the history that they made
 abbrev pub events_text : List SchemaNode → Limits → List Event → List ℕ
 events_text schema limits events =
     flat_map answer_lines (event_answers (rules_of schema limits) [] events)
     ++ (codes "log\n" ++ log_text (history_after_all (rules_of schema limits) [] events))
 
--- a script within the limit of its octets whose lines are these prints the answers to their events and the log, and it is
--- whole
-abbrev pub PrintsEvents : Type 0
-PrintsEvents =
-    (schema : List SchemaNode) (limits : Limits) (script : List ℕ) (lines : List Line)
-    (text : List ℕ) (is_whole : Bool) →
-    is_too_long script ≡ false → AreScriptLines (lines_of script) lines →
-    RunsScript schema limits script text is_whole →
-    (text ≡ events_text schema limits (script_events lines (fresh schema limits)))
-    × (is_whole ≡ true)
+-- where no line lets the disk fail, what is printed are the answers to the events that the lines are
+abbrev pub AnswersEvents : Type 0
+AnswersEvents =
+    (schema : List SchemaNode) (limits : Limits) (lines : List Line) → LetPass lines →
+    whole_text schema limits lines
+    ≡ events_text schema limits (script_events lines (fresh schema limits))

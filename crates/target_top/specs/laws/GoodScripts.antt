@@ -8,9 +8,7 @@ use Rattle.schema_text.specs.Schemas.{schema_of}
 use Rattle.script_text.specs.declared.line.Line.{Line}
 use Rattle.script_text.specs.Lines.{lines_of}
 use Rattle.script_run.specs.ScriptOctets.{is_too_long}
-use Rattle.script_run.specs.ScriptStates.{fresh}
-use Rattle.script_run.specs.laws.ScriptLaws.{script_events}
-use Rattle.script_run.specs.laws.ScriptTexts.{AreScriptLines, events_text}
+use Rattle.script_run.specs.laws.ScriptTexts.{AreScriptLines, whole_text}
 use Rattle.target_top.specs.declared.ending.Ending.TheVariants.{Done, NoMemory}
 use Rattle.target_top.specs.Ending.{exit_status}
 use Rattle.target_top.specs.Environment.{Environment, SeenDisk, GaveText}
@@ -18,8 +16,8 @@ use Rattle.target_top.specs.Commands.{IsScript}
 use Rattle.target_top.specs.Run.{Run}
 use Rattle.target_top.specs.laws.RunLaws.{NothingFailed, WroteAndEnded}
 
--- This script was read; and where it is within its limit and its lines are these, the answers to their events and the log
--- were written, and the run ended with 0.
+-- This script was read; and where it is within its limit and its lines are these, their answers and the log were written, and
+-- the run ended with 0.
 pub record RanLines
     (schema : List SchemaNode) (limits : Limits) (before after : Environment) (status : ℕ)
     : Type 0 where
@@ -27,8 +25,8 @@ pub record RanLines
   pub read : ReadsToLimit most_script_octets script before.input after.input
   pub wrote : (lines : List Line) →
       is_too_long script ≡ false → AreScriptLines (lines_of script) lines →
-      WroteAndEnded (events_text schema limits (script_events lines (fresh schema limits)))
-      (exit_status Done) before.output after.output status
+      WroteAndEnded (whole_text schema limits lines) (exit_status Done)
+      before.output after.output status
 
 -- a script's run in which nothing fails does so where the file gave the text of a schema, unless memory is wanting
 abbrev pub CompletesGoodScripts : Type 0
