@@ -21,7 +21,7 @@ use Rattle.script_run.specs.Turns.{BookState, turn, unless_failed}
 use Rattle.script_run.proofs.Turns.{fuse, book, Passed, with_entry, passed_of, passes, fails}
 
 -- a call of the disk failed
-abbrev is_fault : {T : Type 0} → Result T Refusal → Bool
+abbrev pub is_fault : {T : Type 0} → Result T Refusal → Bool
 is_fault (Ok value) = false
 is_fault (Err refusals.DiskFault) = true
 is_fault (Err refusal) = false

@@ -1,5 +1,6 @@
 pub mod Answering
 pub mod Authors
+pub mod Books
 pub mod LastFeeds
 pub mod NewBooks
 pub mod Pieces

@@ -346,11 +346,15 @@ refused_request rules h doubt arming reading author ask refusal request is repli
         let parts = unless_refused left.failed (step rules h reading author ask) refusal (cc same) other in
         leaves.done parts.0 ∙ ap (with_answer (after_expiry h reading)) parts.1
 
+one_answer : (x y : Answer) → Some x ≡ Some y → x ≡ y
+one_answer x y is = cc is
+
 pub refused_changes_nothing : (line : Line) (state : ScriptState) (event : Event) (ask : Ask) (refusal : Refusal) → line_event line state ≡ Some event → event.request ≡ Set (Ok ask) → line_answer line state ≡ Some (OfSet (Err refusal)) → refusal ≢ DiskFault → (state_after line state).history ≡ after_expiry state.history state.reading
 refused_changes_nothing line state event ask refusal is asks answered other =
-    let replied = sym (ap (λ e. event_reply e state) is) ∙ answered in
+    let reply : Answer = request_reply (rules_in state) state.history event.reading event.author event.request (book_behind (Some event) state).failed in
+    let replied : reply ≡ OfSet (Err refusal) = one_answer reply (OfSet (Err refusal)) (sym (ap (λ e. event_reply e state) is) ∙ answered) in
     ap (λ e. (book_behind e state).history) is
-    ∙ refused_request (rules_in state) state.history state.doubt state.arming event.reading event.author ask refusal event.request (sym asks) (cc replied) other
+    ∙ refused_request (rules_in state) state.history state.doubt state.arming event.reading event.author ask refusal event.request (sym asks) replied other
     ∙ ap (after_expiry state.history) (reading_is line state event is)
 
 bad_request : (rules : Rules) (h : List Entry) (doubt : Option Entry) (arming : Arming) (reading author : ℕ) (refusal : Refusal) (request : Request) → Set (Err refusal) ≡ request → request_turn rules h doubt arming reading author request ≡ book h doubt arming false

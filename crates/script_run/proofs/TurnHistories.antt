@@ -45,6 +45,7 @@ cut_by h left mid behind true same passed failed = inl (same ∙ failed refl)
 cut_by h left mid behind false same passed failed = inr (same ∙ passed refl)
 
 pub turn_leaves : (h : List Entry) (doubt : Option Entry) (arming : Arming) (reading : ℕ) (asked : Option Entry) → Leaves h reading (with_entry (after_expiry h reading) asked) (turn reading asked (book h doubt arming false))
+unfolding turn
 turn_leaves h doubt arming reading asked =
     let first : BookState = settled (book h doubt arming false) in
     let second : BookState = entered (expiry_entry h reading) first in

@@ -127,6 +127,7 @@ before_asked h doubt now old pass =
 -- ---- whole turns
 
 pub passes : (h : List Entry) (doubt : Option Entry) (now : ℕ) (asked : Option Entry) (old new : Arming) → Passed (calls_before doubt h now + append_calls asked) old new → turn now asked (book h doubt old false) ≡ book (with_entry (after_expiry h now) asked) None new false
+unfolding turn
 passes h doubt now asked old new passed =
     let before : ℕ = calls_before doubt h now in
     let parts = pass_both before (append_calls asked) old passed.pass in
@@ -162,6 +163,7 @@ behind before call old new failed =
     })
 
 pub fails : (h : List Entry) (doubt : Option Entry) (now : ℕ) (asked : Option Entry) (left : List Entry) (doubt_left : Option Entry) (old new : Arming) (before after : Bool) → after ≡ false → FailsInTurn doubt h now asked left doubt_left (fuse old before) (fuse new after) → turn now asked (book h doubt old false) ≡ book left doubt_left new true
+unfolding turn
 fails h doubt now asked left doubt_left old new before after fed (inl repair) =
     let failed = failed_of repair.failed.made old new before after fed repair.failed.failed in
     ap (λ b. entered asked (entered (expiry_entry h now) b)) (fails_settling h doubt old new repair.failed.made repair.failed.within failed)

@@ -78,7 +78,7 @@ entered (Some entry) book =
 
 -- ---- a turn
 
-abbrev pub turn : ℕ → Option Entry → BookState → BookState
+unfoldable pub turn : ℕ → Option Entry → BookState → BookState
 turn reading asked book = entered asked (entered (expiry_entry book.history reading) (settled book))
 
 -- a request that is refused by itself takes no turn

@@ -35,7 +35,8 @@ pub fn new_book(alloc: Global, schema: Schema, limits: Limits) -> Result<ScriptB
     };
     match Book::reopen(alloc, disk, PlainTree::empty(alloc), schema, 0) {
         BookOpening::Ready(book) => Ok(book),
-        BookOpening::Damaged(_, _) | BookOpening::Unfit(_) => unreachable!(),
+        BookOpening::Damaged(_, _) => unreachable!(),
+        BookOpening::Unfit(_) => unreachable!(),
         BookOpening::DiskFault(_) | BookOpening::NoMemory(_) => Err(NoMemory),
     }
 }
