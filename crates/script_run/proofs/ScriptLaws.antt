@@ -65,6 +65,7 @@ done_first (Some event) state others =
     done_event (rules_in state) state.history event left.failed left.history others leaves.done leaves.cut
 
 pub makes_done : (ls : List Line) (state : ScriptState) → (done : List Event) × AreDone ls state done × ((state_behind ls state).history ≡ history_after_all (rules_in state) state.history done)
+unfolding state_after
 makes_done [] state = ([], refl, refl)
 makes_done (line ∷ ls) state =
     let rest = makes_done ls (state_after line state) in
@@ -159,6 +160,7 @@ arming_same (lines.Stop calls fill) arming lets = refl
 arming_same (lines.Fail calls) arming lets = absurd lets
 
 pub stays_quiet : (line : Line) (state : ScriptState) → LetsPass line → IsQuiet state → IsQuiet (state_after line state)
+unfolding state_after
 stays_quiet line state lets is =
     let left = behind_quiet (line_event line state) state is in
     record {
@@ -171,6 +173,7 @@ one_event rules h None events = refl
 one_event rules h (Some event) events = refl
 
 pub makes_events : (ls : List Line) (state : ScriptState) → LetPass ls → IsQuiet state → (state_behind ls state).history ≡ history_after_all (rules_in state) state.history (script_events ls state)
+unfolding state_after
 makes_events [] state lets is = refl
 makes_events (line ∷ ls) state lets is =
     let events = script_events ls (state_after line state) in
@@ -238,6 +241,7 @@ event_tells : (state : ScriptState) (author : ℕ) (request : Request) → let l
 event_tells state author request = tells (rules_in state) state.history state.doubt state.arming state.reading author request
 
 pub answers_tell : (line : Line) (state : ScriptState) → LeavesBy state.history state.reading (line_answer line state) (state_after line state).history
+unfolding state_after
 answers_tell (lines.Set author) state = event_tells state author (set_event state author actions.Plain).request
 answers_tell (lines.Get author pattern) state = event_tells state author (Get (pattern ∷ []))
 answers_tell (lines.Trial author id span) state = event_tells state author (set_event state author (actions.Trial id span)).request
@@ -350,6 +354,7 @@ one_answer : (x y : Answer) → Some x ≡ Some y → x ≡ y
 one_answer x y is = cc is
 
 pub refused_changes_nothing : (line : Line) (state : ScriptState) (event : Event) (ask : Ask) (refusal : Refusal) → line_event line state ≡ Some event → event.request ≡ Set (Ok ask) → line_answer line state ≡ Some (OfSet (Err refusal)) → refusal ≢ DiskFault → (state_after line state).history ≡ after_expiry state.history state.reading
+unfolding state_after
 refused_changes_nothing line state event ask refusal is asks answered other =
     let reply : Answer = request_reply (rules_in state) state.history event.reading event.author event.request (book_behind (Some event) state).failed in
     let replied : reply ≡ OfSet (Err refusal) = one_answer reply (OfSet (Err refusal)) (sym (ap (λ e. event_reply e state) is) ∙ answered) in
@@ -361,6 +366,7 @@ bad_request : (rules : Rules) (h : List Entry) (doubt : Option Entry) (arming : 
 bad_request rules h doubt arming reading author refusal request is = subst (λ r. request_turn rules h doubt arming reading author r ≡ book h doubt arming false) is refl
 
 pub bad_request_changes_nothing : (line : Line) (state : ScriptState) (event : Event) (refusal : Refusal) → line_event line state ≡ Some event → event.request ≡ Set (Err refusal) → ((state_after line state).history ≡ state.history) × ((state_after line state).doubt ≡ state.doubt) × ((state_after line state).arming ≡ state.arming)
+unfolding state_after
 bad_request_changes_nothing line state event refusal is asks =
     let left : book_behind (line_event line state) state ≡ book_in state = ap (λ e. book_behind e state) is ∙ bad_request (rules_in state) state.history state.doubt state.arming event.reading event.author refusal event.request (sym asks) in
     (ap (λ (b : BookState). b.history) left, ap (λ (b : BookState). b.doubt) left, arming_same line (book_behind (line_event line state) state).arming (event_lets_pass line state event is) ∙ ap (λ (b : BookState). b.arming) left)

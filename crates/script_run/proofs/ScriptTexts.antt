@@ -38,6 +38,7 @@ line_quiet (Some event) state is =
 
 -- and that is of the events
 texts_are_of_events : (lines : List Line) (state : ScriptState) → LetPass lines → IsQuiet state → texts_of lines state ≡ flat_map answer_lines (event_answers (rules_in state) state.history (script_events lines state))
+unfolding state_after line_text
 texts_are_of_events [] state lets is = refl
 texts_are_of_events (line ∷ lines) state lets is =
     let rules = rules_in state in

@@ -58,5 +58,5 @@ lines_if_any None = []
 lines_if_any (Some answer) = answer_lines answer
 
 -- what is printed at a line in this state: nothing where it is no event
-abbrev pub line_text : Line → ScriptState → List ℕ
+unfoldable pub line_text : Line → ScriptState → List ℕ
 line_text line state = lines_if_any (line_answer line state)

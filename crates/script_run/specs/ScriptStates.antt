@@ -132,7 +132,7 @@ abbrev pub book_behind : Option Event → ScriptState → BookState
 book_behind None state = book_in state
 book_behind (Some event) state = book_after (rules_in state) event (book_in state)
 
-abbrev pub state_after : Line → ScriptState → ScriptState
+unfoldable pub state_after : Line → ScriptState → ScriptState
 state_after line state = let left = book_behind (line_event line state) state in
     record {
       schema = state.schema;

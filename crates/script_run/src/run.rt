@@ -38,6 +38,7 @@ pub fn run_script(
 }
 
 /// Runs the lines of this text. Where the script goes on behind it, the next line is refused.
+#[tactic(auto, using(crate::proofs::Runs::refused, crate::proofs::Runs::ended, crate::proofs::Runs::cut_off))]
 fn run_lines(
     alloc: Global,
     mut state: ScriptState,

@@ -66,6 +66,7 @@ impl ScriptState {
     }
 
     /// Takes the next line, and adds what is printed at it. After want of memory let the state go.
+    #[tactic(auto, unfolding(crate::specs::ScriptStates::state_after, crate::specs::AnswerLines::line_text))]
     pub fn act(&mut self, alloc: Global, line: Line, out: &mut Bytes) -> Result<(), NoMemory>
         requires supported { IsTrue (is_supported line) }
         requires author { CountsAuthor line }
