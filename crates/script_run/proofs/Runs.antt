@@ -14,6 +14,7 @@ use Rattle.base_kinds.specs.Limits.{most_script_octets}
 use Rattle.script_run.specs.ScriptOctets.{is_too_long, to_last_feed, within_limit}
 use Rattle.script_run.specs.ScriptStates.{ScriptState, fresh, is_supported, state_after}
 use Rattle.script_run.specs.AnswerLines.{line_text}
+use Rattle.script_run.specs.inner.ScriptEnds.{text_at_end}
 use Rattle.script_run.specs.Scripts.{refused_line, IsScriptLine, Prints, RunsScript}
 
 -- a line that is read and not supported is no other line
@@ -40,23 +41,23 @@ taken goes_on all start number lines octets others state next text longer line l
     let run : Prints goes_on 1 all start (text ++ (line_text line state ++ rest)) whole = leads (line_text line state ++ rest) whole (subst (λ ls. Prints goes_on number ls state (line_text line state ++ rest) whole) (sym first) prints_so) in
     subst (λ t. Prints goes_on 1 all start t whole) (sym (append_assoc text (line_text line state) rest) ∙ ap (λ t. t ++ rest) (sym grown)) run
 
-pub refused : (goes_on : Bool) (all : List (List ℕ)) (start : ScriptState) (number : ℕ) (lines : List (List ℕ)) (octets : List ℕ) (others : List (List ℕ)) (state : ScriptState) (text longer : List ℕ) → Leads goes_on all start number lines state text → lines ≡ octets ∷ others → ((line : Line) → IsScriptLine octets line → ⊥) → longer ≡ text ++ refused_line number → Prints goes_on 1 all start longer false
+pub refused : (goes_on : Bool) (all : List (List ℕ)) (start : ScriptState) (number : ℕ) (lines : List (List ℕ)) (octets : List ℕ) (others : List (List ℕ)) (state : ScriptState) (text longer : List ℕ) → Leads goes_on all start number lines state text → lines ≡ octets ∷ others → ((line : Line) → IsScriptLine octets line → ⊥) → longer ≡ text ++ refused_line number → Prints goes_on 1 all start (longer ++ []) false
 refused goes_on all start number lines octets others state text longer leads first none_fits grown =
     let prints_so : Prints goes_on number (octets ∷ others) state (refused_line number) false = inr (none_fits, refl, refl) in
-    subst (λ t. Prints goes_on 1 all start t false) (sym grown) (leads (refused_line number) false (subst (λ ls. Prints goes_on number ls state (refused_line number) false) (sym first) prints_so))
+    subst (λ t. Prints goes_on 1 all start t false) (sym grown ∙ sym (append-nil longer)) (leads (refused_line number) false (subst (λ ls. Prints goes_on number ls state (refused_line number) false) (sym first) prints_so))
 
-pub ended : (goes_on : Bool) (all : List (List ℕ)) (start : ScriptState) (number : ℕ) (lines : List (List ℕ)) (state : ScriptState) (text longer : List ℕ) → goes_on ≡ false → Leads goes_on all start number lines state text → lines ≡ [] → longer ≡ text ++ (codes "log\n" ++ log_text state.history) → Prints goes_on 1 all start longer true
-ended goes_on all start number lines state text longer ends leads none grown =
+pub ended : (goes_on : Bool) (all : List (List ℕ)) (start : ScriptState) (number : ℕ) (lines : List (List ℕ)) (state : ScriptState) (text : List ℕ) → goes_on ≡ false → Leads goes_on all start number lines state text → lines ≡ [] → Prints goes_on 1 all start (text ++ text_at_end true state.history) true
+ended goes_on all start number lines state text ends leads none =
     let log = codes "log\n" ++ log_text state.history in
     let prints_so : Prints false number [] state log true = (refl, refl) in
     let here : Prints goes_on number [] state log true = subst (λ b. Prints b number [] state log true) (sym ends) prints_so in
-    subst (λ t. Prints goes_on 1 all start t true) (sym grown) (leads log true (subst (λ ls. Prints goes_on number ls state log true) (sym none) here))
+    leads log true (subst (λ ls. Prints goes_on number ls state log true) (sym none) here)
 
-pub cut_off : (goes_on : Bool) (all : List (List ℕ)) (start : ScriptState) (number : ℕ) (lines : List (List ℕ)) (state : ScriptState) (text longer : List ℕ) → goes_on ≡ true → Leads goes_on all start number lines state text → lines ≡ [] → longer ≡ text ++ refused_line number → Prints goes_on 1 all start longer false
+pub cut_off : (goes_on : Bool) (all : List (List ℕ)) (start : ScriptState) (number : ℕ) (lines : List (List ℕ)) (state : ScriptState) (text longer : List ℕ) → goes_on ≡ true → Leads goes_on all start number lines state text → lines ≡ [] → longer ≡ text ++ refused_line number → Prints goes_on 1 all start (longer ++ []) false
 cut_off goes_on all start number lines state text longer more leads none grown =
     let prints_so : Prints true number [] state (refused_line number) false = (refl, refl) in
     let here : Prints goes_on number [] state (refused_line number) false = subst (λ b. Prints b number [] state (refused_line number) false) (sym more) prints_so in
-    subst (λ t. Prints goes_on 1 all start t false) (sym grown) (leads (refused_line number) false (subst (λ ls. Prints goes_on number ls state (refused_line number) false) (sym none) here))
+    subst (λ t. Prints goes_on 1 all start t false) (sym grown ∙ sym (append-nil longer)) (leads (refused_line number) false (subst (λ ls. Prints goes_on number ls state (refused_line number) false) (sym none) here))
 
 -- ---- a script past its limit: its front decides
 

@@ -1,8 +1,9 @@
-ghost use Rattle.std.specs.Prelude.{◌≡◌, ◌≤◌, ◌++◌, length, IfOk, OnOk, IfSome, IfNone};
+ghost use Rattle.std.specs.Prelude.{◌≡◌, ◌≤◌, ◌++◌, [], length, IfOk, OnOk, IfSome, IfNone};
 ghost use Rattle.base_kinds.specs.Limits.{AreInRange, most_script_octets};
 ghost use Rattle.script_text.specs.declared.line.Line.{Line as ScriptLine};
 ghost use Rattle.script_text.specs.Lines.{lines_of};
 ghost use Rattle.script_run.specs.ScriptStates.{CountsAuthor, is_supported};
+ghost use Rattle.script_run.specs.inner.ScriptEnds.{text_at_end};
 ghost use Rattle.script_run.specs.Scripts.{IsScriptLine, Prints, RunsScript, refused_line};
 
 use crate::limit::{is_too_long, within_limit};
@@ -33,52 +34,49 @@ pub fn run_script(
     ensures { IfOk result (λ transcript.
         RunsScript schema limits script.now transcript.text transcript.is_whole) }
 {
-    let state = ScriptState::fresh(alloc, schema, limits)?;
-    run_lines(alloc, state, is_too_long(script), within_limit(script))
+    let mut state = ScriptState::fresh(alloc, schema, limits)?;
+    let mut text = Bytes::empty(alloc);
+    let goes_on = is_too_long(script);
+    let is_whole = take_lines(alloc, &mut state, goes_on, within_limit(script), &mut text)?;
+    if is_whole {
+        text.extend_from_slice(b"log\n")?;
+        state.put_log(alloc, &mut text)?;
+    }
+    Ok(Transcript { text, is_whole })
 }
 
-/// Runs the lines of this text. Where the script goes on behind it, the next line is refused.
-#[tactic(auto, using(crate::proofs::Runs::refused, crate::proofs::Runs::ended, crate::proofs::Runs::cut_off))]
-fn run_lines(
+/// Takes the lines of this text, up to the first that is none. Where the script goes on behind it, the next line is refused.
+/// The answer is whether each line was taken.
+fn take_lines(
     alloc: Global,
-    mut state: ScriptState,
+    state: &mut ScriptState,
     goes_on: bool,
     script: &[u8],
-) -> Result<Transcript, NoMemory>
-    requires { length script.now ≤ most_script_octets }
-    ensures { IfOk result (λ transcript.
-        Prints goes_on 1 (lines_of script.now) state transcript.text transcript.is_whole) }
+    text: &mut Bytes,
+) -> Result<bool, NoMemory>
+    requires short { length script.now ≤ most_script_octets }
+    requires empty { text.old ≡ [] }
+    ensures { IfOk result (λ is_whole. Prints goes_on 1 (lines_of script.now) state.old
+        (text.new ++ text_at_end is_whole state.new.history) is_whole) }
 {
-    let mut text = Bytes::empty(alloc);
     let mut number = 1u64;
     let mut rest = script;
     'lines: while let Some((octets, others)) = next_line(rest) {
         match script_line(alloc, octets)? {
-            Some(line) => state.act(alloc, line, &mut text)?,
+            Some(line) => state.act(alloc, line, text)?,
             None => {
-                put_refused_line(alloc, number, &mut text)?;
-                return Ok(Transcript {
-                    text,
-                    is_whole: false,
-                });
+                put_refused_line(alloc, number, text)?;
+                return Ok(false);
             }
         }
         number += 1;
         rest = others;
     }
     if goes_on {
-        put_refused_line(alloc, number, &mut text)?;
-        return Ok(Transcript {
-            text,
-            is_whole: false,
-        });
+        put_refused_line(alloc, number, text)?;
+        return Ok(false);
     }
-    text.extend_from_slice(b"log\n")?;
-    state.put_log(alloc, &mut text)?;
-    Ok(Transcript {
-        text,
-        is_whole: true,
-    })
+    Ok(true)
 }
 
 /// The line that the octets are, where scripts may have it.

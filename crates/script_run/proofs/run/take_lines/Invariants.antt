@@ -1,7 +1,7 @@
 use Rattle.std.proofs.Common.{◌+◌, ◌≤◌, length}
 use Rattle.script_text.specs.Lines.{lines_of}
 use Rattle.script_run.proofs.Runs.{Leads}
-use Rattle.script_run.proofs.run.run_lines.Given as goal
+use Rattle.script_run.proofs.run.take_lines.Given as goal
 
 -- the lines that are left lead to what the whole script prints
 abbrev pub invariant-lines : goal.invariant-lines
