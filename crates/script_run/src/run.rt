@@ -38,10 +38,7 @@ pub fn run_script(
     let mut text = Bytes::empty(alloc);
     let goes_on = is_too_long(script);
     let is_whole = take_lines(alloc, &mut state, goes_on, within_limit(script), &mut text)?;
-    if is_whole {
-        text.extend_from_slice(b"log\n")?;
-        state.put_log(alloc, &mut text)?;
-    }
+    state.put_end(alloc, is_whole, &mut text)?;
     Ok(Transcript { text, is_whole })
 }
 

@@ -1,7 +1,7 @@
 ghost use Rattle.std.specs.Prelude.{◌≡◌, ◌<◌, ◌++◌, IsTrue, IfOk, OnOk, Some};
 ghost use Rattle.base_kinds.specs.Limits.{AreInRange};
-ghost use Rattle.commit_report.specs.Logs.{log_text};
 ghost use Rattle.script_run.specs.inner.ScriptBooks.{state_after_set};
+ghost use Rattle.script_run.specs.inner.ScriptEnds.{text_at_end};
 ghost use Rattle.script_run.specs.ScriptStates.{fresh as fresh_state, is_supported, CountsAuthor, set_event, state_after};
 ghost use Rattle.script_run.specs.AnswerLines.{event_reply, line_text, lines_if_any};
 
@@ -57,12 +57,16 @@ impl ScriptState {
         })
     }
 
-    /// Adds the log of the history.
-    pub fn put_log(self, alloc: Global, out: &mut Bytes) -> Result<(), NoMemory>
-        ensures { OnOk result (out.new ≡ out.old ++ log_text self.history) }
+    /// Adds the log of the history, where each line was taken.
+    pub fn put_end(self, alloc: Global, is_whole: bool, out: &mut Bytes) -> Result<(), NoMemory>
+        ensures { OnOk result (out.new ≡ out.old ++ text_at_end is_whole self.history) }
     {
         let BookEnd { entries, .. } = self.book.end();
-        put_log(alloc, entries.items(), out)
+        if is_whole {
+            out.extend_from_slice(b"log\n")?;
+            return put_log(alloc, entries.items(), out);
+        }
+        Ok(())
     }
 
     /// Takes the next line, and adds what is printed at it. After want of memory let the state go.
