@@ -1,24 +1,19 @@
 -- What a book answers and leaves on a disk that is armed, and not starved then, is what a turn of it is.
-use Rattle.std.proofs.Common.{◌≡◌, ◌≢◌, ℕ, ◌+◌, ◌<◌, nat_lt, List, [], ◌∷◌, length, Bool, true, false, ◌||◌, Option, Some, None, Result, Ok, Err, IsErrOf, refl, sym, ap, ◌∙◌, subst, arith, if◌then◌else◌}
-use Rattle.std.proofs.lemmas.Bool.Decides.{nat_tests}
+use Rattle.std.proofs.Common.{◌≡◌, ◌≢◌, ℕ, ◌+◌, List, Bool, true, false, Option, None, Result, Ok, Err, IsErrOf, refl, sym, ap, ◌∙◌, subst, arith}
 use Rattle.base_kinds.specs.declared.path.Elem.{Elem}
-use Rattle.base_kinds.specs.declared.operation.Row.{Row}
 use Rattle.base_kinds.specs.declared.entry.Ask.{Ask}
 use Rattle.base_kinds.specs.declared.entry.Entry.{Entry}
 use Rattle.base_kinds.specs.declared.entry.View.{View}
 use Rattle.base_kinds.specs.declared.refusal.Refusal.{Refusal}
 use Rattle.base_kinds.specs.declared.refusal.Refusal.TheVariants as refusals
-use Rattle.base_kinds.specs.Events.{is_long, view_of, view_or_not_found, get_answer}
-use Rattle.base_kinds.specs.History.{world_of, stamp_of}
-use Rattle.base_kinds.specs.Parts.{part}
 use Rattle.base_kinds.specs.Step.{Rules, after_expiry, step}
 use Rattle.disk_model.specs.Arming.{Arming}
-use Rattle.disk_model.specs.Calls.{Fuse, CallsPassed}
+use Rattle.disk_model.specs.Calls.{CallsPassed}
 use Rattle.book_core.specs.Calls.{CallsFor, answer_entry, append_calls, calls_before}
 use Rattle.book_port.specs.Answers.{AnswersSet, AnswersLook}
 use Rattle.script_run.specs.AnswerLines.{entry_stamp}
 use Rattle.script_run.specs.Turns.{BookState, turn, unless_failed}
-use Rattle.script_run.proofs.Turns.{fuse, book, Passed, with_entry, passed_of, passes, fails}
+use Rattle.script_run.proofs.Turns.{fuse, book, with_entry, passed_of, passes, fails}
 
 -- a call of the disk failed
 abbrev pub is_fault : {T : Type 0} → Result T Refusal → Bool

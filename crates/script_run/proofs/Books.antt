@@ -1,10 +1,9 @@
 -- A script's book behind one of its calls.
-use Rattle.std.proofs.Common.{◌≡◌, ◌≢◌, ℕ, ◌<◌, nat_lt, List, [], ◌∷◌, length, arith, Bool, true, false, not, ◌||◌, Option, Some, None, Result, Ok, Err, IsErrOf, IfOk, OnOk, refl, sym, ap, ◌∙◌, subst, if◌then◌else◌}
+use Rattle.std.proofs.Common.{◌≡◌, ◌≢◌, ℕ, ◌<◌, nat_lt, List, [], ◌∷◌, length, arith, Bool, true, false, not, ◌||◌, Some, None, Result, Ok, Err, IsErrOf, IfOk, OnOk, refl, sym, ap, ◌∙◌, subst, if◌then◌else◌}
 use Rattle.std.proofs.lemmas.Bool.Decides.{nat_tests}
 use Rattle.base_kinds.specs.declared.path.Elem.{Elem}
 use Rattle.base_kinds.specs.declared.operation.Row.{Row}
 use Rattle.base_kinds.specs.declared.entry.Ask.{Ask}
-use Rattle.base_kinds.specs.declared.entry.Entry.{Entry}
 use Rattle.base_kinds.specs.declared.entry.View.{View}
 use Rattle.base_kinds.specs.declared.refusal.Refusal.{Refusal}
 use Rattle.base_kinds.specs.declared.refusal.Refusal.TheVariants as refusals

@@ -1,5 +1,5 @@
 -- The opening of a journal that was just made, on a disk in memory for which nothing waits.
-use Rattle.std.proofs.Common.{◌≡◌, ℕ, ◌+◌, List, [], length, Option, Some, refl, sym, ap, ◌∙◌, subst}
+use Rattle.std.proofs.Common.{◌≡◌, ℕ, ◌+◌, List, [], length, Option, Some, sym, ap, ◌∙◌, subst}
 use Rattle.base_kinds.specs.declared.entry.Entry.{Entry}
 use Rattle.base_kinds.specs.declared.entry.Limits.{Limits}
 use Rattle.base_kinds.specs.Bases.{IsSound}
@@ -7,7 +7,7 @@ use Rattle.base_kinds.specs.History.{world_of}
 use Rattle.base_kinds.specs.Schema.{SchemaNode}
 use Rattle.history_laws.proofs.SoundTrees.{no_rows_are_sound}
 use Rattle.disk_model.specs.Arming.{unarmed, arming_after_calls}
-use Rattle.disk_model.specs.Calls.{Fuse, CallsPassed}
+use Rattle.disk_model.specs.Calls.{CallsPassed}
 use Rattle.disk_model.specs.Content.{Content}
 use Rattle.disk_model.specs.Images.{IsImage}
 use Rattle.disk_model.specs.Moments.{Leaves}

@@ -1,17 +1,16 @@
 -- What holds of every script.
-use Rattle.std.proofs.Common.{◌≡◌, ◌≢◌, ◌⊎◌, ℕ, ◌+◌, ◌<◌, ◌≤◌, List, [], ◌∷◌, ◌++◌, Bool, true, false, Option, Some, None, Result, Ok, Err, refl, sym, ap, ◌∙◌, subst, inl, inr, arith, append-nil, append_assoc, if◌then◌else◌}
+use Rattle.std.proofs.Common.{◌≡◌, ◌≢◌, ◌⊎◌, ℕ, ◌+◌, ◌<◌, List, [], ◌∷◌, ◌++◌, Bool, true, false, Option, Some, None, Result, Ok, Err, refl, sym, ap, ◌∙◌, subst, inl, inr, arith, append-nil, append_assoc, if◌then◌else◌}
 use Rattle.std.specs.List.{list_any}
 use Rattle.base_kinds.specs.declared.entry.Ask.{Ask}
 use Rattle.base_kinds.specs.declared.entry.Entry.{Entry}
 use Rattle.base_kinds.specs.declared.entry.Limits.{Limits}
-use Rattle.base_kinds.specs.declared.entry.View.{View}
 use Rattle.base_kinds.specs.declared.refusal.Refusal.{Refusal}
 use Rattle.base_kinds.specs.declared.refusal.Refusal.TheVariants.{DiskFault}
 use Rattle.base_kinds.specs.declared.request.SetAsk.{SetAsk}
 use Rattle.base_kinds.specs.declared.request.Action.{Action}
 use Rattle.base_kinds.specs.declared.request.Action.TheVariants as actions
 use Rattle.base_kinds.specs.Bases.{HasSoundTrees}
-use Rattle.base_kinds.specs.Events.{Request, Set, Get, Event, Answer, OfSet, OfGet, is_long, set_answer, get_answer, history_after, history_after_request, history_after_set, history_after_all}
+use Rattle.base_kinds.specs.Events.{Request, Set, Get, Event, Answer, OfSet, OfGet, is_long, set_answer, history_after, history_after_set, history_after_all}
 use Rattle.base_kinds.specs.History.{IsHistory, world_of}
 use Rattle.base_kinds.specs.Legal.{IsLegal}
 use Rattle.base_kinds.specs.Rules.{rules_of}

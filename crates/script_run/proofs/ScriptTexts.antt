@@ -1,9 +1,9 @@
 -- What a script prints whose lines are all taken.
-use Rattle.std.proofs.Common.{◌≡◌, ℕ, ◌+◌, List, [], ◌∷◌, ◌++◌, take, Bool, true, false, Option, Some, None, codes, refl, sym, ap, ◌∙◌, subst, inl, inr, append_assoc, if◌then◌else◌}
+use Rattle.std.proofs.Common.{◌≡◌, ℕ, ◌+◌, List, [], ◌∷◌, ◌++◌, take, true, false, Option, Some, None, codes, refl, sym, ap, ◌∙◌, subst, inl, append_assoc, if◌then◌else◌}
 use Rattle.std.specs.List.{flat_map}
 use Rattle.base_kinds.specs.declared.entry.Entry.{Entry}
 use Rattle.base_kinds.specs.declared.entry.Limits.{Limits}
-use Rattle.base_kinds.specs.Events.{Event, event_answer, event_answers, history_after_all}
+use Rattle.base_kinds.specs.Events.{Event, event_answer, event_answers}
 use Rattle.base_kinds.specs.Limits.{most_script_octets}
 use Rattle.base_kinds.specs.Rules.{rules_of}
 use Rattle.base_kinds.specs.Schema.{SchemaNode}

@@ -1,15 +1,15 @@
 -- What a turn leaves, by the calls of the disk that pass and the first that fails.
-use Rattle.std.proofs.Common.{◌≡◌, ◌≢◌, ◌⊎◌, ℕ, zero, suc, ◌+◌, ◌<◌, nat_lt, List, [], ◌∷◌, ◌++◌, Bool, true, false, Option, Some, None, option_map, IfSome, refl, sym, ap, ◌∙◌, subst, inl, inr, arith, if◌then◌else◌}
+use Rattle.std.proofs.Common.{◌≡◌, ◌≢◌, ℕ, zero, suc, ◌+◌, ◌<◌, nat_lt, List, [], ◌∷◌, ◌++◌, Bool, true, false, Option, Some, None, option_map, IfSome, refl, sym, ap, ◌∙◌, subst, inl, inr, arith, if◌then◌else◌}
 use Rattle.std.proofs.lemmas.Bool.Decides.{nat_tests}
 use Rattle.base_kinds.specs.declared.entry.Entry.{Entry}
 use Rattle.base_kinds.specs.declared.entry.Kind.TheVariants as kinds
 use Rattle.base_kinds.specs.Step.{is_due, after_expiry, next_entry, new_stamp}
 use Rattle.disk_model.specs.Arming.{Arming, AllPass, unarmed, outcome_of, arming_after, arming_after_calls}
-use Rattle.disk_model.specs.Calls.{Fuse, CallsPassed, CallsFailed, FailsWithin}
+use Rattle.disk_model.specs.Calls.{Fuse, CallsPassed, CallsFailed}
 use Rattle.disk_model.specs.declared.outcome.Outcome.{Outcome}
 use Rattle.disk_model.specs.declared.outcome.Outcome.TheVariants.{Passes, Fails, Stops}
 use Rattle.commit_journal.specs.Ledgers.{IsDoubtAt}
-use Rattle.book_core.specs.Calls.{FailsBehind, FailsAtRepair, FailsAtEntry, FailsInTurn, repair_calls, append_calls, expiry_entry, expiry_calls, calls_before}
+use Rattle.book_core.specs.Calls.{FailsInTurn, repair_calls, append_calls, expiry_entry, expiry_calls, calls_before}
 use Rattle.script_run.specs.Turns.{BookState, failed_first, failed_call, settled_by, settled, doubt_at, entered_by, entered, turn}
 
 -- ---- calls that pass, and the first that fails
@@ -155,12 +155,14 @@ fails_entering h entry doubt old new call within failed is =
 behind : (before call : ℕ) (old new : Arming) → Failed (before + call) old new → AllPass before old × Failed call (arming_after_calls before old) new
 behind before call old new failed =
     let parts = pass_both before call old failed.pass in
-    let e : suc (before + call) ≡ before + suc call = omega arith in
-    (parts.0, record {
-      pass = parts.1;
-      fails = λ passes. failed.fails (ap outcome_of (after_both before call old) ∙ passes);
-      left = failed.left ∙ ap (λ n. arming_after_calls n old) e ∙ after_both before (suc call) old;
-    })
+    let e : suc (before + call) ≡ before + suc call = omega arith in (
+      parts.0,
+      record {
+        pass = parts.1;
+        fails = λ passes. failed.fails (ap outcome_of (after_both before call old) ∙ passes);
+        left = failed.left ∙ ap (λ n. arming_after_calls n old) e ∙ after_both before (suc call) old;
+      },
+    )
 
 pub fails : (h : List Entry) (doubt : Option Entry) (now : ℕ) (asked : Option Entry) (left : List Entry) (doubt_left : Option Entry) (old new : Arming) (before after : Bool) → after ≡ false → FailsInTurn doubt h now asked left doubt_left (fuse old before) (fuse new after) → turn now asked (book h doubt old false) ≡ book left doubt_left new true
 unfolding turn

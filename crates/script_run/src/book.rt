@@ -10,9 +10,7 @@ ghost use Rattle.script_run.specs.inner.ScriptBooks.{IsNew, IsLeft, asked_event,
 ghost use Rattle.script_run.specs.AnswerLines.{entry_stamp};
 ghost use Rattle.script_run.specs.Turns.{unless_failed};
 
-use base_kinds::{
-    Ask, Fill, Limits, MOST_ELEMENTS, NoMemory, Path, Paths, Refusal, SetAsk, View,
-};
+use base_kinds::{Ask, Fill, Limits, MOST_ELEMENTS, NoMemory, Path, Paths, Refusal, SetAsk, View};
 use book_core::{Book, BookOpening};
 use commit_journal::Ledger;
 use memory_disks::{FuseDisk, MemDisk, NO_STOP};

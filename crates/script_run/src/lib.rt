@@ -15,8 +15,8 @@ mod run;
 mod state;
 
 pub use laws::{
-    answers_tell_the_history, bad_requests_change_nothing, refused_sets_change_nothing, scripts_are_events,
-    scripts_make_histories, scripts_print_one_text, scripts_print_their_answers,
-    trees_of_scripts_are_sound,
+    answers_tell_the_history, bad_requests_change_nothing, refused_sets_change_nothing,
+    scripts_are_events, scripts_make_histories, scripts_print_one_text,
+    scripts_print_their_answers, trees_of_scripts_are_sound,
 };
 pub use run::{Transcript, run_script};

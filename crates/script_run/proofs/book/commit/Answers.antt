@@ -1,4 +1,4 @@
-use Rattle.std.proofs.Common.{◌≡◌, ◌≢◌, false, Ok, Err, sym, ◌∙◌}
+use Rattle.std.proofs.Common.{◌≢◌, Err, sym, ◌∙◌}
 use Rattle.base_kinds.specs.declared.refusal.Refusal.TheVariants.{NoMemory}
 use Rattle.base_kinds.specs.Step.{step}
 use Rattle.book_core.specs.Views.{history_in}

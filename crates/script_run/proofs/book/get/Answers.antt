@@ -1,4 +1,4 @@
-use Rattle.std.proofs.Common.{◌≡◌, ◌≢◌, List, [], ◌∷◌, ◌++◌, true, false, Ok, Err, refl, sym, ap, ◌∙◌, subst, arith, true≢false}
+use Rattle.std.proofs.Common.{◌≡◌, ◌≢◌, [], ◌∷◌, ◌++◌, false, Ok, Err, refl, sym, ap, ◌∙◌, subst, arith, true≢false}
 use Rattle.std.proofs.lemmas.Bool.Decides.{nat_tests}
 use Rattle.base_kinds.specs.declared.refusal.Refusal.TheVariants.{NoMemory}
 use Rattle.base_kinds.specs.Events.{is_long, get_answer}
