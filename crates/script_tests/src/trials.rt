@@ -25,7 +25,11 @@ const BEHIND: &[(&str, &str, &str)] = &[
         "refused 8 5\n",
         "2 60000001000 0 expire\n",
     ),
-    ("cancel 2 t\nget 1 /\n", "ok 1001\nrefused 8 5\n", "2 1001 2 cancel\n"),
+    (
+        "cancel 2 t\nget 1 /\n",
+        "ok 1001\nrefused 8 5\n",
+        "2 1001 2 cancel\n",
+    ),
     (
         "confirm 1 u\ncancel 1 u\nextend 1 u 1\nset 1\ntrial 1 u 1\n",
         "refused 12 3\nrefused 12 3\nrefused 12 3\nrefused 10 9\nrefused 10 9\n",
@@ -47,7 +51,11 @@ const BEHIND: &[(&str, &str, &str)] = &[
         "refused 14 3\nok 1001\n",
         "2 1001 1 confirm\n",
     ),
-    ("confirm 1 \ntrial 1  60\n", "refused 15 3\nrefused 15 3\n", ""),
+    (
+        "confirm 1 \ntrial 1  60\n",
+        "refused 15 3\nrefused 15 3\n",
+        "",
+    ),
 ];
 
 #[test]
@@ -87,7 +95,10 @@ const ANSWERS: &[(&str, &str)] = &[
         "trial 1 aaaaaaaaaaaaaaaaaaaaaaaaaaaaaaaaaaaaaaaaaaaaaaaaaaaaaaaaaaaaaaaa 60\n",
         "ok 1\nlog\n",
     ),
-    ("confirm 1 t\ncancel 1 t\nextend 1 t 60\n", "refused 11 9\nrefused 11 9\nrefused 11 9\nlog\n"),
+    (
+        "confirm 1 t\ncancel 1 t\nextend 1 t 60\n",
+        "refused 11 9\nrefused 11 9\nrefused 11 9\nlog\n",
+    ),
 ];
 
 #[test]
@@ -95,7 +106,11 @@ fn trials_are_answered(rt: HostRuntime) -> Result<(), Fail> {
     let alloc = rt.alloc();
     for (script, printed) in ANSWERS.iter().copied() {
         let transcript = run(&rt, alloc, LIMITS, script.as_bytes());
-        assert_eq!(rt; transcript.text.items().starts_with(printed.as_bytes()), true, "of {script}");
+        assert_eq!(rt;
+            transcript.text.items().starts_with(printed.as_bytes()),
+            true,
+            "of {script}"
+        );
     }
     Ok(())
 }
@@ -111,7 +126,11 @@ fn a_log_keeps_room_for_the_end_of_a_trial(rt: HostRuntime) -> Result<(), Fail> 
     for (count, printed) in table.iter().copied() {
         let script = long_hostname(&rt, alloc, count, "trial 1 t 60\n", "!");
         let transcript = run(&rt, alloc, short, script.as_bytes());
-        assert_eq!(rt; transcript.text.items().starts_with(printed.as_bytes()), true, "{count} octets");
+        assert_eq!(rt;
+            transcript.text.items().starts_with(printed.as_bytes()),
+            true,
+            "{count} octets"
+        );
     }
     let transcript = run(&rt, alloc, short, b"set 1\ntrial 1 t 60\nset 1\n");
     let printed = "ok 1\nrefused 18 8\nok 2\nlog\n1 1 1 apply\n2 2 1 apply\n";
