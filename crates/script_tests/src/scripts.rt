@@ -19,7 +19,10 @@ fn schema(rt: &impl Abort, alloc: Global) -> Schema {
 /// What the script prints, and whether each of its lines was taken.
 pub fn run(rt: &impl Abort, alloc: Global, limits: Limits, script: &[u8]) -> Transcript {
     let schema = schema(rt, alloc);
-    run_script(alloc, schema, limits, script).expect(rt, "memory")
+    if limits.in_range() {
+        return run_script(alloc, schema, limits, script).expect(rt, "memory");
+    }
+    panic!(rt; "limits that a log may have")
 }
 
 const SCRIPTS: &[(&str, &str, bool)] = &[
