@@ -7,11 +7,11 @@ use std::test::Fail;
 type Row = (&'static str, &'static str, u64, u64, &'static str);
 
 /// What the script prints that has this number of calls between its two parts.
-fn assert_printed(rt: &impl Abort, alloc: Global, row: &Row, calls: u64) {
+fn assert_printed(rt: &impl Abort, alloc: Global, row: &Row, calls: &str) {
     let (before, after, _, _, printed) = *row;
     let mut script = String::from_str(alloc, before).expect(rt, "memory");
     script.push_str("fail ").expect(rt, "memory");
-    script.push_str(CALLS[calls as usize]).expect(rt, "memory");
+    script.push_str(calls).expect(rt, "memory");
     script.push_str(after).expect(rt, "memory");
     let transcript = run(rt, alloc, LIMITS, script.as_bytes());
     assert_eq!(rt; transcript.text.items(), printed.as_bytes(), "of {script}");
@@ -20,10 +20,11 @@ fn assert_printed(rt: &impl Abort, alloc: Global, row: &Row, calls: u64) {
 
 fn assert_each(rt: &impl Abort, alloc: Global, rows: &[Row]) {
     for row in rows {
-        let mut calls = row.2;
-        while calls <= row.3 {
-            assert_printed(rt, alloc, row, calls);
-            calls += 1;
+        for (number, calls) in CALLS.iter().enumerate() {
+            let number = number as u64;
+            if row.2 <= number && number <= row.3 {
+                assert_printed(rt, alloc, row, calls);
+            }
         }
     }
 }
