@@ -6,3 +6,4 @@ pub mod Traversals
 pub mod Refusing
 pub mod Standing
 pub mod Causing
+pub mod Places

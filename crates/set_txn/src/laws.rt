@@ -1,6 +1,7 @@
 // Laws of requests.
 ghost use Rattle.set_txn.specs.laws.Asks.{ResolvedIsFit, PlainIsApply};
 ghost use Rattle.set_txn.specs.laws.Causes.{RowsMayStand, KeysHaveLeaves, RefusalsHaveCauses, RefusalsUnderTextsHaveCauses};
+ghost use Rattle.set_txn.specs.laws.Places.{RowsBelong};
 ghost use Rattle.set_txn.specs.laws.Refusals.{RefusalsOfRequests};
 
 /// What a request asks may be judged, and without an action it is that its operations are applied.
@@ -22,4 +23,10 @@ pub fn refusals_have_causes()
     ensures keys { KeysHaveLeaves }
     ensures causes { RefusalsHaveCauses }
     ensures texts { RefusalsUnderTextsHaveCauses }
+{}
+
+/// Under a well-formed schema each row of an operation of a request stands at or below the path of that operation, or is a
+/// key leaf that the path names.
+pub fn rows_belong_to_their_paths()
+    ensures { RowsBelong }
 {}

@@ -3,8 +3,8 @@
 //! Start at `resolve` (src/resolution.rt) and its definition `resolved` (specs/Resolution.antt): the order of the refusals
 //! is the order of its conditions. Operations are in specs/Operations.antt, the values of replaces and updates in
 //! specs/ValueRows.antt, the key leaves that paths name in specs/KeyLeaves.antt. The law `refusals_of_requests` lists the
-//! refusals that come, and `refusals_have_causes` their causes under a schema that was read. JSON values are those of
-//! json_rows.
+//! refusals that come, and `refusals_have_causes` their causes under a schema that was read; where the rows of operations
+//! stand is `rows_belong_to_their_paths`. JSON values are those of json_rows.
 #![tactic(auto)]
 
 mod actions;
@@ -19,5 +19,7 @@ mod resolution;
 mod scalars;
 mod value_rows;
 
-pub use laws::{asks_of_requests, refusals_have_causes, refusals_of_requests};
+pub use laws::{
+    asks_of_requests, refusals_have_causes, refusals_of_requests, rows_belong_to_their_paths,
+};
 pub use resolution::resolve;
