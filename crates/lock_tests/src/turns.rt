@@ -11,13 +11,15 @@ use std::thread::{Threads, join};
 use std::time::{Clock, Duration};
 use turn_lock::{Pass, TurnLock};
 
+type TallyPass = Pass<Tally, (u64, u64)>;
+
 /// Takes so many turns, and adds the pass's own number in each. Answers whether memory was there for all.
 fn take_turns<R: Wait>(
     rt: &R,
     lock: &TurnLock<Tally>,
-    mut pass: Pass<Tally>,
+    mut pass: TallyPass,
     turns: u64,
-) -> (Pass<Tally>, bool)
+) -> (TallyPass, bool)
     requires own { pass.seat.table_id ≡ lock.now.table.shared.table_id }
     requires outside { IsOutside pass.seat }
     ensures pass { IsSamePass pass.seat result.0.seat × IsOutside result.0.seat }
@@ -35,11 +37,7 @@ fn take_turns<R: Wait>(
 }
 
 /// One more pass of the lock, which is outside as the first one stays.
-fn another_pass<R: Wait>(
-    rt: &R,
-    lock: &TurnLock<Tally>,
-    pass: &mut Pass<Tally>,
-) -> Option<Pass<Tally>>
+fn another_pass<R: Wait>(rt: &R, lock: &TurnLock<Tally>, pass: &mut TallyPass) -> Option<TallyPass>
     requires own { pass.old.seat.table_id ≡ lock.now.table.shared.table_id }
     requires outside { IsOutside pass.old.seat }
     ensures same { (pass.new.seat.table_id ≡ lock.now.table.shared.table_id) × IsOutside pass.new.seat }
@@ -50,7 +48,7 @@ fn another_pass<R: Wait>(
 }
 
 /// A lock round an empty tally, and its first pass.
-fn tally_lock(alloc: Global) -> Option<(TurnLock<Tally>, Pass<Tally>)>
+fn tally_lock(alloc: Global) -> Option<(TurnLock<Tally>, TallyPass)>
     ensures { IfSome result (λ r.
         (r.1.seat.table_id ≡ r.0.table.shared.table_id) × IsOutside r.1.seat) }
 {
@@ -61,10 +59,10 @@ fn tally_lock(alloc: Global) -> Option<(TurnLock<Tally>, Pass<Tally>)>
 fn take_turns_by_two<R: Threads + Wait + Sync>(
     rt: &R,
     lock: &TurnLock<Tally>,
-    one: Pass<Tally>,
-    two: Pass<Tally>,
+    one: TallyPass,
+    two: TallyPass,
     turns: u64,
-) -> (Pass<Tally>, bool)
+) -> (TallyPass, bool)
     requires own_one { one.seat.table_id ≡ lock.now.table.shared.table_id }
     requires outside_one { IsOutside one.seat }
     requires own_two { two.seat.table_id ≡ lock.now.table.shared.table_id }
@@ -84,12 +82,12 @@ fn take_turns_by_two<R: Threads + Wait + Sync>(
 fn take_turns_by_four<R: Threads + Wait + Sync>(
     rt: &R,
     lock: &TurnLock<Tally>,
-    one: Pass<Tally>,
-    two: Pass<Tally>,
-    three: Pass<Tally>,
-    four: Pass<Tally>,
+    one: TallyPass,
+    two: TallyPass,
+    three: TallyPass,
+    four: TallyPass,
     turns: u64,
-) -> (Pass<Tally>, bool)
+) -> (TallyPass, bool)
     requires own_one { one.seat.table_id ≡ lock.now.table.shared.table_id }
     requires outside_one { IsOutside one.seat }
     requires own_two { two.seat.table_id ≡ lock.now.table.shared.table_id }
@@ -148,9 +146,9 @@ fn four_threads_lose_no_entry_of_ten_thousand(rt: HostRuntime) -> Result<(), Fai
 fn hold<R: Wait + Clock>(
     rt: &R,
     lock: &TurnLock<Tally>,
-    mut pass: Pass<Tally>,
+    mut pass: TallyPass,
     time: Duration,
-) -> Pass<Tally>
+) -> TallyPass
     requires own { pass.seat.table_id ≡ lock.now.table.shared.table_id }
     requires outside { IsOutside pass.seat }
     ensures pass { (result.seat.table_id ≡ pass.seat.table_id) × IsOutside result.seat }
@@ -165,11 +163,11 @@ fn hold<R: Wait + Clock>(
 fn two_wait_for_one<R: Threads + Wait + Clock + Sync>(
     rt: &R,
     lock: &TurnLock<Tally>,
-    one: Pass<Tally>,
-    two: Pass<Tally>,
-    three: Pass<Tally>,
+    one: TallyPass,
+    two: TallyPass,
+    three: TallyPass,
     time: Duration,
-) -> (Pass<Tally>, bool)
+) -> (TallyPass, bool)
     requires own { one.seat.table_id ≡ lock.now.table.shared.table_id }
     requires outside { IsOutside one.seat }
     requires own_two { two.seat.table_id ≡ lock.now.table.shared.table_id }

@@ -5,5 +5,5 @@ pub mod Prefixes
 pub mod ListsKept
 pub mod Counts
 pub mod NumbersKept
+pub mod SeenKept
 pub mod AllowedSteps
-pub mod Uses

@@ -20,6 +20,8 @@ module _ {E : Type 0} where
   sees_more first log log' v more none k = record {
     first_is = k.first_is;
     from_first = k.from_first;
+    from_start = k.from_start;
+    since_start = k.since_start;
     so_far = prefix_trans v.seen log log' k.so_far more;
     each_find = k.each_find;
     rising = k.rising;
@@ -34,7 +36,7 @@ module _ {E : Type 0} (first log : List E) (count : ℕ) (views : List (View E))
     counted = r.counted;
     grows = r.grows;
     each = stay (λ j d. d.live ≡ true → HasSeen first log d) views id w
-        (λ live. let k = r.each id v at live in record { first_is = k.first_is; from_first = k.from_first; so_far = k.so_far; each_find = k.each_find; rising = k.rising; whole = λ e. k.whole (no_more e) })
+        (λ live. let k = r.each id v at live in record { first_is = k.first_is; from_first = k.from_first; from_start = k.from_start; since_start = k.since_start; so_far = k.so_far; each_find = k.each_find; rising = k.rising; whole = λ e. k.whole (no_more e) })
         (λ j d _. r.each j d);
   }
 
@@ -46,6 +48,8 @@ module _ {E : Type 0} (first log : List E) (count : ℕ) (views : List (View E))
         (λ _. record {
           first_is = k.first_is;
           from_first = r.grows;
+          from_start = k.from_start;
+          since_start = prefix_trans v.start v.seen log k.since_start k.so_far;
           so_far = prefix_self log;
           each_find = λ i f e. ⊎_elim (λ (h : get_elem? v.finds i ≡ some f). prefix_trans f v.seen log (k.each_find i f h) k.so_far) (λ (h : log ≡ f). subst (λ z. IsPrefix z log) h (prefix_self log)) (at_snoc v.finds log f i e);
           rising = λ i j f g le p q. ⊎_elim
@@ -72,6 +76,8 @@ module _ {E : Type 0} (first log : List E) (count : ℕ) (views : List (View E))
         (λ _. record {
           first_is = k.first_is;
           from_first = prefix_trans first log log' r.grows more;
+          from_start = k.from_start;
+          since_start = prefix_trans v.start log log' (prefix_trans v.start v.seen log k.since_start k.so_far) more;
           so_far = prefix_self log';
           each_find = λ i f e. prefix_trans f log log' (prefix_trans f v.seen log (k.each_find i f e) k.so_far) more;
           rising = k.rising;
@@ -87,6 +93,8 @@ module _ {E : Type 0} (first log : List E) (count : ℕ) (views : List (View E))
     each = λ j d e. ⊎_elim (r.each j d) (λ (t : split_view v ≡ d). subst (λ (z : View E). z.live ≡ true → HasSeen first log z) t (λ _. record {
       first_is = k.first_is;
       from_first = k.from_first;
+      from_start = k.from_first;
+      since_start = prefix_self v.seen;
       so_far = k.so_far;
       each_find = λ i f h. absurd (some-ne-none f (sym h));
       rising = λ i l f g _ h _. absurd (some-ne-none f (sym h));
@@ -103,6 +111,8 @@ module _ {E : Type 0} (first log : List E) (count : ℕ) (views : List (View E))
         (λ _. record {
           first_is = k.first_is;
           from_first = which (λ z. IsPrefix first z) (λ _. ku.from_first) (λ _. k.from_first);
+          from_start = k.from_start;
+          since_start = which (λ z. IsPrefix v.start z) (λ le. prefix_trans v.start v.seen u.seen k.since_start (prefix_shorter v.seen u.seen log k.so_far ku.so_far le)) (λ _. k.since_start);
           so_far = which (λ z. IsPrefix z log) (λ _. ku.so_far) (λ _. k.so_far);
           each_find = λ i f h. which (λ z. IsPrefix f z) (λ le. prefix_trans f v.seen u.seen (k.each_find i f h) (prefix_shorter v.seen u.seen log k.so_far ku.so_far le)) (λ _. k.each_find i f h);
           rising = k.rising;

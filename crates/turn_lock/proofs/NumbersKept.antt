@@ -12,7 +12,7 @@ use Rattle.turn_lock.specs.declared.view.Ended.{Ended}
 use Rattle.turn_lock.specs.declared.view.Turn.{Turn}
 use Rattle.turn_lock.specs.inner.Turns.{NumbersDiffer, NumbersAreSmall}
 use Rattle.turn_lock.specs.Chronicles.{entries_by, AreBy}
-use Rattle.turn_lock.specs.Passes.{occurrences, numbers_of, ended_number, joined_passes}
+use Rattle.turn_lock.specs.Passes.{occurrences, numbers_of, ended_number, joined_passes, ended_pass}
 use Rattle.turn_lock.specs.inner.Rule.{occurrences_in_views, OwnsEntries, KeepsNumbers, turn_of}
 use Rattle.turn_lock.proofs.Seats.{stay, same_at, un_map, at_append}
 use Rattle.turn_lock.proofs.Counts.{times_hit, times_miss, times_append, times_none, times_ended, census_set, census_snoc, census_at, census_two, by_append, by_others}
@@ -155,7 +155,7 @@ module _ {E : Type 0} (author : E → ℕ) (later : List E) (a : ℕ) (views : L
 
   -- this view takes in another's numbers, and the other has none left
   pub joins : (other : ℕ) (u w s : View E) → other ≢ id → get_elem? views other ≡ some u
-      → w.turn.number ≡ v.turn.number → w.ended ≡ v.ended ++ joined_passes u → w.made ≡ v.made → w.known ≤ a → s.turn.number ≡ 0 → s.ended ≡ [] → s.made ≡ [] → s.known ≤ a
+      → w.turn.number ≡ v.turn.number → w.ended ≡ v.ended ++ joined_passes v u → w.made ≡ v.made → w.known ≤ a → s.turn.number ≡ 0 → s.ended ≡ [] → s.made ≡ [] → s.known ≤ a
       → KeepsNumbers author later a (set (set views id w) other s)
   joins other u w s ne there p q m known p' q' m' known' = let k = r.each id v at in let ku = r.each other u there in record {
     limit = r.limit;
@@ -168,38 +168,34 @@ module _ {E : Type 0} (author : E → ℕ) (later : List E) (a : ℕ) (views : L
         (record {
           mine = λ pos. subst (λ (z : ℕ). entries_by author z later ≡ w.made) (sym p) (k.mine (omega arith) ∙ sym m);
           none_made = λ z. m ∙ k.none_made (sym p ∙ z);
-          others = λ i x h. ⊎_elim (λ (g : get_elem? v.ended i ≡ some x). k.others i x g) (λ (g : (l : ℕ) × (get_elem? (joined_passes u) l ≡ some x)). from_added x g.0 g.1) (at_append v.ended (joined_passes u) i x (ap (λ z. get_elem? z i) (sym q) ∙ h));
+          others = λ i x h. ⊎_elim (λ (g : get_elem? v.ended i ≡ some x). k.others i x g) (λ (g : (l : ℕ) × (get_elem? (joined_passes v u) l ≡ some x)). from_added x g.0 g.1) (at_append v.ended (joined_passes v u) i x (ap (λ z. get_elem? z i) (sym q) ∙ h));
           known = known;
         }) (λ j d _. r.each j d) j d e);
   }
     where
-      one : Ended E
-      one = record { number = u.turn.number; made = u.made }
+      zero_added : u.turn.number ≡ 0 → joined_passes v u ≡ u.ended
+      zero_added e = ap (λ b. if b then u.ended else ended_pass v u ∷ u.ended) (eq-eqb u.turn.number 0 e)
 
-      zero_added : u.turn.number ≡ 0 → joined_passes u ≡ u.ended
-      zero_added e = ap (λ b. if b then u.ended else (let o : Ended E = record { number = u.turn.number; made = u.made } in o) ∷ u.ended) (eq-eqb u.turn.number 0 e)
+      some_added : u.turn.number ≢ 0 → joined_passes v u ≡ ended_pass v u ∷ u.ended
+      some_added n = ap (λ b. if b then u.ended else ended_pass v u ∷ u.ended) (ne_eqb u.turn.number 0 n)
 
-      some_added : u.turn.number ≢ 0 → joined_passes u ≡ (let o : Ended E = record { number = u.turn.number; made = u.made } in o) ∷ u.ended
-      some_added n = ap (λ b. if b then u.ended else (let o : Ended E = record { number = u.turn.number; made = u.made } in o) ∷ u.ended) (ne_eqb u.turn.number 0 n)
-
-      added_times : (n : ℕ) → 0 < n → occurrences n (map ended_number (joined_passes u)) ≡ occurrences n (numbers_of u)
+      added_times : (n : ℕ) → 0 < n → occurrences n (map ended_number (joined_passes v u)) ≡ occurrences n (numbers_of u)
       added_times n pos = dite (ℕ_discrete u.turn.number 0)
           (λ e. ap (λ z. occurrences n (map ended_number z)) (zero_added e) ∙ sym (times_miss n u.turn.number (map ended_number u.ended) (λ is. omega arith)))
           (λ ne. ap (λ z. occurrences n (map ended_number z)) (some_added ne))
 
-      from_added : (x : Ended E) (l : ℕ) → get_elem? (joined_passes u) l ≡ some x → (0 < x.number) × (entries_by author x.number later ≡ x.made)
+      from_added : (x : Ended E) (l : ℕ) → get_elem? (joined_passes v u) l ≡ some x → (0 < x.number) × (entries_by author x.number later ≡ x.made)
       from_added x l h = dite (ℕ_discrete u.turn.number 0)
           (λ e. (r.each other u there).others l x (ap (λ z. get_elem? z l) (sym (zero_added e)) ∙ h))
           (λ nz. in_list nz l (ap (λ z. get_elem? z l) (sym (some_added nz)) ∙ h))
         where
-          in_list : u.turn.number ≢ 0 → (l : ℕ) → get_elem? ((let o : Ended E = record { number = u.turn.number; made = u.made } in o) ∷ u.ended) l ≡ some x → (0 < x.number) × (entries_by author x.number later ≡ x.made)
-          in_list nz Rattle.std.proofs.Common.zero g = let o : Ended E = record { number = u.turn.number; made = u.made } in
-              subst (λ (z : Ended E). (0 < z.number) × (entries_by author z.number later ≡ z.made)) (some-injective o x g) (omega arith, (r.each other u there).mine (omega arith))
+          in_list : u.turn.number ≢ 0 → (l : ℕ) → get_elem? (ended_pass v u ∷ u.ended) l ≡ some x → (0 < x.number) × (entries_by author x.number later ≡ x.made)
+          in_list nz Rattle.std.proofs.Common.zero g = subst (λ (z : Ended E). (0 < z.number) × (entries_by author z.number later ≡ z.made)) (some-injective (ended_pass v u) x g) (omega arith, (r.each other u there).mine (omega arith))
           in_list nz (Rattle.std.proofs.Common.suc l) g = (r.each other u there).others l x g
 
       count : (n : ℕ) → 0 < n → occurrences_in_views n (set (set views id w) other s) ≡ occurrences_in_views n views
       count n pos = let c = census_set n views id v w at in let d = census_set n (set views id w) other u s (set_else views id other w ne ∙ there) in
           let blank : occurrences n (numbers_of s) ≡ 0 = ap (λ (z : ℕ × List (Ended E)). occurrences n (z.0 ∷ map ended_number z.1)) (λ i. (p' i, q' i)) ∙ times_none n pos in
-          let wide : occurrences n (numbers_of w) ≡ occurrences n (numbers_of v) + occurrences n (map ended_number (joined_passes u)) =
-          ap (λ (z : ℕ × List (Ended E)). occurrences n (z.0 ∷ map ended_number z.1)) (λ i. (p i, q i)) ∙ (ap (λ z. occurrences n (v.turn.number ∷ z)) (map-append ended_number v.ended (joined_passes u)) ∙ times_append n (numbers_of v) (map ended_number (joined_passes u))) in
+          let wide : occurrences n (numbers_of w) ≡ occurrences n (numbers_of v) + occurrences n (map ended_number (joined_passes v u)) =
+          ap (λ (z : ℕ × List (Ended E)). occurrences n (z.0 ∷ map ended_number z.1)) (λ i. (p i, q i)) ∙ (ap (λ z. occurrences n (v.turn.number ∷ z)) (map-append ended_number v.ended (joined_passes v u)) ∙ times_append n (numbers_of v) (map ended_number (joined_passes v u))) in
           let t = added_times n pos in omega arith

@@ -6,7 +6,7 @@ ghost use Rattle.turn_lock.specs.Chronicles.{entries_by, entries_past, AreBy};
 ghost use Rattle.turn_lock.specs.Passes.{joined_passes, IsFirst, opening_view, split_view, joined_view, longer, IsNew, IsOutside, IsInside, IsSamePass, OwnsItsEntries};
 
 use crate::chronicle::Chronicle;
-use crate::steps::{Count, Draw, Enrol, Find, Look, Meet, Note, Serve, Take, Twin};
+use crate::steps::{Count, Draw, Enrol, Find, Know, Look, Meet, Note, Serve, Take, Twin};
 use crate::view::{Ruled, View};
 use atomic_table::{Refused, Seat, Table};
 use std::alloc::{AllocError, Global};
@@ -46,10 +46,11 @@ pub struct TurnLock<V: Chronicle> {
 
 type Place<V> = Seat<Option<V>, View<<V as Chronicle>::Entry>>;
 
-/// The right to take turns at one lock. What it knows stands in its seat (specs/Passes.antt), and has no octets at run time.
+/// The right to take turns at one lock round a value with entries `E`. What it knows stands in its seat (specs/Passes.antt), and
+/// has no octets at run time.
 #[derive(Drop)]
-pub struct Pass<V: Chronicle> {
-    pub seat: Seat<Option<V>, View<V::Entry>>,
+pub struct Pass<V, E> {
+    pub seat: Seat<Option<V>, View<E>>,
     number: u32,
     ghost numbered: { seat.me.0.turn.number ≡ number },
     ghost some: { 0 < number },
@@ -60,7 +61,7 @@ impl<V: Chronicle> TurnLock<V> {
     ///
     /// `AllocError`: the memory of the lock itself is wanting. So a caller who needs a lock before he gives a value away
     /// has it back where that fails.
-    pub fn open(alloc: Global, value: &V) -> Result<(TurnLock<V>, Pass<V>), AllocError>
+    pub fn open(alloc: Global, value: &V) -> Result<(TurnLock<V>, Pass<V, V::Entry>), AllocError>
         ensures { IfOk result (λ r. (r.1.seat.table_id ≡ r.0.table.shared.table_id)
             × IsInside r.1.seat
             × (r.1.seat.me.0 ≡ record (opening_view (V.entries value.now)) { turn = record opening_turn { hollow = false } })) }
@@ -84,7 +85,7 @@ impl<V: Chronicle> TurnLock<V> {
     }
 
     /// A lock round the value, and its first pass, which has number 1. Gives the value back for want of memory alone.
-    pub fn make(alloc: Global, value: V) -> Result<(TurnLock<V>, Pass<V>), V>
+    pub fn make(alloc: Global, value: V) -> Result<(TurnLock<V>, Pass<V, V::Entry>), V>
         ensures ok { IfOk result (λ r. (r.1.seat.table_id ≡ r.0.table.shared.table_id)
             × IsFirst (V.entries value) r.1.seat) }
         ensures err { IfErr result (λ v. v ≡ value) }
@@ -97,7 +98,7 @@ impl<V: Chronicle> TurnLock<V> {
     }
 
     /// The number of a pass.
-    pub fn number(&self, pass: &Pass<V>) -> u32
+    pub fn number(&self, pass: &Pass<V, V::Entry>) -> u32
         ensures { (result ≡ pass.now.seat.me.0.turn.number) × (0 < result) }
     {
         pass.number
@@ -108,7 +109,7 @@ impl<V: Chronicle> TurnLock<V> {
     /// The value's list begins with all that the pass has seen. Past the list that the lock began with, its entries with the
     /// pass's number are just those that the pass made, and those with the number of a pass that was joined into it are
     /// just those that that one made.
-    pub fn enter<R: Wait>(&self, rt: &R, pass: &mut Pass<V>) -> V
+    pub fn enter<R: Wait>(&self, rt: &R, pass: &mut Pass<V, V::Entry>) -> V
         requires own { pass.old.seat.table_id ≡ self.now.table.shared.table_id }
         requires outside { IsOutside pass.old.seat }
         ensures pass { IsSamePass pass.old.seat pass.new.seat × IsInside pass.new.seat
@@ -147,7 +148,7 @@ impl<V: Chronicle> TurnLock<V> {
     /// Gives the value back, and wakes those who wait, of whom the next one takes its turn.
     ///
     /// The value's list begins with the one that was found, and its further entries are the pass's, or of author 0.
-    pub fn leave(&self, pass: &mut Pass<V>, value: V)
+    pub fn leave(&self, pass: &mut Pass<V, V::Entry>, value: V)
         requires own { pass.old.seat.table_id ≡ self.now.table.shared.table_id }
         requires inside { IsInside pass.old.seat }
         requires extends { IsPrefix pass.old.seat.me.0.seen (V.entries value)
@@ -156,6 +157,7 @@ impl<V: Chronicle> TurnLock<V> {
             × (pass.new.seat.me.0.finds ≡ pass.old.seat.me.0.finds) }
         ensures seen { pass.new.seat.me.0.seen ≡ V.entries value }
         ensures made { pass.new.seat.me.0.made ≡ pass.old.seat.me.0.made ++ entries_by V.author pass.old.seat.me.0.turn.number (entries_past pass.old.seat.me.0.seen (V.entries value)) }
+        ensures owner { OwnsItsEntries V.author pass.new.seat.me.0 }
     {
         let count = value.count();
         let empty = self.table.shared.exchange(&mut pass.seat, 0, Some(value));
@@ -169,24 +171,34 @@ impl<V: Chronicle> TurnLock<V> {
         self.table.shared.wake_all(SERVING);
     }
 
-    /// Makes a new pass with a number of its own, which has seen what this one has seen.
+    /// Makes a new pass with a number of its own, which has seen what this one has seen. This one knows from then on that the
+    /// number is given out.
     ///
     /// `Spent`: all 4,294,967,295 numbers are given out, as the pass knows from then on. Where it knew so before it is
     /// the answer.
-    pub fn split<R: Wait>(&self, rt: &R, pass: &mut Pass<V>) -> Result<Pass<V>, Spent>
+    pub fn split<R: Wait>(
+        &self,
+        rt: &R,
+        pass: &mut Pass<V, V::Entry>,
+    ) -> Result<Pass<V, V::Entry>, Spent>
         requires own { pass.old.seat.table_id ≡ self.now.table.shared.table_id }
         requires outside { IsOutside pass.old.seat }
         ensures same { (pass.new.seat.table_id ≡ pass.old.seat.table_id)
             × (pass.new.seat.id ≡ pass.old.seat.id) }
         ensures ok { IfOk result (λ p. (p.seat.table_id ≡ pass.old.seat.table_id)
-            × (pass.new.seat.me ≡ pass.old.seat.me) × IsNew pass.old.seat p.seat
-            × (pass.old.seat.me.0.known < p.seat.me.0.known)) }
+            × IsNew pass.old.seat p.seat × (pass.old.seat.me.0.known < p.seat.me.0.known)
+            × OwnsItsEntries V.author p.seat.me.0) }
+        ensures known { IfOk result (λ p. (p.seat.me.0.known ≤ pass.new.seat.me.0.known)
+            × (pass.new.seat.me ≡ (record pass.old.seat.me.0 { known = pass.new.seat.me.0.known }, pass.old.seat.me.1))) }
         ensures spent { IfErr result (λ _. pass.new.seat.me ≡ (record pass.old.seat.me.0 { known = 4294967295 }, pass.old.seat.me.1)) }
         ensures always { pass.old.seat.me.0.known ≡ 4294967295 → IfOk result (λ _. ⊥) }
     {
         let mut seat = self.table.shared.split_seat::<Twin>(&mut pass.seat);
         match self.enrol(rt, &mut seat) {
-            Some(number) => Ok(Pass { seat, number }),
+            Some(number) => {
+                self.learn(rt, &mut pass.seat, number);
+                Ok(Pass { seat, number })
+            }
             None => {
                 self.table.shared.join_seat::<Meet>(&mut pass.seat, seat);
                 Err(Spent)
@@ -198,9 +210,11 @@ impl<V: Chronicle> TurnLock<V> {
     fn enrol<R: Wait>(&self, rt: &R, seat: &mut Place<V>) -> Option<u32>
         requires own { seat.old.table_id ≡ self.now.table.shared.table_id }
         requires new { (seat.old.me.0.turn ≡ turn_outside 0) × (seat.old.me.1 ≡ []) }
+        requires live { seat.old.me.0.live ≡ true }
         ensures same { (seat.new.table_id ≡ seat.old.table_id) × (seat.new.id ≡ seat.old.id) }
         ensures some { IfSome result (λ n. (seat.old.me.0.known < n)
-            × (seat.new.me ≡ (record seat.old.me.0 { turn = turn_outside n; known = n }, []))) }
+            × (seat.new.me ≡ (record seat.old.me.0 { turn = turn_outside n; known = n }, []))
+            × OwnsItsEntries V.author seat.new.me.0) }
         ensures none { IfNone result ((seat.old.me.0.known ≤ 4294967295)
             × (seat.new.me ≡ (record seat.old.me.0 { known = 4294967295 }, []))) }
     {
@@ -221,27 +235,48 @@ impl<V: Chronicle> TurnLock<V> {
         unreachable!()
     }
 
+    /// Reads how many numbers are given out until they are so many. They are where one of them was given out before, so it reads
+    /// once.
+    fn learn<R: Wait>(&self, rt: &R, seat: &mut Place<V>, number: u32)
+        requires own { seat.old.table_id ≡ self.now.table.shared.table_id }
+        ensures same { (seat.new.table_id ≡ seat.old.table_id) × (seat.new.id ≡ seat.old.id) }
+        ensures known { (number ≤ seat.new.me.0.known)
+            × (seat.new.me ≡ (record seat.old.me.0 { known = seat.new.me.0.known }, seat.old.me.1)) }
+    {
+        for _ in rt.forever() {
+            let known = self.table.shared.load::<Count>(seat, AUTHORS);
+            if known >= number as u64 {
+                return;
+            }
+        }
+        unreachable!()
+    }
+
     /// Ends another pass. The first one has then seen what either has, and keeps the other's number with its entries.
-    pub fn join(&self, pass: &mut Pass<V>, other: Pass<V>)
+    /// What it has seen holds just the entries that either made.
+    pub fn join(&self, pass: &mut Pass<V, V::Entry>, other: Pass<V, V::Entry>)
         requires own { (pass.old.seat.table_id ≡ self.now.table.shared.table_id)
             × (other.seat.table_id ≡ self.now.table.shared.table_id) }
         requires outside { IsOutside pass.old.seat × IsOutside other.seat }
         ensures same { (pass.new.seat.table_id ≡ pass.old.seat.table_id)
             × (pass.new.seat.id ≡ pass.old.seat.id) }
         ensures met { pass.new.seat.me ≡ (joined_view pass.old.seat.me.0 other.seat.me.0, []) }
+        ensures owner { OwnsItsEntries V.author pass.new.seat.me.0 }
     {
         let Pass { seat, number: _ } = other;
         self.table.shared.join_seat::<Meet>(&mut pass.seat, seat);
+        self.table.shared.load::<Know>(&mut pass.seat, COUNT);
     }
 
     /// Waits for the pass's turn, and takes the value for good. A pass that comes later waits for ever, so whoever ends a
     /// lock joins all others before.
-    pub fn last<R: Wait>(&self, rt: &R, mut pass: Pass<V>) -> V
+    pub fn last<R: Wait>(&self, rt: &R, mut pass: Pass<V, V::Entry>) -> V
         requires own { pass.seat.table_id ≡ self.now.table.shared.table_id }
         requires outside { IsOutside pass.seat }
         ensures { (v : View V.Entry) × (V.entries result ≡ v.seen)
             × IsPrefix pass.seat.me.0.seen v.seen × (v.made ≡ pass.seat.me.0.made)
             × (v.ended ≡ pass.seat.me.0.ended) × (v.first ≡ pass.seat.me.0.first)
+            × (v.start ≡ pass.seat.me.0.start)
             × (v.turn.number ≡ pass.seat.me.0.turn.number) × OwnsItsEntries V.author v }
     {
         self.enter(rt, &mut pass)

@@ -1,5 +1,5 @@
 // What each step on the table tells.
-ghost use Rattle.turn_lock.specs.inner.Steps.{AfterDraw, AfterLook, AfterFind, AfterNote, AfterServe, AfterCount, AfterEnrol, AfterTake, spent_view};
+ghost use Rattle.turn_lock.specs.inner.Steps.{AfterDraw, AfterLook, AfterFind, AfterNote, AfterServe, AfterCount, AfterEnrol, AfterTake, AfterKnow, spent_view};
 ghost use Rattle.turn_lock.specs.Passes.{split_view, joined_view};
 
 use crate::chronicle::Chronicle;
@@ -33,7 +33,7 @@ impl<V: Chronicle> Play<Option<V>, View<V::Entry>> for Note {
 pub(crate) struct Serve;
 
 impl<V: Chronicle> Play<Option<V>, View<V::Entry>> for Serve {
-    ghost then = { AfterServe };
+    ghost then = { AfterServe V.author };
 }
 
 pub(crate) struct Take;
@@ -51,7 +51,13 @@ impl<V: Chronicle> Play<Option<V>, View<V::Entry>> for Count {
 pub(crate) struct Enrol;
 
 impl<V: Chronicle> Play<Option<V>, View<V::Entry>> for Enrol {
-    ghost then = { AfterEnrol };
+    ghost then = { AfterEnrol V.author };
+}
+
+pub(crate) struct Know;
+
+impl<V: Chronicle> Play<Option<V>, View<V::Entry>> for Know {
+    ghost then = { AfterKnow V.author };
 }
 
 pub(crate) struct Twin;

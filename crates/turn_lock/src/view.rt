@@ -18,10 +18,18 @@ pub struct Turn {
     pub hollow: bool,
 }
 
-/// A pass that was joined into another: its number and its entries.
+/// A pass that was joined into another, as it was then.
 pub struct Ended<E> {
     pub number: u64,
+    /// The entries that it had seen when it was made, and those that it had seen by then.
+    pub start: LinkedList<E>,
+    pub seen: LinkedList<E>,
+    /// The entries that each of its turns found.
+    pub finds: LinkedList<LinkedList<E>>,
+    /// Its own entries.
     pub made: LinkedList<E>,
+    /// The entries that the pass had seen into which it was joined.
+    pub host_seen: LinkedList<E>,
 }
 
 /// What a pass knows, for contracts alone: no value of it is made.
@@ -31,6 +39,8 @@ pub struct View<E> {
     pub live: bool,
     /// The entries with which the lock was made.
     pub first: LinkedList<E>,
+    /// The entries that the pass had seen when it was made.
+    pub start: LinkedList<E>,
     /// The entries that the pass found or left last, or took over from a pass that had seen more.
     pub seen: LinkedList<E>,
     /// The entries that each of its turns found.

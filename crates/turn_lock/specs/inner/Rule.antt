@@ -1,6 +1,6 @@
 -- The rule of the lock's table: four words, one slot, and what each seat knows. Word 0 is the next ticket and word 1 the one
 -- that is served, both modulo 2 to the 64; word 2 is the length of the value's list, and word 3 the last number given out.
-use Rattle.std.specs.Prelude.{◌≡◌, ℕ, ◌+◌, ◌<◌, ◌≤◌, true, false, List, [], ◌∷◌, map, length, slice_index, Option}
+use Rattle.std.specs.Prelude.{◌≡◌, ℕ, ◌+◌, ◌<◌, ◌≤◌, true, List, [], ◌∷◌, map, length, slice_index, Option}
 use mathlib.Core.Option.{some}
 use mathlib.Core.List.{IsPrefix}
 use lib.ListN.{get_elem?}
@@ -9,7 +9,7 @@ use Rattle.turn_lock.specs.declared.view.View.{View}
 use Rattle.turn_lock.specs.declared.view.Ended.{Ended}
 use Rattle.turn_lock.specs.declared.view.Turn.{Turn}
 use Rattle.turn_lock.specs.Chronicles.{entries_by, entries_past}
-use Rattle.turn_lock.specs.Passes.{occurrences, numbers_of}
+use Rattle.turn_lock.specs.Passes.{occurrences, numbers_of, HasJust, HasEnded}
 use Rattle.turn_lock.specs.inner.Turns.{KeepsTurns}
 
 -- how often a number stands among all views
@@ -21,6 +21,8 @@ occurrences_in_views n (v ∷ vs) = occurrences n (numbers_of v) + occurrences_i
 pub record HasSeen {E : Type 0} (first log : List E) (v : View E) : Type 0 where
   pub first_is : v.first ≡ first
   pub from_first : IsPrefix first v.seen
+  pub from_start : IsPrefix first v.start
+  pub since_start : IsPrefix v.start v.seen
   pub so_far : IsPrefix v.seen log
   pub each_find : (i : ℕ) (f : List E) → get_elem? v.finds i ≡ some f → IsPrefix f v.seen
   pub rising : (i k : ℕ) (f g : List E) → i ≤ k → get_elem? v.finds i ≡ some f → get_elem? v.finds k ≡ some g → IsPrefix f g
@@ -45,12 +47,21 @@ pub record KeepsNumbers {E : Type 0} (author : E → ℕ) (later : List E) (auth
   pub unwritten : (n : ℕ) → authors < n → entries_by author n later ≡ []
   pub each : (j : ℕ) (v : View E) → get_elem? views j ≡ some v → OwnsEntries author later authors v
 
+-- what a view has seen has, of each of its numbers, just the entries that it keeps
+pub record SeesItsEntries {E : Type 0} (author : E → ℕ) (first : List E) (v : View E) : Type 0 where
+  pub own : 0 < v.turn.number → HasJust author first v.start v.seen v.turn.number v.made
+  pub others : (i : ℕ) (e : Ended E) → get_elem? v.ended i ≡ some e → HasEnded author first v.seen e
+
+abbrev pub EachSeesItsEntries : {E : Type 0} → (E → ℕ) → List E → List (View E) → Type 0
+EachSeesItsEntries {E} author first views = (j : ℕ) (v : View E) → get_elem? views j ≡ some v → v.live ≡ true → SeesItsEntries author first v
+
 abbrev pub turn_of : {E : Type 0} → View E → Turn
 turn_of v = v.turn
 
--- the rule as a whole, in three parts: the tickets, the lists, and the numbers
+-- the rule as a whole, in four parts: the tickets, the lists, the numbers, and what was seen of their entries
 pub record KeepsRule {V E : Type 0} (entries : V → List E) (author : E → ℕ) (first : List E) (s : State (Option V) (View E)) : Type 0 where
   pub log : List E
   pub turns : KeepsTurns (λ x. entries x ≡ log) s.words s.homes (map turn_of s.views)
   pub lists : KeepsLists first log (slice_index s.words 2) s.views
   pub numbers : KeepsNumbers author (entries_past first log) (slice_index s.words 3) s.views
+  pub sees : EachSeesItsEntries author first s.views

@@ -3,7 +3,6 @@ use Rattle.std.specs.Prelude.{◌≡◌, ◌≢◌, ℕ, ◌%◌, ◌≤◌, ◌
 use mathlib.Core.List.{IsPrefix}
 use Rattle.atomic_table.specs.Table.{Me, Step, rest}
 use Rattle.turn_lock.specs.declared.view.View.{View}
-use Rattle.turn_lock.specs.declared.view.Turn.{Turn}
 use Rattle.turn_lock.specs.Chronicles.{entries_by, entries_past}
 use Rattle.turn_lock.specs.Passes.{OwnsItsEntries}
 use Rattle.turn_lock.specs.inner.Turns.{ticket_modulus, turn_outside}
@@ -14,7 +13,7 @@ SeatState V E = Me (Option V) (View E)
 
 -- the view of a seat whose pass was joined into another
 abbrev pub spent_view : {E : Type 0} → View E
-spent_view = record { turn = turn_outside 0; live = false; first = []; seen = []; finds = []; made = []; ended = []; known = 0 }
+spent_view = record { turn = turn_outside 0; live = false; first = []; start = []; seen = []; finds = []; made = []; ended = []; known = 0 }
 
 module _ {V E : Type 0} where
   abbrev pub AfterDraw : Step (Option V) → SeatState V E → ℕ → SeatState V E → Type 0
@@ -32,8 +31,11 @@ module _ {V E : Type 0} where
   AfterNote entries author st m r m' = (x : V) → m.1 ≡ (0, Some x) ∷ []
       → m' ≡ (record m.0 { seen = entries x; made = m.0.made ++ entries_by author m.0.turn.number (entries_past m.0.seen (entries x)) }, m.1)
 
-  abbrev pub AfterServe : Step (Option V) → SeatState V E → ℕ → SeatState V E → Type 0
-  AfterServe st m r m' = m' ≡ (record m.0 { turn = turn_outside m.0.turn.number }, rest m.1)
+  abbrev pub AfterServe : (E → ℕ) → Step (Option V) → SeatState V E → ℕ → SeatState V E → Type 0
+  AfterServe author st m r m' = (m' ≡ (record m.0 { turn = turn_outside m.0.turn.number }, rest m.1)) × OwnsItsEntries author m'.0
+
+  abbrev pub AfterKnow : (E → ℕ) → Step (Option V) → SeatState V E → ℕ → SeatState V E → Type 0
+  AfterKnow author st m r m' = (m' ≡ m) × OwnsItsEntries author m'.0
 
   abbrev pub AfterTake : Step (Option V) → SeatState V E → ℕ → SeatState V E → Type 0
   AfterTake st m r m' = m' ≡ (record m.0 { turn = record m.0.turn { hollow = false } }, (0, None) ∷ m.1)
@@ -41,6 +43,6 @@ module _ {V E : Type 0} where
   abbrev pub AfterCount : Step (Option V) → SeatState V E → ℕ → SeatState V E → Type 0
   AfterCount st m r m' = (m' ≡ (record m.0 { known = r }, m.1)) × (m.0.known ≤ r) × (r ≤ 4294967295)
 
-  abbrev pub AfterEnrol : Step (Option V) → SeatState V E → ℕ → SeatState V E → Type 0
-  AfterEnrol st m r m' = (r ≡ st.first → m' ≡ (record m.0 { turn = turn_outside (st.first + 1); known = st.first + 1 }, m.1))
+  abbrev pub AfterEnrol : (E → ℕ) → Step (Option V) → SeatState V E → ℕ → SeatState V E → Type 0
+  AfterEnrol author st m r m' = (r ≡ st.first → (m' ≡ (record m.0 { turn = turn_outside (st.first + 1); known = st.first + 1 }, m.1)) × OwnsItsEntries author m'.0)
       × (r ≢ st.first → (m' ≡ (record m.0 { known = r }, m.1)) × (m.0.known ≤ r) × (r ≤ 4294967295))

@@ -1,4 +1,4 @@
-use Rattle.std.proofs.Common.{rules, ◌≡◌, ℕ, List, [], ◌∷◌, length, Option, None, sym, ap, ◌∙◌, subst}
+use Rattle.std.proofs.Common.{rules, ◌≡◌, List, [], ◌∷◌, length, Option, None, sym, subst}
 use Rattle.atomic_table.specs.Table.{opening}
 use Rattle.turn_lock.specs.inner.Rule.{KeepsRule}
 use Rattle.turn_lock.specs.Passes.{opening_view}
