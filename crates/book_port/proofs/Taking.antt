@@ -1,12 +1,12 @@
 -- Turns that a port takes one after the other.
-use Rattle.std.proofs.Common.{◌≡◌, inl, inr, ℕ, List, [], ◌∷◌, ◌++◌, Bool, map, length, drop, Result, IsTrue, refl, sym, ap, ◌∙◌, subst, append-nil, append_assoc}
+use Rattle.std.proofs.Common.{◌≡◌, ◌≢◌, ◌≤◌, arith, inl, inr, ℕ, List, [], ◌∷◌, ◌++◌, Bool, map, length, drop, Result, IsTrue, refl, sym, ap, ◌∙◌, subst, append-nil, append_assoc}
 use Rattle.std.specs.List.{AllByRecursion}
 use Rattle.base_kinds.specs.declared.entry.Entry.{Entry}
 use Rattle.base_kinds.specs.declared.entry.View.{View}
 use Rattle.base_kinds.specs.declared.refusal.Refusal.{Refusal}
 use Rattle.book_port.specs.Chronicles.{entries_by}
 use Rattle.book_port.specs.Follows.{Turn, OthersWentOn, Follows, FollowsAlone, GoesOn, made_in, made_by}
-use Rattle.book_port.specs.Ports.{PortView, TakesTurn, TakesOne, TakesTurns}
+use Rattle.book_port.specs.Ports.{PortView, TakesTurn, TakesOne, TakesTurns, IsTwin}
 use Rattle.book_port.proofs.Following.{dropped}
 
 -- what a turn does, whatever it is answered
@@ -20,6 +20,7 @@ record Takes (old : PortView) (turn : Turn) (new : PortView) : Type 0 where
   pub seen_is : new.seen ≡ turn.left
   pub finds_are : new.finds ≡ old.finds ++ turn.found ∷ []
   pub made_is : new.made ≡ old.made ++ entries_by old.author more
+  pub known_is : new.known ≡ old.known
 
 takes : (T : Type 0) (old : PortView) (turn : Turn) (result : Result T Refusal) (new : PortView) → TakesTurn old turn result new → Takes old turn new
 takes T old turn result new taken = record {
@@ -32,6 +33,7 @@ takes T old turn result new taken = record {
   seen_is = ap (λ (p : PortView). p.seen) taken.new_is;
   finds_are = ap (λ (p : PortView). p.finds) taken.new_is;
   made_is = ap (λ (p : PortView). p.made) taken.new_is;
+  known_is = ap (λ (p : PortView). p.known) taken.new_is;
 }
 
 takes_one : (old : PortView) (turn : Turn) (new : PortView) → TakesOne old turn new → Takes old turn new
@@ -77,3 +79,10 @@ taken_are_made old new (turn ∷ turns) is =
 pub taken_one_more : (old mid new : PortView) (turns : List Turn) (turn : Turn) → TakesTurns old turns mid → TakesOne mid turn new → TakesTurns old (turns ++ turn ∷ []) new
 taken_one_more old mid new [] turn is one = (new, subst (λ (p : PortView). TakesOne p turn new) is one, refl)
 taken_one_more old mid new (first ∷ turns) turn is one = (is.0, is.1, taken_one_more is.0 mid new turns turn is.2 one)
+
+pub taken_know : (old new : PortView) (turns : List Turn) → TakesTurns old turns new → new.known ≡ old.known
+taken_know old new [] is = ap (λ (p : PortView). p.known) is
+taken_know old new (turn ∷ turns) is = taken_know is.0 new turns is.2 ∙ (takes_one old turn is.0 is.1).known_is
+
+pub twins_differ : (old mid one later new two : PortView) → IsTwin old mid one → mid.known ≤ later.known → IsTwin later new two → two.author ≢ one.author
+twins_differ old mid one later new two first le second is = let a = first.given_out in let b = second.later in omega (arith, a, b, le, is)

@@ -1,5 +1,6 @@
 -- What contracts see of a port of a book, through which one author sets and looks, and what one turn of it does.
-use Rattle.std.specs.Prelude.{◌≡◌, ◌≢◌, ◌⊎◌, ℕ, ◌+◌, ◌<◌, max, List, [], ◌∷◌, ◌++◌, Bool, false, Option, Some, None, Result, Ok, Err, IsTrue}
+use Rattle.std.specs.Prelude.{◌≡◌, ◌≢◌, ◌⊎◌, ℕ, ◌+◌, ◌<◌, ◌≤◌, max, length, drop, List, [], ◌∷◌, ◌++◌, Bool, false, Option, Some, None, Result, Ok, Err, IsTrue}
+use Rattle.std.specs.List.{AllByRecursion}
 use Rattle.base_kinds.specs.declared.path.Elem.{Elem}
 use Rattle.base_kinds.specs.declared.entry.Ask.{Ask}
 use Rattle.base_kinds.specs.declared.entry.Entry.{Entry}
@@ -37,7 +38,7 @@ pub record PortView : Type 0 where
   pub made : List Entry
   -- how many of its calls a fault of the disk ended
   pub marks : ℕ
-  -- the ports that ended by meeting it, each behind those that had met that one
+  -- the ports that ended by meeting it, each before those that had met that one
   pub met : List PortEnd
   -- so many numbers of authors at least are given out
   pub known : ℕ
@@ -58,6 +59,15 @@ end_of port = record {
   marks = port.marks;
 }
 
+-- past the history that the port had seen when it was made, this one has of its author's entries just those that it made
+abbrev pub HasJustMade : List Entry → PortEnd → Type 0
+HasJustMade h port = entries_by port.author (drop (length port.start) h) ≡ port.made
+
+-- no two of these ports have one author
+abbrev pub AuthorsDiffer : List PortEnd → Type 0
+AuthorsDiffer [] = Unit {0}
+AuthorsDiffer (port ∷ ports) = AllByRecursion (λ other. other.author ≢ port.author) ports × AuthorsDiffer ports
+
 -- one more behind a call that a fault of the disk ended
 abbrev pub marks_after : {T : Type 0} → ℕ → Result T Refusal → ℕ
 marks_after marks (Ok value) = marks
@@ -74,9 +84,11 @@ HasFaultCause (Some before) (Err refusals.DiskFault) (Some now) = Rose before no
 HasFaultCause (Some before) (Err refusal) (Some now) = now ≡ before
 
 -- One turn: it finds a history that begins with the one seen, and leaves one, which is then seen. Its author isn't the target.
+-- What it finds has all entries of this port, and all of each port that it met, and no others of their authors.
 pub record TakesTurn {T : Type 0} (old : PortView) (turn : Turn) (result : Result T Refusal) (new : PortView) : Type 0 where
   pub own : 0 < old.author
   pub begins : OthersWentOn old.author old.seen turn.found
+  pub has_made : AllByRecursion (HasJustMade turn.found) (end_of old ∷ old.met)
   pub alone : IsTrue old.is_alone → turn.found ≡ old.seen
   pub found_run : IsRun old.opened turn.found
   pub left_run : IsRun old.opened turn.left
@@ -118,11 +130,12 @@ TakesTurns old (turn ∷ turns) new =
     (next : PortView) × TakesOne old turn next × TakesTurns next turns new
 
 -- A further port was made: it has seen what the other one has, and has another author, whose number wasn't known to be given
--- out. Neither is alone.
+-- out, and is known to be from then on. Neither is alone.
 pub record IsTwin (old new twin : PortView) : Type 0 where
-  pub new_is : new ≡ record old { is_alone = false }
+  pub new_is : new ≡ record old { is_alone = false; known = new.known }
   pub other : twin.author ≢ old.author
   pub later : old.known < twin.author
+  pub given_out : twin.author ≤ new.known
   pub own : 0 < old.author
   pub some : 0 < twin.author
   pub twin_is : twin ≡ record {
@@ -150,13 +163,16 @@ pub record CanMeet (port other : PortView) : Type 0 where
   pub shared : port.is_alone ≡ false
   pub other_shared : other.is_alone ≡ false
 
--- The other port has ended, and what it was is kept. What either has seen, this one has seen then: the longer history.
+-- The other port has ended, and what it was is kept. What either has seen, this one has seen then: the longer history. It has
+-- all that this port and those that it met made, who are all different authors.
 pub record Meets (old other new : PortView) : Type 0 where
   pub seen : (new.seen ≡ old.seen) ⊎ (new.seen ≡ other.seen)
   pub has_own : OthersWentOn old.author old.seen new.seen
   pub has_other : OthersWentOn other.author other.seen new.seen
+  pub has_made : AllByRecursion (HasJustMade new.seen) (end_of new ∷ new.met)
+  pub differ : AuthorsDiffer (end_of new ∷ new.met)
   pub new_is : new ≡ record old {
     seen = new.seen;
-    met = old.met ++ (other.met ++ end_of other ∷ []);
+    met = old.met ++ end_of other ∷ other.met;
     known = max old.known other.known;
   }

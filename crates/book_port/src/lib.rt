@@ -12,6 +12,6 @@ mod port;
 pub use happening::Happening;
 pub use laws::{
     answers_move_with_the_clock, chronicles_are_counted, reopened_histories_are_closed, runs_go_on,
-    turns_are_taken, turns_follow,
+    turns_are_taken, turns_follow, twins_have_their_own_authors,
 };
 pub use port::{BookPort, PassFault, Twin};

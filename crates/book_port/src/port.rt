@@ -32,7 +32,7 @@ pub enum PassFault {
 
 /// A port of a book that others reach too, through ports that are made of it.
 pub trait Twin: BookPort {
-    /// A further port of the same book, whose author is another one.
+    /// A further port of the same book, whose author is another one. No two that are made of one port have one author.
     ///
     /// `Spent`: all 4,294,967,295 numbers are given out, as this port knows from then on. Where it knew so before there is no
     /// further port.
@@ -42,7 +42,8 @@ pub trait Twin: BookPort {
         ensures memory { IsErrOf result PassFault.NoMemory → Self.port self.new ≡ Self.port self.old }
         ensures always { (Self.port self.old).known ≡ most_authors → IfOk result (λ _. ⊥) };
 
-    /// Ends another port of the same book. What that one has seen, this one has seen then.
+    /// Ends another port of the same book. What that one has seen, this one has seen then, and it finds all that that one made
+    /// from then on.
     fn meet(&mut self, other: Self)
         requires { CanMeet (Self.port self.old) (Self.port other) }
         ensures { Meets (Self.port self.old) (Self.port other) (Self.port self.new) };

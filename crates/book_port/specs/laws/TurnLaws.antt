@@ -1,10 +1,10 @@
 -- What holds of an author's turns in a history that others share.
-use Rattle.std.specs.Prelude.{◌≡◌, ℕ, List, [], ◌∷◌, ◌++◌, map, IsTrue}
+use Rattle.std.specs.Prelude.{◌≡◌, ◌≢◌, ℕ, ◌≤◌, List, [], ◌∷◌, ◌++◌, map, IsTrue}
 use Rattle.std.specs.List.{AllByRecursion}
 use Rattle.base_kinds.specs.declared.entry.Entry.{Entry}
 use Rattle.book_port.specs.Chronicles.{entries_by}
 use Rattle.book_port.specs.Follows.{Turn, OthersWentOn, Follows, FollowsAlone, GoesOn, made_by}
-use Rattle.book_port.specs.Ports.{PortView, TakesOne, TakesTurns}
+use Rattle.book_port.specs.Ports.{PortView, TakesOne, TakesTurns, IsTwin}
 
 -- turns of one who is alone follow in particular
 abbrev pub AloneFollows : Type 0
@@ -59,3 +59,12 @@ TakenAreMade = (old new : PortView) (turns : List Turn) → TakesTurns old turns
 abbrev pub TakenOneMore : Type 0
 TakenOneMore = (old mid new : PortView) (turns : List Turn) (turn : Turn) → TakesTurns old turns mid → TakesOne mid turn new →
     TakesTurns old (turns ++ turn ∷ []) new
+
+-- turns don't forget which numbers are given out
+abbrev pub TakenKnow : Type 0
+TakenKnow = (old new : PortView) (turns : List Turn) → TakesTurns old turns new → new.known ≡ old.known
+
+-- so two twins of one port have two authors
+abbrev pub TwinsDiffer : Type 0
+TwinsDiffer = (old mid one later new two : PortView) → IsTwin old mid one → mid.known ≤ later.known → IsTwin later new two →
+    two.author ≢ one.author
