@@ -59,6 +59,7 @@ module _ {D T : Type 0} (faults : D → ℕ) (now : ℕ) (old : SingleView D) (k
   single_turn rises stays = record {
     own = kept.some;
     begins = nobody_went_on old.author (history_in old.book) (history_in old.book) refl;
+    has_made = (refl, tt);
     alone = λ yes. refl;
     found_run = run;
     left_run = subst (λ (o : Opened). IsRun o (history_in book)) opened run_on;
