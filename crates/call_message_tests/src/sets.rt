@@ -5,7 +5,8 @@ use base_lists::{Bytes, NoMemory};
 use gnmi_data_msg::{Message, MsgFault};
 use gnmi_ext_msg::{Extension, read_extension};
 use gnmi_set_msg::{
-    SetRequest, Update, read_request, read_set, replied_where_read, write_set_reply,
+    SetRequest, Update, read_request, read_set, replied_where_read, set_replies_read_back,
+    write_set_reply,
 };
 use std::alloc::Global;
 use std::test::Fail;
@@ -87,6 +88,7 @@ fn what_a_request_holds(rt: HostRuntime) -> Result<(), Fail> {
     assert!(rt; change.is_some_and(|update| is_change(update, b"a", 1400)));
     assert!(rt; matches!(&ask.action, Action::Confirm(id) if id.octets() == b"t".as_slice()));
     replied_where_read();
+    set_replies_read_back();
     Ok(())
 }
 

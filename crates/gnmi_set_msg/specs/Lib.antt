@@ -2,4 +2,5 @@ pub mod Numbers
 pub mod Requests
 pub mod Asks
 pub mod Replies
+pub mod ReadBack
 pub mod inner
