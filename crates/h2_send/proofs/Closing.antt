@@ -1,18 +1,22 @@
 -- What a call makes of a wire, from what it made of the connection and the sink.
-use Rattle.std.proofs.Common.{◌≡◌, Bool, true, false, ℕ, List, [], ◌∷◌, ◌++◌, map, Result, Ok, Err, refl, sym, ap, ◌∙◌, subst}
+use Rattle.std.proofs.Common.{◌≡◌, Bool, true, false, ℕ, zero, suc, List, [], ◌∷◌, ◌++◌, map, Result, Ok, Err, refl, sym, ap, ◌∙◌, subst}
+use Rattle.std.specs.Prelude.{nat_eq}
 use Rattle.std.specs.Result.{IsErrAnd}
+use Rattle.std.proofs.lemmas.List.Concat.{flat_map-append}
 use Rattle.edge_traits.specs.Output.{Output, FailedWithin}
 use Rattle.edge_traits.specs.declared.streams.Failed.{Failed}
 use Rattle.h2_frame.specs.Frames.{Frame}
-use Rattle.h2_windows.specs.Written.{octets_of, Writes}
+use Rattle.h2_windows.specs.Control.{greeting}
+use Rattle.h2_windows.specs.Written.{octets_of, spelled, Writes}
 use Rattle.h2_events.specs.declared.port.Ready.TheVariants.{Free}
 use Rattle.h2_send.specs.Inputs.{Input, input_of}
 use Rattle.h2_send.specs.declared.given.Given.{Given}
 use Rattle.h2_send.specs.Lines.{Line, first_line}
 use Rattle.h2_send.specs.Acting.{Acted, handled}
 use Rattle.h2_send.specs.Orders.{line_after}
-use Rattle.h2_send.specs.Conditions.{condition_after, answered, readiness}
-use Rattle.h2_send.specs.Wires.{WireView, Does, Responds, IsFolded}
+use Rattle.h2_send.specs.Conditions.{condition_after, answered, is_closed, readiness}
+use Rattle.h2_send.specs.Farewells.{farewell}
+use Rattle.h2_send.specs.Wires.{WireView, Does, Responds, IsFolded, behind_greeting}
 use Rattle.h2_send.specs.declared.condition.Condition.{Condition}
 use Rattle.h2_send.specs.declared.condition.Condition.TheVariants as condition
 use Rattle.h2_send.specs.declared.fault.WireFaultOut.{WireFaultOut}
@@ -58,6 +62,14 @@ open_line state line inputs is folded = subst (λ s. IsFolded s line inputs) is 
 pub new_line : (state : Condition) (line : Line) (inputs : List Input) → state ≡ condition.New → IsFolded state line inputs → line ≡ line_after first_line inputs
 new_line state line inputs is folded = subst (λ s. IsFolded s line inputs) is folded
 
+-- while a wire isn't closed
+pub live_line : (state : Condition) (line : Line) (inputs : List Input) → is_closed state ≡ false → IsFolded state line inputs → line ≡ line_after first_line inputs
+live_line condition.New line inputs is folded = folded
+live_line condition.Open line inputs is folded = folded
+live_line condition.Finished line inputs is folded = absurd cc
+live_line condition.WriteFault line inputs is folded = absurd cc
+live_line condition.NoMemory line inputs is folded = absurd cc
+
 one_more : (wants : Bool) (input : Input) (before now : Line) (inputs : List Input) (result : Result (Unit {0}) WireFaultOut) (old new : Output) → before ≡ line_after first_line inputs → Responds wants (handled input before) result now old new → IsFolded (condition_after condition.Open result) now (inputs ++ input ∷ [])
 one_more wants input before now inputs (Ok tt) old new is (wrote, line) = line ∙ ap (λ l. (handled input l).line) is ∙ sym (line_after_one first_line inputs input)
 one_more wants input before now inputs (Err fault.WriteFault) old new is failed = tt
@@ -84,3 +96,8 @@ free_open condition.Open id line is = refl
 free_open condition.Finished id line is = absurd cc
 free_open condition.WriteFault id line is = absurd cc
 free_open condition.NoMemory id line is = absurd cc
+
+-- the greeting before what is written last
+pub greeting_first : (code : ℕ) (line : Line) → nat_eq code 0 ≡ false → octets_of (behind_greeting (farewell code line)) ≡ octets_of (greeting ∷ []) ++ octets_of (farewell code line)
+greeting_first zero line some = absurd cc
+greeting_first (suc code) line some = flat_map-append spelled (greeting ∷ []) (farewell (suc code) line)

@@ -1,9 +1,15 @@
 pub mod Closing
 pub mod Fitting
+pub mod Holding
 pub mod Kept
 pub mod Loading
 pub mod Offered
+pub mod OrderWindows
 pub mod Orders
+pub mod Outputs
+pub mod Progress
 pub mod Readiness
 pub mod Rising
 pub mod Sayable
+pub mod Octets
+pub mod StreamFrames

@@ -1,23 +1,24 @@
 -- How a port sees a wire, and what an offer comes to.
-use Rattle.std.proofs.Common.{◌≡◌, ℕ, ◌<◌, ◌≤◌, true, List, [], ◌∷◌, ◌++◌, IsTrue, refl, sym, ap, ◌∙◌, subst, arith, append-nil}
+use Rattle.std.proofs.Common.{◌≡◌, ℕ, ◌<◌, ◌≤◌, ◌==◌, Bool, true, false, map, List, [], ◌∷◌, ◌++◌, IsTrue, refl, sym, ap, ◌∙◌, subst, arith, append-nil}
+use Rattle.std.specs.Prelude.{if◌then◌else◌}
 use Rattle.std.proofs.lemmas.Bool.{false≢true}
 use Rattle.edge_traits.specs.Output.{Output, Wrote, FailedWithin}
 use Rattle.h2_windows.specs.Written.{octets_of}
 use Rattle.h2_windows.proofs.Fronts.{wrote_nothing}
-use Rattle.h2_events.specs.Items.{is_last}
+use Rattle.h2_events.specs.Items.{is_last, said_on}
 use Rattle.h2_events.specs.declared.said.Said.{Said}
 use Rattle.h2_events.specs.declared.said.Said.TheVariants.{Message, Finish, Status}
 use Rattle.h2_events.specs.declared.port.Took.{Took}
 use Rattle.h2_events.specs.declared.port.Took.TheVariants as took
 use Rattle.h2_events.specs.declared.port.Ready.{Ready}
 use Rattle.h2_events.specs.declared.port.Ready.TheVariants as ready
-use Rattle.h2_send.specs.Inputs.{Input, Speech}
+use Rattle.h2_send.specs.Inputs.{Input, Event, Speech, item_of}
 use Rattle.h2_send.specs.Lines.{Line, first_line}
 use Rattle.h2_send.specs.Offers.{ready_on}
 use Rattle.h2_send.specs.Acting.{handled}
 use Rattle.h2_send.specs.Orders.{line_after}
 use Rattle.h2_send.specs.Conditions.{IsClosed, readiness}
-use Rattle.h2_send.specs.Port.{Progress, GoesOn, Takes, Tries, Offers, Asks, line_of, ready_in}
+use Rattle.h2_send.specs.Port.{Progress, Ends, GoesOn, Takes, Tries, Offers, Asks, accepted_by, line_of, ready_in, said_so_far}
 use Rattle.h2_send.specs.Wires.{WireView, Says, IsFolded, progress_of}
 use Rattle.h2_send.specs.declared.condition.Condition.{Condition}
 use Rattle.h2_send.specs.declared.condition.Condition.TheVariants as condition
@@ -32,7 +33,9 @@ pub stays : (at : Progress) → GoesOn at at
 stays at = record {
   others = [];
   inputs = sym (append-nil at.inputs);
+  accepted = tt;
   wrote = λ old new. wrote_nothing at.output at.output refl;
+  ended = λ is. subst (λ state. Ends state (line_of at) [] at.output at.output) (sym is) tt;
   faults = same_many at.output.faults;
   closed = λ is. refl;
 }
@@ -135,3 +138,37 @@ module _ (stream : ℕ) (said : Said) (found new : Progress) where
 
 pub all_gone : (state : Condition) (at : Progress) (other : ℕ) → IsClosed state → at.condition ≡ state → ready_in other at ≡ ready.Gone
 all_gone state at other closed is = ap (λ c. readiness c other (line_of at)) is ∙ closed_gone state other (line_of at) closed
+
+-- ---- what is said by an offer
+
+said_more : (other stream : ℕ) (said : Said) (inputs : List Input) → said_on other (map item_of (inputs ++ Speech stream said ∷ [])) ≡ said_on other (map item_of inputs) ++ (if stream == other then said ∷ [] else [])
+said_more other stream said [] = refl
+said_more other stream said (Event event ∷ inputs) = said_more other stream said inputs
+said_more other stream said (Speech on first ∷ inputs) = by (on == other) (said_more other stream said inputs)
+  where
+    by : (b : Bool) → said_on other (map item_of (inputs ++ Speech stream said ∷ [])) ≡ said_on other (map item_of inputs) ++ (if stream == other then said ∷ [] else [])
+        → (if b then first ∷ said_on other (map item_of (inputs ++ Speech stream said ∷ [])) else said_on other (map item_of (inputs ++ Speech stream said ∷ [])))
+        ≡ (if b then first ∷ said_on other (map item_of inputs) else said_on other (map item_of inputs)) ++ (if stream == other then said ∷ [] else [])
+    by true rest = ap (λ (words : List Said). first ∷ words) rest
+    by false rest = rest
+
+none_more : (other stream : ℕ) (words : List Said) → words ≡ words ++ (if stream == other then [] else [])
+none_more other stream words = by (stream == other)
+  where
+    by : (b : Bool) → words ≡ words ++ (if b then [] else [])
+    by true = sym (append-nil words)
+    by false = sym (append-nil words)
+
+-- Nothing is said on any stream but what was offered, where it was accepted.
+said_by_offer : (other stream : ℕ) (said : Said) (found new : Progress) (d : Ready) (r : Took) → Tries d r (Speech stream said) found new → said_so_far other new ≡ said_so_far other found ++ (if stream == other then accepted_by r said else [])
+said_by_offer other stream said found new ready.Free took.Taken (wrote, grows, state) = ap (λ is. said_on other (map item_of is)) grows ∙ said_more other stream said found.inputs
+said_by_offer other stream said found new ready.Free took.WriteFault (failed, grows, state) = ap (λ is. said_on other (map item_of is)) grows ∙ said_more other stream said found.inputs
+said_by_offer other stream said found new ready.Free took.NoMemory (same, grows, state) = ap (λ is. said_on other (map item_of is)) grows ∙ said_more other stream said found.inputs
+said_by_offer other stream said found new ready.Free took.Busy never = absurd never
+said_by_offer other stream said found new ready.Free took.Gone never = absurd never
+said_by_offer other stream said found new ready.Busy r (is, same) = ap (λ p. said_so_far other p) same ∙ none_more other stream (said_so_far other found) ∙ sym (ap (λ t. said_so_far other found ++ (if stream == other then accepted_by t said else [])) is)
+said_by_offer other stream said found new ready.Gone r (is, same) = ap (λ p. said_so_far other p) same ∙ none_more other stream (said_so_far other found) ∙ sym (ap (λ t. said_so_far other found ++ (if stream == other then accepted_by t said else [])) is)
+
+-- of a port that is alone
+pub said_alone : (other stream : ℕ) (said : Said) (r : Took) (old new : Progress) → Offers true r stream said old new → said_so_far other new ≡ said_so_far other old ++ (if stream == other then accepted_by r said else [])
+said_alone other stream said r old new o = said_by_offer other stream said o.found new (ready_in stream o.found) r o.tries ∙ ap (λ p. said_so_far other p ++ (if stream == other then accepted_by r said else [])) (o.alone refl)

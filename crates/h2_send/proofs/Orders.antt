@@ -1,6 +1,6 @@
 -- The order that inputs make.
 use Rattle.std.proofs.Common.{◌≡◌, ℕ, zero, suc, Bool, true, false, List, [], ◌∷◌, ◌++◌, length, take, drop, map, ℤ, pos, ◌-ℤ◌, refl, sym, ap, ◌∙◌, append_assoc, append-nil}
-use Rattle.std.specs.Prelude.{Option, Some, None}
+use Rattle.std.specs.Prelude.{Option, Some, None, ◌==◌, if◌then◌else◌}
 use Rattle.std.specs.List.{filter, flat_map}
 use Rattle.std.proofs.lemmas.List.Elements.{filter-append}
 use Rattle.std.proofs.lemmas.List.Concat.{flat_map-append}
@@ -14,13 +14,15 @@ use Rattle.h2_windows.specs.Sending.{sent, data_frame, data_frames, payloads_in,
 use Rattle.h2_windows.specs.declared.stream.Stream.{Stream}
 use Rattle.h2_events.specs.declared.event.RecvEvent.{RecvEvent}
 use Rattle.h2_events.specs.declared.event.RecvEvent.TheVariants as event
-use Rattle.h2_events.specs.Items.{Item, heard, written}
+use Rattle.h2_events.specs.Items.{Item, heard, said_on, written}
 use Rattle.h2_events.specs.Items as item
-use Rattle.h2_events.proofs.Orders.{heard-append, written-append}
+use Rattle.h2_events.proofs.Orders.{heard-append, said_on-append, said_on-wrote, written-append}
+use Rattle.h2_events.specs.declared.said.Said.{Said}
 use Rattle.h2_events.specs.declared.said.Said.TheVariants.{Message, Finish, Status}
 use Rattle.base_kinds.specs.declared.refusal.Refusal.{Refusal}
 use Rattle.h2_replies.specs.Headers.{opening, ending}
 use Rattle.h2_send.specs.Inputs.{Input, Event, Speech, item_of, events_of}
+use Rattle.h2_send.specs.Farewells.{farewell}
 use Rattle.h2_send.specs.Lines.{Line, first_line}
 use Rattle.h2_send.specs.Offers.{has_begun}
 use Rattle.h2_send.specs.Acting.{replies, first_frames, taken_in, handled}
@@ -109,6 +111,9 @@ answered_on line (i ∷ inputs) =
 pub answered : (line : Line) (inputs : List Input) → filter is_control (written (order_after line inputs)) ≡ flat_map replies (events_of inputs)
 answered line inputs = answered_on line inputs ∙ controls inputs
 
+said_behind : (id : ℕ) (frames : List Frame) (others : List Item) → said_on id (map item.Wrote frames ++ others) ≡ said_on id others
+said_behind id frames others = said_on-append id (map item.Wrote frames) others ∙ ap (λ (words : List Said). words ++ said_on id others) (said_on-wrote id frames)
+
 heard_behind : (line : Line) (i : Input) (inputs : List Input) → heard (order_after (handled i line).line inputs) ≡ events_of inputs → heard (map item.Wrote (handled i line).frames ++ order_after (handled i line).line inputs) ≡ events_of inputs
 heard_behind line i inputs is =
     let frames = (handled i line).frames in
@@ -119,6 +124,14 @@ pub heard_again : (line : Line) (inputs : List Input) → heard (order_after lin
 heard_again line [] = refl
 heard_again line (Event event ∷ inputs) = ap (λ es. event ∷ es) (heard_behind line (Event event) inputs (heard_again (handled (Event event) line).line inputs))
 heard_again line (Speech id said ∷ inputs) = heard_behind line (Speech id said) inputs (heard_again (handled (Speech id said) line).line inputs)
+
+-- what is said is what the inputs say
+pub said_again : (id : ℕ) (line : Line) (inputs : List Input) → said_on id (order_after line inputs) ≡ said_on id (map item_of inputs)
+said_again id line [] = refl
+said_again id line (Event event ∷ inputs) = said_behind id (handled (Event event) line).frames (order_after (handled (Event event) line).line inputs) ∙ said_again id (handled (Event event) line).line inputs
+said_again id line (Speech on said ∷ inputs) =
+    ap (λ (words : List Said). if on == id then said ∷ words else words)
+    (said_behind id (handled (Speech on said) line).frames (order_after (handled (Speech on said) line).line inputs) ∙ said_again id (handled (Speech on said) line).line inputs)
 
 pub grows : (line : Line) (inputs : List Input) (i : Input) → order_after line (inputs ++ i ∷ []) ≡ order_after line inputs ++ item_of i ∷ map item.Wrote (handled i (line_after line inputs)).frames
 grows line [] i = ap (λ items. item_of i ∷ items) (append-nil (map item.Wrote (handled i line).frames))
@@ -144,3 +157,17 @@ output_grows inputs i start old new first second = wrote_both start old new (oct
 
 pub output_fails : (inputs : List Input) (i : Input) (start old new : Output) → Wrote (octets_of (greeting ∷ written (order_after first_line inputs))) start old → FailedWithin (octets_of (handled i (line_after first_line inputs)).frames) old new → FailedWithin (octets_of (greeting ∷ written (order_after first_line (inputs ++ i ∷ [])))) start new
 output_fails inputs i start old new first second = failed_behind start old new (octets_of (greeting ∷ written (order_after first_line inputs))) (octets_of (handled i (line_after first_line inputs)).frames) (octets_of (greeting ∷ written (order_after first_line (inputs ++ i ∷ [])))) (octets_grow inputs i) first second
+
+-- ---- what is written at the end
+
+abbrev last_line : List Input → Line
+last_line inputs = line_after first_line inputs
+
+octets_end : (inputs : List Input) (code : ℕ) → octets_of (greeting ∷ written (order_after first_line inputs) ++ farewell code (last_line inputs)) ≡ octets_of (greeting ∷ written (order_after first_line inputs)) ++ octets_of (farewell code (last_line inputs))
+octets_end inputs code = flat_map-append spelled (greeting ∷ written (order_after first_line inputs)) (farewell code (last_line inputs))
+
+pub output_ends : (inputs : List Input) (code : ℕ) (start old new : Output) → Wrote (octets_of (greeting ∷ written (order_after first_line inputs))) start old → Wrote (octets_of (farewell code (last_line inputs))) old new → Wrote (octets_of (greeting ∷ written (order_after first_line inputs) ++ farewell code (last_line inputs))) start new
+output_ends inputs code start old new first second = wrote_both start old new (octets_of (greeting ∷ written (order_after first_line inputs))) (octets_of (farewell code (last_line inputs))) (octets_of (greeting ∷ written (order_after first_line inputs) ++ farewell code (last_line inputs))) (octets_end inputs code) first second
+
+pub output_breaks : (inputs : List Input) (code : ℕ) (start old new : Output) → Wrote (octets_of (greeting ∷ written (order_after first_line inputs))) start old → FailedWithin (octets_of (farewell code (last_line inputs))) old new → FailedWithin (octets_of (greeting ∷ written (order_after first_line inputs) ++ farewell code (last_line inputs))) start new
+output_breaks inputs code start old new first second = failed_behind start old new (octets_of (greeting ∷ written (order_after first_line inputs))) (octets_of (farewell code (last_line inputs))) (octets_of (greeting ∷ written (order_after first_line inputs) ++ farewell code (last_line inputs))) (octets_end inputs code) first second

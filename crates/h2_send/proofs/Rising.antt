@@ -55,13 +55,13 @@ loaded_rise : (id : ℕ) (octets : List ℕ) (streams : List Stream) → AreRisi
 loaded_rise id octets [] rise = tt
 loaded_rise id octets (s ∷ streams) rise = loaded_rise_if (is_stream id s) s (with_octets octets s) streams (loaded id octets streams) refl rise.0 (loaded_above s.id id octets streams rise.0) rise.1 (loaded_rise id octets streams rise.1)
 
-taken_rises : (input : Input) (line : Line) → AreRising line.streams → AreRising (taken_in input line).streams
+pub taken_rises : (input : Input) (line : Line) → AreRising line.streams → AreRising (taken_in input line).streams
 taken_rises (Event event) line rise = told_rises event line rise
 taken_rises (Speech id (Message octets)) line rise = loaded_rise id (framed octets) line.streams rise
 taken_rises (Speech id (Finish refusal)) line rise = without_rise id line.streams rise
 taken_rises (Speech id (Status status)) line rise = without_rise id line.streams rise
 
-handled_rises : (input : Input) (line : Line) → AreRising line.streams → AreRising (handled input line).line.streams
+pub handled_rises : (input : Input) (line : Line) → AreRising line.streams → AreRising (handled input line).line.streams
 handled_rises input line rise =
     let l = taken_in input line in
     sent_rise l.initial l.window l.streams (taken_rises input line rise)

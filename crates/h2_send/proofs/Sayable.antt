@@ -107,13 +107,13 @@ event_is on (event.Reset id) line = without_is on id line.streams
 event_is on (event.StreamFault id code) line = without_is on id line.streams
 event_is on event.GoAway line = and_true (there on line.streams)
 
-input_is : (on : ℕ) (input : Input) (line : Line) → there on (taken_in input line).streams ≡ can_say_after on (there on line.streams) (item_of input)
+pub input_is : (on : ℕ) (input : Input) (line : Line) → there on (taken_in input line).streams ≡ can_say_after on (there on line.streams) (item_of input)
 input_is on (Event e) line = event_is on e line
 input_is on (Speech id (Message octets)) line = loaded_there on id (framed octets) line.streams ∙ and_false (there on line.streams) (id == on)
 input_is on (Speech id (Finish refusal)) line = without_is on id line.streams ∙ and_last (there on line.streams) (id == on)
 input_is on (Speech id (Status status)) line = without_is on id line.streams ∙ and_last (there on line.streams) (id == on)
 
-handled_is : (on : ℕ) (input : Input) (line : Line) → there on (handled input line).line.streams ≡ can_say_after on (there on line.streams) (item_of input)
+pub handled_is : (on : ℕ) (input : Input) (line : Line) → there on (handled input line).line.streams ≡ can_say_after on (there on line.streams) (item_of input)
 handled_is on input line =
     let l = taken_in input line in
     sent_there on l.initial l.window l.streams ∙ input_is on input line

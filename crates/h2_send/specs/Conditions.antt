@@ -1,5 +1,5 @@
 -- Whether a wire still writes, what it answers then, and on which streams something can be said.
-use Rattle.std.specs.Prelude.{ℕ, Result, Ok, Err}
+use Rattle.std.specs.Prelude.{ℕ, Bool, true, false, Result, Ok, Err}
 use Rattle.edge_traits.specs.declared.streams.Failed.{Failed}
 use Rattle.h2_events.specs.declared.port.Took.{Took}
 use Rattle.h2_events.specs.declared.port.Took.TheVariants as took
@@ -17,6 +17,12 @@ abbrev pub IsClosed : Condition → Type 0
 IsClosed condition.New = ⊥
 IsClosed condition.Open = ⊥
 IsClosed _ = Unit {0}
+
+-- the test of it
+abbrev pub is_closed : Condition → Bool
+is_closed condition.New = false
+is_closed condition.Open = false
+is_closed _ = true
 
 -- what is answered by a wire that isn't open
 abbrev pub answer_of : Condition → Result (Unit {0}) WireFaultOut

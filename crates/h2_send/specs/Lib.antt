@@ -1,9 +1,15 @@
+pub mod Accepting
 pub mod Acting
 pub mod Conditions
+pub mod Farewells
 pub mod Inputs
 pub mod Lines
+pub mod Messages
 pub mod Offers
+pub mod OrderWindows
 pub mod Orders
+pub mod Outputs
 pub mod Port
+pub mod StreamFrames
 pub mod Wires
 pub mod worked

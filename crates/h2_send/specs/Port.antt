@@ -1,15 +1,17 @@
 -- How a port sees the sender of a connection, and what its calls do there.
-use Rattle.std.specs.Prelude.{◌≡◌, ℕ, ◌+◌, ◌-◌, ◌^◌, ◌≤◌, Bool, IsTrue, min, List, [], ◌∷◌, ◌++◌}
+use Rattle.std.specs.Prelude.{◌≡◌, ℕ, ◌+◌, ◌-◌, ◌^◌, ◌≤◌, Bool, IsTrue, min, List, [], ◌∷◌, ◌++◌, map}
 use Rattle.edge_traits.specs.Output.{Output, Wrote, FailedWithin}
 use Rattle.h2_windows.specs.Written.{octets_of}
-use Rattle.h2_events.specs.Items.{written}
+use Rattle.h2_events.specs.Items.{said_on, written}
 use Rattle.h2_events.specs.declared.said.Piece.{Piece}
 use Rattle.h2_events.specs.declared.said.Said.{Said}
 use Rattle.h2_events.specs.declared.port.Took.{Took}
 use Rattle.h2_events.specs.declared.port.Took.TheVariants as took
 use Rattle.h2_events.specs.declared.port.Ready.{Ready}
 use Rattle.h2_events.specs.declared.port.Ready.TheVariants as ready
-use Rattle.h2_send.specs.Inputs.{Input, Speech}
+use Rattle.h2_send.specs.Accepting.{AreAccepted}
+use Rattle.h2_send.specs.Farewells.{farewell}
+use Rattle.h2_send.specs.Inputs.{Input, Speech, item_of}
 use Rattle.h2_send.specs.Lines.{Line, first_line}
 use Rattle.h2_send.specs.Acting.{handled}
 use Rattle.h2_send.specs.Orders.{line_after, order_after}
@@ -32,13 +34,36 @@ line_of at = line_after first_line at.inputs
 abbrev pub ready_in : ℕ → Progress → Ready
 ready_in stream at = readiness at.condition stream (line_of at)
 
--- What others do between two calls of a port. They may give more, and while the sending half is open just the frames of that
--- go out. Once it is closed nothing changes any more.
+-- what was said on a stream so far
+abbrev pub said_so_far : ℕ → Progress → List Said
+said_so_far stream at = said_on stream (map item_of at.inputs)
+
+-- What has gone out of a sending half that was open and that others have closed: all of what they gave, and GOAWAY where they
+-- ended the connection with an error; a proper front of that, where a write failed; and where memory was wanting for what was
+-- given last, all before that.
+abbrev pub Ends : Condition → Line → List Input → Output → Output → Type 0
+Ends condition.New line others old new = ⊥
+Ends condition.Open line others old new = Unit {0}
+Ends condition.Finished line others old new =
+    (code : ℕ) × Wrote (octets_of (written (order_after line others)
+    ++ farewell code (line_after line others))) old new
+Ends condition.WriteFault line others old new =
+    (code : ℕ) × FailedWithin (octets_of (written (order_after line others)
+    ++ farewell code (line_after line others))) old new
+Ends condition.NoMemory line others old new =
+    (before : List Input) × (last : Input) × (others ≡ before ++ last ∷ [])
+    × Wrote (octets_of (written (order_after line before))) old new
+
+-- What others do between two calls of a port. They may give more, each where it is accepted, and just the frames of that go
+-- out, also where they close the sending half. Once it is closed nothing changes any more.
 pub record GoesOn (old new : Progress) : Type 0 where
   pub others : List Input
   pub inputs : new.inputs ≡ old.inputs ++ others
+  pub accepted : AreAccepted (line_of old) others
   pub wrote : old.condition ≡ condition.Open → new.condition ≡ condition.Open
       → Wrote (octets_of (written (order_after (line_of old) others))) old.output new.output
+  pub ended : old.condition ≡ condition.Open
+      → Ends new.condition (line_of old) others old.output new.output
   pub faults : old.output.faults ≤ new.output.faults
   pub closed : IsClosed old.condition → new ≡ old
 
@@ -77,6 +102,12 @@ pub record Asks (is_alone : Bool) (answer : Ready) (stream : ℕ) (old new : Pro
   pub goes_on : GoesOn old new
   pub alone : IsTrue is_alone → new ≡ old
   pub answers : answer ≡ ready_in stream new
+
+-- What an offer adds to what is said: the piece where it was accepted, whatever became of its octets.
+abbrev pub accepted_by : Took → Said → List Said
+accepted_by took.Busy said = []
+accepted_by took.Gone said = []
+accepted_by _ said = said ∷ []
 
 -- ---- what a port counts
 

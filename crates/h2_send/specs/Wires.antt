@@ -1,18 +1,20 @@
 -- A wire as its callers see it, and what its calls do.
-use Rattle.std.specs.Prelude.{◌≡◌, ℕ, suc, zero, Bool, true, not, nat_eq, ◌&&◌, List, [], ◌∷◌, ◌++◌, Result, Ok, Err, refl}
+use Rattle.std.specs.Prelude.{◌≡◌, ℕ, Bool, true, not, nat_eq, ◌&&◌, List, [], ◌∷◌, ◌++◌, Result, Ok, Err, refl}
 use Rattle.std.specs.Coded.{Coded, code_by, coded×}
 use Rattle.edge_traits.specs.Output.{Output, Wrote, FailedWithin}
 use Rattle.h2_frame.specs.Frames.{Frame}
 use Rattle.h2_frame.specs.Kinds.{data_kind, headers_kind}
-use Rattle.h2_windows.specs.Control.{greeting, goaway}
+use Rattle.h2_windows.specs.Control.{greeting}
 use Rattle.h2_windows.specs.Written.{octets_of}
 use Rattle.h2_events.specs.declared.port.Took.{Took}
 use Rattle.h2_events.specs.declared.port.Took.TheVariants as took
 use Rattle.h2_send.specs.Orders.{line_after}
 use Rattle.h2_send.specs.Port.{PortView, Progress}
+pub use Rattle.h2_send.specs.Farewells.{farewell}
 use Rattle.h2_send.specs.Inputs.{Input}
 use Rattle.h2_send.specs.Lines.{Line, first_line}
 use Rattle.h2_send.specs.Acting.{Acted, handled}
+use Rattle.h2_send.specs.Accepting.{AreAccepted, HoldWithin}
 use Rattle.h2_send.specs.declared.condition.Condition.{Condition}
 use Rattle.h2_send.specs.declared.condition.Condition.TheVariants as condition
 use Rattle.h2_send.specs.declared.fault.WireFaultOut.{WireFaultOut}
@@ -81,17 +83,41 @@ IsFolded condition.New line inputs = line ≡ line_after first_line inputs
 IsFolded condition.Open line inputs = line ≡ line_after first_line inputs
 IsFolded _ line inputs = Unit {0}
 
+-- of an open wire, that the octets which wait are those of one message a stream at most
+abbrev pub IsHeld : Condition → Line → Type 0
+IsHeld condition.New line = HoldWithin line.streams
+IsHeld condition.Open line = HoldWithin line.streams
+IsHeld _ line = Unit {0}
+
+-- What holds of a wire at every moment: each of its inputs could be given where it came, until it is closed its line is what
+-- they make of the first one, and what it keeps back is bounded.
+pub record IsSoundWire (state : Condition) (line : Line) (inputs : List Input) : Type 0 where
+  pub folded : IsFolded state line inputs
+  pub accepted : AreAccepted first_line inputs
+  pub held : IsHeld state line
+
 -- the greeting, which changes no window
 abbrev pub greeted : Line → Acted
 greeted line = record { frames = greeting ∷ []; line = line }
 
--- GOAWAY where the connection ends with an error (RFC 9113 section 5.4.1)
-abbrev pub farewell : ℕ → Line → List Frame
-farewell zero line = []
-farewell (suc code) line = goaway line.highest (suc code) ∷ []
-
+-- the end of a connection
 abbrev pub finished : ℕ → Line → Acted
 finished code line = record { frames = farewell code line; line = line }
+
+-- SETTINGS is the first frame that a server writes (section 3.4), where it writes any.
+abbrev pub behind_greeting : List Frame → List Frame
+behind_greeting [] = []
+behind_greeting (frame ∷ frames) = greeting ∷ frame ∷ frames
+
+-- what is written last, by how the wire stands
+abbrev pub last_frames : Condition → ℕ → Line → List Frame
+last_frames condition.New code line = behind_greeting (farewell code line)
+last_frames _ code line = farewell code line
+
+-- a connection that ends before its greeting
+abbrev pub finished_ungreeted : ℕ → Line → Acted
+finished_ungreeted code line =
+    record { frames = behind_greeting (farewell code line); line = line }
 
 -- neither DATA nor HEADERS: what answers a frame that was read
 abbrev pub is_control : Frame → Bool

@@ -1,5 +1,5 @@
 ghost use Rattle.std.specs.Prelude.{◌≡◌};
-ghost use Rattle.h2_send.specs.Conditions.{answer_of, answered, condition_after, took_of};
+ghost use Rattle.h2_send.specs.Conditions.{answer_of, answered, condition_after, is_closed, took_of};
 
 use crate::fault::WireFaultOut;
 use edge_traits::Failed;
@@ -27,6 +27,19 @@ pub(crate) fn answer_of(condition: Condition) -> Result<(), WireFaultOut>
         Condition::Finished => Ok(()),
         Condition::WriteFault => Err(WireFaultOut::WriteFault),
         Condition::NoMemory => Err(WireFaultOut::NoMemory),
+    }
+}
+
+/// Whether nothing is written any more.
+pub(crate) fn is_closed(condition: Condition) -> bool
+    ensures { result ≡ is_closed condition }
+{
+    match condition {
+        Condition::New => false,
+        Condition::Open => false,
+        Condition::Finished => true,
+        Condition::WriteFault => true,
+        Condition::NoMemory => true,
     }
 }
 

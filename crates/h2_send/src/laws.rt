@@ -1,13 +1,18 @@
 //! Laws of the definitions, which hold for every caller.
-ghost use Rattle.std.specs.Prelude.{◌≡◌, ◌<◌, Bool, IsTrue, false, nat_eq, [], ◌∷◌, ◌++◌, List, map, ℕ, ℤ};
+ghost use Rattle.std.specs.Prelude.{◌≡◌, ◌≢◌, ◌⊎◌, ◌<◌, ◌≤◌, ◌*◌, length, Bool, IsTrue, false, nat_eq, [], ◌∷◌, ◌++◌, List, map, ℕ, ℤ};
 ghost use Rattle.std.specs.List.{AllByRecursion, filter, flat_map, list_any};
 ghost use Rattle.h2_windows.specs.declared.stream.Stream.{Stream};
 ghost use Rattle.h2_windows.specs.Pacing.{Passing, ArePaced, is_data, is_data_on};
 ghost use Rattle.h2_windows.specs.Fitting.{HaveFitHeads};
 ghost use Rattle.h2_windows.specs.Shares.{window_of};
+ghost use Rattle.h2_windows.specs.Windows.{room};
 ghost use Rattle.h2_windows.specs.Sending.{after_sending};
 ghost use Rattle.h2_windows.specs.Streams.{AreRising, is_stream};
-ghost use Rattle.h2_events.specs.Items.{can_say, heard, is_last, written};
+ghost use Rattle.h2_events.specs.Events.{resets};
+ghost use Rattle.h2_events.specs.Items.{can_say, heard, is_last, said_by, said_on, written};
+ghost use Rattle.h2_events.specs.Ports.{FitsMessage};
+ghost use Rattle.h2_events.specs.declared.said.Piece.{Piece as Given};
+ghost use Rattle.h2_events.specs.declared.port.Took.{Took as Answer};
 ghost use Rattle.h2_events.specs.Items as item;
 ghost use Rattle.edge_traits.specs.Output.{Output, Wrote, FailedWithin};
 ghost use Rattle.h2_windows.specs.Control.{greeting};
@@ -15,10 +20,19 @@ ghost use Rattle.h2_windows.specs.Written.{octets_of};
 ghost use Rattle.h2_events.specs.declared.said.Said.{Said as Spoken};
 ghost use Rattle.h2_events.specs.declared.port.Took.TheVariants as Took;
 ghost use Rattle.h2_events.specs.declared.port.Ready.TheVariants as Ready;
-ghost use Rattle.h2_send.specs.Port.{Offers, Progress, ready_in};
+ghost use Rattle.h2_send.specs.Port.{GoesOn, Offers, Progress, ready_in};
+ghost use Rattle.h2_send.specs.declared.condition.Condition.TheVariants as Condition;
 ghost use Rattle.h2_send.specs.Inputs.{Input, IsSoundInput, events_of, item_of};
+ghost use Rattle.h2_windows.specs.Bounds.{largest_pending};
+ghost use Rattle.h2_windows.specs.Holding.{waiting};
+ghost use Rattle.h2_send.specs.Accepting.{AreAccepted, HoldWithin, IsOpenedOnce};
+ghost use Rattle.h2_send.specs.Farewells.{farewell};
 ghost use Rattle.h2_send.specs.Lines.{Line, first_line};
+ghost use Rattle.h2_send.specs.Messages.{octets_said, data_on, waiting_on};
+ghost use Rattle.h2_send.specs.Offers.{ready_on};
+ghost use Rattle.h2_send.specs.StreamFrames.{IsAnswer, frames_on};
 ghost use Rattle.h2_send.specs.Acting.{handled, replies, taken_in};
+ghost use Rattle.h2_send.specs.OrderWindows.{KeepsWithin, first_peer_window, window_in};
 ghost use Rattle.h2_send.specs.Orders.{line_after, order_of};
 ghost use Rattle.h2_send.specs.Wires.{is_control};
 
@@ -48,6 +62,23 @@ pub fn windows_kept()
         → Passing (is_data_on id) own own (handled input line).frames }
 {}
 
+/// By what was read and written alone (specs/OrderWindows.antt): at no place of the order does the DATA that is written pass the
+/// connection's window, which is that of number 0,
+pub fn windows_of_orders()
+    ensures connection { (inputs : List Input)
+        → KeepsWithin 0 first_peer_window (order_of inputs) }
+    // nor that of a stream, which a client opens once;
+    ensures streams { (stream : ℕ) (inputs : List Input) → 0 < stream
+        → IsOpenedOnce stream (events_of inputs)
+        → KeepsWithin stream first_peer_window (order_of inputs) }
+    // and behind it octets of the stream wait only where the one window or the other is 0 or below.
+    ensures paced { (stream : ℕ) (inputs : List Input) → 0 < stream
+        → IsOpenedOnce stream (events_of inputs)
+        → waiting_on stream (line_after first_line inputs).streams ≢ []
+        → (room (window_in 0 (order_of inputs)) ≡ 0)
+        ⊎ (room (window_in stream (order_of inputs)) ≡ 0) }
+{}
+
 /// The order is the inputs, each with what is written for it behind it. The greeting, which stands before it, and a GOAWAY
 /// behind it are none of its frames.
 pub fn order_of_inputs()
@@ -56,6 +87,8 @@ pub fn order_of_inputs()
         → order_of (inputs ++ input ∷ []) ≡ order_of inputs
         ++ item_of input ∷ map item.Wrote (handled input (line_after first_line inputs)).frames }
     ensures heard { (inputs : List Input) → heard (order_of inputs) ≡ events_of inputs }
+    ensures said { (stream : ℕ) (inputs : List Input)
+        → said_on stream (order_of inputs) ≡ said_on stream (map item_of inputs) }
     // SETTINGS, PING, DATA and stream errors are answered, each once, in the order in which they were read, and nothing
     // else is written for inputs but HEADERS and DATA.
     ensures answered { (inputs : List Input)
@@ -93,6 +126,33 @@ pub fn streams_that_something_can_be_said_on()
         ≡ list_any (is_stream stream) (line_after first_line inputs).streams }
 {}
 
+/// What goes out of the messages of a stream. Where it isn't reset, its DATA and then what waits are the octets of its messages,
+/// in the order in which they were said, each with the five that gRPC puts before it;
+pub fn data_of_streams()
+    ensures all { (stream : ℕ) (inputs : List Input) → AreAccepted first_line inputs
+        → list_any (resets stream) (events_of inputs) ≡ false
+        → octets_said (said_on stream (order_of inputs))
+        ≡ data_on stream (written (order_of inputs))
+        ++ waiting_on stream (line_after first_line inputs).streams }
+    // nothing waits on a stream that isn't busy;
+    ensures none_waits { (stream : ℕ) (streams : List Stream)
+        → ready_on stream streams ≢ Ready.Busy → waiting_on stream streams ≡ [] }
+    // and also of a stream that is reset, which a client opens once, the DATA are a front of them.
+    ensures front { (stream : ℕ) (inputs : List Input) → AreAccepted first_line inputs
+        → IsOpenedOnce stream (events_of inputs)
+        → (end : List ℕ) × (octets_said (said_on stream (order_of inputs))
+        ≡ data_on stream (written (order_of inputs)) ++ end) }
+{}
+
+/// HEADERS and DATA that are written on a stream, which a client opens once, answer what was said on it: HEADERS before a first
+/// message, DATA, and then what ends the stream, where that was said.
+pub fn frames_of_streams()
+    ensures { (stream : ℕ) (inputs : List Input) → AreAccepted first_line inputs
+        → IsOpenedOnce stream (events_of inputs)
+        → IsAnswer stream (said_on stream (order_of inputs))
+        (frames_on stream (written (order_of inputs))) }
+{}
+
 /// The line behind one input more.
 pub fn lines_go_on()
     ensures { (inputs : List Input) (input : Input)
@@ -126,8 +186,30 @@ pub fn offers_and_their_answers()
         → (other : ℕ) → ready_in other new ≡ Ready.Gone }
 {}
 
-/// What has gone out behind one input more, and what goes out of it where a write fails: the greeting and the frames of the
-/// order, or a proper front of their octets.
+/// How a connection stays that others have ports to. Its inputs are accepted, with what others give and with what is offered;
+pub fn ports_go_on()
+    ensures accepted { (old new : Progress) → AreAccepted first_line old.inputs
+        → GoesOn old new → AreAccepted first_line new.inputs }
+    ensures offered { (is_alone : Bool) (answer : Answer) (stream : ℕ) (given : Given)
+        (old new : Progress) → FitsMessage given → AreAccepted first_line old.inputs
+        → Offers is_alone answer stream (said_by given) old new
+        → AreAccepted first_line new.inputs }
+    // and where it was open, a write fault that closes it raises the count of faults, whoever met it.
+    ensures write_fault { (old new : Progress) → GoesOn old new
+        → old.condition ≡ Condition.Open → new.condition ≡ Condition.WriteFault
+        → old.output.faults < new.output.faults }
+{}
+
+/// What is kept back: of each stream one message at most, and so in all.
+pub fn octets_kept_back()
+    ensures streams { (inputs : List Input) → AreAccepted first_line inputs
+        → HoldWithin (line_after first_line inputs).streams }
+    ensures all { (streams : List Stream) → HoldWithin streams
+        → waiting streams ≤ largest_pending * length streams }
+{}
+
+/// What has gone out behind one input more, or behind the end of the connection, and what goes out of it where a write fails: the
+/// greeting and the frames of the order, and a GOAWAY, or a proper front of their octets.
 pub fn outputs_go_on()
     ensures wrote { (inputs : List Input) (input : Input) (start old new : Output)
         → Wrote (octets_of (greeting ∷ written (order_of inputs))) start old
@@ -137,4 +219,14 @@ pub fn outputs_go_on()
         → Wrote (octets_of (greeting ∷ written (order_of inputs))) start old
         → FailedWithin (octets_of (handled input (line_after first_line inputs)).frames) old new
         → FailedWithin (octets_of (greeting ∷ written (order_of (inputs ++ input ∷ [])))) start new }
+    ensures finished { (inputs : List Input) (code : ℕ) (start old new : Output)
+        → Wrote (octets_of (greeting ∷ written (order_of inputs))) start old
+        → Wrote (octets_of (farewell code (line_after first_line inputs))) old new
+        → Wrote (octets_of (greeting ∷ written (order_of inputs)
+        ++ farewell code (line_after first_line inputs))) start new }
+    ensures unfinished { (inputs : List Input) (code : ℕ) (start old new : Output)
+        → Wrote (octets_of (greeting ∷ written (order_of inputs))) start old
+        → FailedWithin (octets_of (farewell code (line_after first_line inputs))) old new
+        → FailedWithin (octets_of (greeting ∷ written (order_of inputs)
+        ++ farewell code (line_after first_line inputs))) start new }
 {}

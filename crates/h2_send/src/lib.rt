@@ -1,6 +1,7 @@
 //! The sending half of an HTTP/2 connection (RFC 9113): what this side writes for each event and for what is said on a
 //! stream, within the peer's windows. Start with `Wire` and specs/Wires.antt; what an event tells is specs/Lines.antt, and
-//! what is written for an input specs/Acting.antt. `WirePort` (specs/Port.antt) is the port by which messages are given.
+//! what is written for an input specs/Acting.antt. What goes out of what was said on a stream are the laws `data_of_streams`
+//! and `frames_of_streams`. `WirePort` (specs/Port.antt) is the port by which messages are given.
 #![tactic(auto)]
 
 mod condition;
@@ -17,8 +18,10 @@ pub use condition::Condition;
 pub use fault::WireFaultOut;
 pub use given::Given;
 pub use laws::{
-    frames_of_inputs_fit, lines_go_on, lines_of_inputs, offers_and_their_answers, order_of_inputs,
-    outputs_go_on, paced_after_each_input, streams_that_something_can_be_said_on, windows_kept,
+    data_of_streams, frames_of_inputs_fit, frames_of_streams, lines_go_on, lines_of_inputs,
+    octets_kept_back, offers_and_their_answers, order_of_inputs, outputs_go_on,
+    paced_after_each_input, ports_go_on, streams_that_something_can_be_said_on, windows_kept,
+    windows_of_orders,
 };
 pub use port::{Port, WirePort};
 pub use wire::Wire;

@@ -1,8 +1,8 @@
 //! A wire as a port, by which whoever has messages for a stream gives them.
-ghost use Rattle.std.specs.Prelude.{◌≡◌, ◌≤◌};
+ghost use Rattle.std.specs.Prelude.{◌≡◌, ◌≤◌, ◌==◌, ◌++◌, [], ℕ as Number, IsTrue, if◌then◌else◌};
 ghost use Rattle.h2_events.specs.Items.{said_by};
 ghost use Rattle.h2_events.specs.Ports.{FitsMessage};
-ghost use Rattle.h2_send.specs.Port.{Asks, Offers, asked, noted, unused_port};
+ghost use Rattle.h2_send.specs.Port.{Asks, Offers, accepted_by, asked, noted, said_so_far, unused_port};
 
 use crate::wire::Wire;
 use base_lists::Remembered;
@@ -14,7 +14,7 @@ use std::marker::Model;
 /// A port to the sending half of a connection. Where other threads have ports to the same connection a call may find it
 /// otherwise than the port saw it last.
 pub trait WirePort {
-    ghost use Rattle.std.specs.Prelude.{Bool};
+    ghost use Rattle.std.specs.Prelude.{ℕ, Bool};
     ghost use Rattle.h2_send.specs.Port.{PortView, Progress};
 
     /// How far the connection had come when the port saw it last: what its sending half was given in which order, whether
@@ -23,6 +23,9 @@ pub trait WirePort {
 
     /// Whether nobody else has a port to the connection, so that a call finds it as the port saw it last.
     ghost is_alone: { Self → Bool };
+
+    /// Streams that are this port's own: nobody else says anything on them.
+    ghost owns: { Self → ℕ → Bool };
 
     /// What went through this port: the pieces that were taken, each with its stream, in order; how often `ready` answered
     /// Free; how often `offer` was called. Both counts stand still at the end of a u64.
@@ -33,6 +36,10 @@ pub trait WirePort {
     fn ready(&mut self, stream: u32) -> Ready
         ensures asks { Asks (is_alone self.old) result stream (progress self.old) (progress self.new) }
         ensures alone { is_alone self.new ≡ is_alone self.old }
+        ensures owns { owns self.new ≡ owns self.old }
+        // Nothing is said by asking,
+        ensures own { (other : Number) → IsTrue (owns self.old other)
+            → said_so_far other (progress self.new) ≡ said_so_far other (progress self.old) }
         ensures counts { counts self.new ≡ asked result (counts self.old) };
 
     /// Says a piece on the stream where it is free; else the piece is dropped, and nothing changes.
@@ -41,6 +48,11 @@ pub trait WirePort {
         ensures offers { Offers (is_alone self.old) result stream (said_by piece)
             (progress self.old) (progress self.new) }
         ensures alone { is_alone self.new ≡ is_alone self.old }
+        ensures owns { owns self.new ≡ owns self.old }
+        // and by an offer no more than the piece, where it is accepted.
+        ensures own { (other : Number) → IsTrue (owns self.old other)
+            → said_so_far other (progress self.new) ≡ said_so_far other (progress self.old)
+            ++ (if stream == other then accepted_by result (said_by piece) else []) }
         ensures counts { counts self.new ≡ noted result (stream, piece) (counts self.old) }
         ensures later { (counts self.old).offers ≤ (counts self.new).offers };
 }
@@ -103,6 +115,8 @@ impl<S: Sink> WirePort for Wire<S> {
     ghost progress = { λ w. progress_of S.seen w };
 
     ghost is_alone = { λ w. true };
+
+    ghost owns = { λ w other. true };
 
     ghost counts = { λ w. w.port };
 

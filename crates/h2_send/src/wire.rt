@@ -12,9 +12,12 @@ ghost use Rattle.h2_send.specs.Port.{asked, noted, unused_port};
 ghost use Rattle.h2_send.specs.Acting.{acted, handled, replies};
 ghost use Rattle.h2_send.specs.Conditions.{answer_of, readiness};
 ghost use Rattle.h2_send.specs.Offers.{IsStatus, has_begun, taken_on};
-ghost use Rattle.h2_send.specs.Wires.{Does, IsFolded, Responds, Says, greeted, finished, farewell};
+ghost use Rattle.edge_traits.specs.Output.{Output};
+ghost use Rattle.h2_send.specs.Conditions.{IsClosed};
+ghost use Rattle.h2_send.specs.Outputs.{HasGoneOut};
+ghost use Rattle.h2_send.specs.Wires.{Does, IsFolded, IsSoundWire, Responds, Says, behind_greeting, greeted, finished, finished_ungreeted, farewell, last_frames};
 
-use crate::condition::{Condition, answer_of, answered, condition_after, took_of};
+use crate::condition::{Condition, answer_of, answered, condition_after, is_closed, took_of};
 use crate::connection::Connection;
 use crate::fault::WireFaultOut;
 use crate::given::Given;
@@ -44,7 +47,7 @@ impl<S: Sink> Model for Wire<S> {
     ghost use Rattle.std.specs.Coded.{codes};
     ghost use Rattle.std.specs.Prelude.{map};
     ghost use Rattle.h2_send.specs.Inputs.{input_of};
-    ghost use Rattle.h2_send.specs.Wires.{WireView, view_code, IsFolded};
+    ghost use Rattle.h2_send.specs.Wires.{WireView, view_code, IsSoundWire};
 
     ghost Value = { WireView S };
 
@@ -58,7 +61,7 @@ impl<S: Sink> Model for Wire<S> {
       port = w.port;
     } };
 
-    ghost invariant = { λ w. IsFolded w.condition w.connection (map input_of w.given) };
+    ghost invariant = { λ w. IsSoundWire w.condition w.connection (map input_of w.given) };
 }
 
 fn put_replies<S: Sink>(event: &RecvEvent, sink: &mut S) -> Result<(), Failed>
@@ -149,6 +152,41 @@ fn put_farewell<S: Sink>(sink: &mut S, connection: &Connection, code: u32) -> Re
     put_goaway(sink, connection.highest(), code)
 }
 
+/// The same behind a greeting, where it writes anything.
+fn put_first_farewell<S: Sink>(
+    sink: &mut S,
+    connection: &Connection,
+    code: u32,
+) -> Result<(), Failed>
+    ensures { Writes result (behind_greeting (farewell code connection.now))
+        (S.seen sink.old) (S.seen sink.new) }
+{
+    if code == 0 {
+        return Ok(());
+    }
+    put_greeting(sink)?;
+    put_farewell(sink, connection, code)
+}
+
+/// What is written last, by how the wire stands.
+fn put_last<S: Sink>(
+    sink: &mut S,
+    connection: &Connection,
+    condition: Condition,
+    code: u32,
+) -> Result<(), Failed>
+    ensures { Writes result (last_frames condition code connection.now)
+        (S.seen sink.old) (S.seen sink.new) }
+{
+    match condition {
+        Condition::New => put_first_farewell(sink, connection, code),
+        Condition::Open => put_farewell(sink, connection, code),
+        Condition::Finished => put_farewell(sink, connection, code),
+        Condition::WriteFault => put_farewell(sink, connection, code),
+        Condition::NoMemory => put_farewell(sink, connection, code),
+    }
+}
+
 impl<S: Sink> Wire<S> {
     /// A wire on which nothing is written until it is greeted. Takes no memory.
     pub fn make(alloc: Global, sink: S) -> Wire<S>
@@ -176,6 +214,10 @@ impl<S: Sink> Wire<S> {
             → Does S.seen false Condition.Open [] (greeted self.old.line) result self.old self.new }
         ensures once { self.old.condition ≢ Condition.New
             → (result ≡ answer_of self.old.condition) × (self.new ≡ self.old) }
+        ensures sound { IsSoundWire self.new.condition self.new.line self.new.inputs }
+        ensures output { (start : Output)
+            → HasGoneOut self.old.condition self.old.inputs start (S.seen self.old.sink)
+            → HasGoneOut self.new.condition self.new.inputs start (S.seen self.new.sink) }
     {
         if self.condition != Condition::New {
             return answer_of(self.condition);
@@ -199,6 +241,10 @@ impl<S: Sink> Wire<S> {
             → (result ≡ Err WireFaultOut.Overflow) × (self.new ≡ self.old) }
         ensures closed { self.old.condition ≢ Condition.Open
             → (result ≡ answer_of self.old.condition) × (self.new ≡ self.old) }
+        ensures sound { IsSoundWire self.new.condition self.new.line self.new.inputs }
+        ensures output { (start : Output)
+            → HasGoneOut self.old.condition self.old.inputs start (S.seen self.old.sink)
+            → HasGoneOut self.new.condition self.new.inputs start (S.seen self.new.sink) }
     {
         if self.condition != Condition::Open {
             return answer_of(self.condition);
@@ -253,6 +299,10 @@ impl<S: Sink> Wire<S> {
         ensures gone { readiness self.old.condition stream self.old.line ≡ Ready.Gone
             → (result ≡ Took.Gone) × (self.new ≡ self.old) }
         ensures found { IsFolded self.old.condition self.old.line self.old.inputs }
+        ensures sound { IsSoundWire self.new.condition self.new.line self.new.inputs }
+        ensures output { (start : Output)
+            → HasGoneOut self.old.condition self.old.inputs start (S.seen self.old.sink)
+            → HasGoneOut self.new.condition self.new.inputs start (S.seen self.new.sink) }
     {
         match self.readiness(stream) {
             Ready::Free => {}
@@ -281,6 +331,10 @@ impl<S: Sink> Wire<S> {
             → (result ≡ Took.Busy) × (self.new ≡ self.old) }
         ensures gone { readiness self.old.condition stream self.old.line ≡ Ready.Gone
             → (result ≡ Took.Gone) × (self.new ≡ self.old) }
+        ensures sound { IsSoundWire self.new.condition self.new.line self.new.inputs }
+        ensures output { (start : Output)
+            → HasGoneOut self.old.condition self.old.inputs start (S.seen self.old.sink)
+            → HasGoneOut self.new.condition self.new.inputs start (S.seen self.new.sink) }
     {
         match self.readiness(stream) {
             Ready::Free => {}
@@ -296,19 +350,28 @@ impl<S: Sink> Wire<S> {
         took_of(&done)
     }
 
-    /// Ends the connection, with GOAWAY where the code isn't 0: the highest stream that was opened, and the code. On a wire
-    /// that isn't open nothing is written. Takes no memory.
+    /// Ends the connection, with GOAWAY where the code isn't 0: the highest stream that was opened, and the code (RFC 9113
+    /// section 6.8). On a wire that wasn't greeted the greeting stands before it, since a server's first frame is SETTINGS
+    /// (section 3.4). On a wire that is closed nothing is written, and the fault that closed it is answered. Takes no memory.
     pub fn finish(&mut self, code: u32) -> Result<(), WireFaultOut>
         ensures finishes { self.old.condition ≡ Condition.Open
             → Does S.seen false Condition.Finished [] (finished code self.old.line) result
             self.old self.new }
-        ensures closed { self.old.condition ≢ Condition.Open
+        ensures ungreeted { self.old.condition ≡ Condition.New
+            → Does S.seen false Condition.Finished [] (finished_ungreeted code self.old.line) result
+            self.old self.new }
+        ensures closed { IsClosed self.old.condition
             → (result ≡ answer_of self.old.condition) × (self.new ≡ self.old) }
+        ensures sound { IsSoundWire self.new.condition self.new.line self.new.inputs }
+        ensures output { (start : Output)
+            → HasGoneOut self.old.condition self.old.inputs start (S.seen self.old.sink)
+            → HasGoneOut self.new.condition self.new.inputs start (S.seen self.new.sink) }
     {
-        if self.condition != Condition::Open {
+        if is_closed(self.condition) {
             return answer_of(self.condition);
         }
-        let done = answered(put_farewell(&mut self.sink, &self.connection, code));
+        let last = put_last(&mut self.sink, &self.connection, self.condition, code);
+        let done = answered(last);
         self.condition = condition_after(Condition::Finished, &done);
         done
     }

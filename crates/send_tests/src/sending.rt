@@ -296,6 +296,25 @@ fn a_wire_is_greeted_once_and_writes_nothing_before(rt: HostRuntime) -> Result<(
     Ok(())
 }
 
+// What is written by these calls on a new wire: finish, greet, finish.
+fn ended(alloc: Global, code: u32) -> MemSink {
+    let mut wire = Wire::make(alloc, MemSink::make(alloc, Texts::empty(alloc)));
+    let _end = wire.finish(code);
+    let _greeting = wire.greet();
+    let _again = wire.finish(2);
+    wire.give()
+}
+
+#[test]
+fn a_wire_that_ends_before_its_greeting_writes_it_before_goaway(
+    rt: HostRuntime,
+) -> Result<(), Fail> {
+    assert_eq!(rt; ended(rt.alloc(), 0).octets().len(), 0);
+    let goaway: &[u8] = &[0, 0, 8, 7, 0, 0, 0, 0, 0, 0, 0, 0, 0, 0, 0, 0, 1];
+    assert_eq!(rt; written(&ended(rt.alloc(), 1)), goaway);
+    Ok(())
+}
+
 // ---- a status behind a message
 
 // A wire on which the client has opened stream 1.

@@ -1,7 +1,9 @@
 -- Events, worked out.
-use Rattle.std.specs.Prelude.{◌≡◌, refl, ℕ, List, [], ◌∷◌, map, replicate, pos, ℤ, negsuc, false, true}
+use Rattle.std.specs.Prelude.{◌≡◌, refl, ℕ, List, [], ◌∷◌, ◌++◌, None, map, replicate, pos, ℤ, negsuc, false, true}
 use Rattle.h2_frame.specs.Frames.{Frame}
 use Rattle.h2_send.specs.Lines.{Line, overflows}
+use Rattle.h2_send.specs.Messages.{octets_said, data_on, waiting_on}
+use Rattle.h2_events.specs.declared.said.Said.TheVariants.{Message, Finish}
 use Rattle.h2_windows.specs.Control.{settings_ack}
 use Rattle.h2_send.specs.Acting.{acted}
 use Rattle.h2_windows.specs.Sending.{data_frame}
@@ -51,3 +53,11 @@ too_large = refl
 
 pub just_fits : overflows (e.Window 0 2147418112) (line (pos 65535) 0 []) ≡ false
 just_fits = refl
+
+-- of a message some octets go out as DATA, and the others wait
+pub some_sent : data_on 1 (acted (e.Window 1 3) waiting).frames ++ waiting_on 1 (acted (e.Window 1 3) waiting).line.streams ≡ waiting_on 1 waiting.streams
+some_sent = refl
+
+-- what is said is its messages, each behind five octets
+pub two_said : octets_said (Message (octets 2) ∷ Message [] ∷ Finish None ∷ []) ≡ 0 ∷ 0 ∷ 0 ∷ 0 ∷ 2 ∷ 7 ∷ 7 ∷ 0 ∷ 0 ∷ 0 ∷ 0 ∷ 0 ∷ []
+two_said = refl

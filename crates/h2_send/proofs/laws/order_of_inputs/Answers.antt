@@ -1,5 +1,5 @@
 use Rattle.h2_send.specs.Lines.{first_line}
-use Rattle.h2_send.proofs.Orders.{answered, heard_again, grows}
+use Rattle.h2_send.proofs.Orders.{answered, heard_again, grows, said_again}
 use Rattle.h2_send.proofs.laws.order_of_inputs.Goals as goal
 
 pub returns-clause-grows : goal.returns-clause-grows
@@ -10,3 +10,6 @@ returns-clause-heard c inputs = heard_again first_line inputs
 
 pub returns-clause-answered : goal.returns-clause-answered
 returns-clause-answered c inputs = answered first_line inputs
+
+pub returns-clause-said : goal.returns-clause-said
+returns-clause-said c stream inputs = said_again stream first_line inputs
