@@ -1,5 +1,10 @@
+pub mod Covered
 pub mod Exits
 pub mod Fronts
+pub mod GetAsks
 pub mod Groups
+pub mod Lengths
+pub mod Parts
+pub mod Replying
 pub mod SetAsks
 pub mod Turns

@@ -1,5 +1,5 @@
 -- Turns of a port, and what they answer.
-use Rattle.std.proofs.Common.{◌≡◌, ◌≢◌, ◌⊎◌, ℕ, ◌+◌, List, [], ◌∷◌, ◌++◌, Bool, true, false, refl, sym, ap, ◌∙◌, subst, inl, inr, Option, Some, None, Result, Ok, Err}
+use Rattle.std.proofs.Common.{◌≡◌, ◌≢◌, ◌⊎◌, ℕ, List, [], ◌∷◌, ◌++◌, refl, sym, ap, ◌∙◌, subst, inl, inr, Option, Some, None, Result, Ok, Err}
 use Rattle.base_kinds.specs.declared.entry.Entry.{Entry}
 use Rattle.base_kinds.specs.declared.entry.Ask.{Ask}
 use Rattle.base_kinds.specs.declared.refusal.Refusal.{Refusal}
@@ -13,8 +13,8 @@ use Rattle.book_port.specs.Chronicles.{entries_by}
 use Rattle.book_port.specs.Follows.{Turn}
 use Rattle.book_port.specs.Opened.{rules_in}
 use Rattle.book_port.specs.Ports.{PortView, TakesTurn, HasFaultCause, SetsOnce, LooksOnce, marks_after}
-use Rattle.rpc_desk.specs.Tasks.{Task, Says, Changes, Looks, stamped, needs_turn, answer_at, left_at}
-use Rattle.rpc_desk.specs.Answers.{IsDone, IsEnded, IsSaid, Answers, Moves, IsAnsweredBy}
+use Rattle.rpc_desk.specs.Tasks.{Task, Says, Changes, Looks, stamped}
+use Rattle.rpc_desk.specs.Answers.{IsDone, IsEnded, IsSaid, Answers, IsAnsweredBy}
 
 -- a turn that is answered otherwise, with the same marks and the same faults of the disk
 pub retaken : {A B : Type 0} (old : PortView) (turn : Turn) (a : Result A Refusal) (b : Result B Refusal) (new : PortView)
@@ -23,6 +23,7 @@ pub retaken : {A B : Type 0} (old : PortView) (turn : Turn) (a : Result A Refusa
 retaken old turn a b new same faults taken = record {
   own = taken.own;
   begins = taken.begins;
+  has_made = taken.has_made;
   alone = taken.alone;
   found_run = taken.found_run;
   left_run = taken.left_run;

@@ -1,6 +1,9 @@
 pub mod Answers
+pub mod Gets
 pub mod inner
 pub mod Limits
+pub mod Notes
 pub mod Services
 pub mod Sets
+pub mod Subscribes
 pub mod Tasks

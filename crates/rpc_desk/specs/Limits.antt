@@ -1,5 +1,5 @@
--- How long a reply may be: this project's own bounds.
-use Rattle.std.specs.Prelude.{ℕ, ◌+◌, List, length, Bool, nat_lt}
+-- How long replies, and the name of a target, may be: this project's own bounds.
+use Rattle.std.specs.Prelude.{ℕ, Bool, nat_lt}
 
 -- the octets of the reply to a Get or a Set
 abbrev pub most_reply_octets : ℕ
@@ -12,3 +12,7 @@ stamp_octets = 10
 
 abbrev pub is_too_large : ℕ → Bool
 is_too_large octets = nat_lt most_reply_octets octets
+
+-- the octets of the target's name in the prefix of a Get
+abbrev pub most_target_octets : ℕ
+most_target_octets = 1024

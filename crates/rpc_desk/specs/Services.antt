@@ -6,6 +6,7 @@ use Rattle.grpc_core.specs.declared.method.Method.{Method}
 use Rattle.grpc_core.specs.declared.method.Method.TheVariants as methods
 use Rattle.pb_message.specs.Fields.{is_message}
 use Rattle.gnmi_get_msg.specs.Replies.{capabilities}
+use Rattle.rpc_desk.specs.Gets.{get_task}
 use Rattle.rpc_desk.specs.Sets.{set_task}
 use Rattle.rpc_desk.specs.Tasks.{Task, Says}
 
@@ -14,9 +15,9 @@ abbrev pub capabilities_task : List SchemaNode → List ℕ → Task
 capabilities_task schema octets =
     if is_message octets then Says (Ok (capabilities schema)) else Says (Err BadMessage)
 
--- A Get isn't served as yet, and a Subscribe call isn't answered by one message.
+-- A Subscribe call isn't answered by one message.
 abbrev pub task_of : List SchemaNode → Method → List ℕ → Task
 task_of schema methods.Capabilities octets = capabilities_task schema octets
-task_of schema methods.Get octets = Says (Err Unsupported)
+task_of schema methods.Get octets = get_task schema octets
 task_of schema methods.Set octets = set_task schema octets
 task_of schema methods.Subscribe octets = Says (Err Unsupported)

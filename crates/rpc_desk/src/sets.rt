@@ -1,9 +1,10 @@
 // A Set: what its message asks, its reply, and its turn.
-ghost use Rattle.std.specs.Prelude.{◌≡◌, ◌≢◌, ◌+◌, ◌≤◌, Ok, Err, vec_len, vec_capacity, IfOk, IfErr};
+ghost use Rattle.std.specs.Prelude.{◌≡◌, ◌≢◌, ◌+◌, ◌≤◌, Ok, Err, length, vec_len, vec_capacity, IfOk, IfErr};
 ghost use Rattle.base_lists.specs.Results.{IsUnlessMemory};
 ghost use Rattle.base_kinds.specs.Legal.{IsFit};
 ghost use Rattle.gnmi_set_msg.specs.Requests.{request_of};
 ghost use Rattle.rpc_desk.specs.Answers.{IsAnsweredBy};
+ghost use Rattle.rpc_desk.specs.Limits.{most_reply_octets};
 ghost use Rattle.rpc_desk.specs.Sets.{set_task};
 ghost use Rattle.rpc_desk.specs.inner.Sets.{set_ask, reply_front};
 
@@ -36,6 +37,7 @@ fn set_ask(alloc: Global, schema: &Schema, body: &[u8]) -> Result<Ask, Refusal>
 #[tactic(auto, using(crate::proofs::Fronts::front_none, crate::proofs::Fronts::front_too_long, crate::proofs::Fronts::front_fits))]
 fn reply_front(alloc: Global, body: &[u8]) -> Result<Vec<u8>, Refusal>
     ensures ok { IfOk result (λ front. reply_front (request_of body.now) ≡ Ok front.items) }
+    ensures short { IfOk result (λ front. vec_len front ≤ MOST_FRONT_OCTETS) }
     ensures room { IfOk result (λ front. vec_len front + MOST_STAMP_OCTETS ≤ vec_capacity front) }
     ensures refused { IfErr result (λ refusal. refusal ≢ Refusal.NoMemory
         → reply_front (request_of body.now) ≡ Err refusal) }
@@ -58,7 +60,7 @@ fn reply_front(alloc: Global, body: &[u8]) -> Result<Vec<u8>, Refusal>
 
 /// The answer to a SetRequest: at most one turn of the port. The memory of the reply is taken, and its length judged, before the
 /// turn; so a refused Set, and one that memory is wanting for, changes nothing.
-#[tactic(auto, using(crate::proofs::Exits::set_ask_refused, crate::proofs::Exits::set_reply_refused, crate::proofs::Exits::set_accepted, crate::proofs::Exits::set_refused))]
+#[tactic(auto, using(crate::proofs::Exits::set_ask_refused, crate::proofs::Exits::set_reply_refused, crate::proofs::Exits::set_accepted, crate::proofs::Exits::set_refused, crate::proofs::Lengths::reply_fits))]
 pub(crate) fn answer_set<P: BookPort>(
     alloc: Global,
     schema: &Schema,
@@ -66,8 +68,9 @@ pub(crate) fn answer_set<P: BookPort>(
     body: &[u8],
     port: &mut P,
 ) -> Result<Bytes, Refusal>
-    ensures { IsAnsweredBy (set_task schema.now body.now) (P.port port.old) now result
+    ensures answer { IsAnsweredBy (set_task schema.now body.now) (P.port port.old) now result
         (P.port port.new) }
+    ensures within { IfOk result (λ reply. length reply ≤ most_reply_octets) }
 {
     let ask = match set_ask(alloc, schema, body) {
         Ok(ask) => ask,

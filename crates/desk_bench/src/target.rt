@@ -1,0 +1,95 @@
+// A desk over a book in memory.
+ghost use Rattle.std.specs.Prelude.{◌≡◌, IfOk};
+
+use crate::requests::{Case, Fault, SCHEMA, interfaces};
+use base_kinds::{Copied, Limits};
+use base_lists::NoMemory;
+use book_core::{Book, BookOpening, Single};
+use commit_journal::Ledger;
+use grpc_core::Method;
+use memory_disks::MemDisk;
+use plain_tree::PlainTree;
+use rpc_desk::Desk;
+use schema_core::Schema;
+use schema_text::read_schema;
+use std::alloc::Global;
+
+#[derive(Drop)]
+struct Target {
+    desk: Desk,
+    port: Single<MemDisk, PlainTree>,
+}
+
+const LIMITS: Limits = Limits {
+    entries: 65_536,
+    octets: 268_435_456,
+};
+
+/// A port of a book without entries.
+fn new_port(alloc: Global, schema: Schema) -> Result<Single<MemDisk, PlainTree>, NoMemory>
+    ensures { IfOk result (λ port. port.book.opened.schema ≡ schema) }
+{
+    let mut disk = MemDisk::make(alloc);
+    let Ok(()) = Ledger::create(alloc, &mut disk, &LIMITS) else {
+        return Err(NoMemory);
+    };
+    match Book::reopen(alloc, disk, PlainTree::empty(alloc), schema, 0) {
+        BookOpening::Ready(book) => Ok(Single::make(book, 1)),
+        _ => Err(NoMemory),
+    }
+}
+
+fn schema_of(alloc: Global) -> Result<Schema, NoMemory> {
+    match read_schema(alloc, SCHEMA) {
+        Ok(schema) => Ok(schema),
+        Err(_) => Err(NoMemory),
+    }
+}
+
+fn new_target(alloc: Global) -> Result<Target, NoMemory>
+    ensures { IfOk result (λ target. target.port.book.opened.schema ≡ target.desk) }
+{
+    let schema = schema_of(alloc)?;
+    let desk = Desk::make(schema.copy(alloc)?);
+    let port = new_port(alloc, schema)?;
+    Ok(Target { desk, port })
+}
+
+impl Target {
+    /// How many octets the reply has.
+    fn answer(&mut self, alloc: Global, method: Method, request: &[u8]) -> Result<u64, Fault>
+        requires { self.old.port.book.opened.schema ≡ self.old.desk }
+        ensures { self.new.port.book.opened.schema ≡ self.new.desk }
+    {
+        match self.desk.answer(alloc, method, request, 1, &mut self.port) {
+            Ok(reply) => Ok(reply.len() as u64),
+            Err(refusal) => Err(Fault::from(refusal)),
+        }
+    }
+
+    /// The same for so many of the message, one after another.
+    fn answer_rounds(
+        &mut self,
+        alloc: Global,
+        method: Method,
+        request: &[u8],
+        rounds: u32,
+    ) -> Result<u64, Fault>
+        requires { self.old.port.book.opened.schema ≡ self.old.desk }
+    {
+        let mut octets: u64 = 0;
+        for _ in 0..rounds {
+            octets = octets.wrapping_add(self.answer(alloc, method, request)?);
+        }
+        Ok(octets)
+    }
+}
+
+/// How many octets the replies to so many messages have, over a tree of so many interfaces.
+pub fn answered(alloc: Global, case: Case, number: u32, rounds: u32) -> Result<u64, Fault> {
+    let tree = interfaces(alloc, number)?;
+    let request = case.request(alloc)?;
+    let mut target = new_target(alloc)?;
+    target.answer(alloc, Method::Set, tree.items())?;
+    target.answer_rounds(alloc, case.method(), request.items(), rounds)
+}
