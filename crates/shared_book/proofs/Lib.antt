@@ -1,0 +1,5 @@
+pub mod Lists
+pub mod Owning
+pub mod Finding
+pub mod Turning
+pub mod Meeting
