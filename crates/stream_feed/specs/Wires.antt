@@ -1,0 +1,39 @@
+-- What whoever serves a call says at a port of a wire (RFC 9113, gRPC over HTTP/2).
+use Rattle.std.specs.Prelude.{◌≡◌, ◌⊎◌, ℕ, ◌+◌, ◌-◌, ◌^◌, ◌≤◌, ◌==◌, Bool, IsTrue, List, [], ◌++◌, map, if◌then◌else◌}
+use Rattle.h2_events.specs.Items.{said_by}
+use Rattle.h2_events.specs.declared.said.Piece.{Piece}
+use Rattle.h2_events.specs.declared.said.Said.{Said}
+use Rattle.h2_send.specs.Port.{PortView, Progress, said_so_far}
+
+-- what contracts see of a port of a wire
+pub record WireView : Type 0 where
+  pub counts : PortView
+  pub progress : Progress
+  pub owns : ℕ → Bool
+
+-- Of each stream of the port's own: what was said on it since is this on the one stream, and nothing on another.
+abbrev pub Says : ℕ → WireView → WireView → List Said → Type 0
+Says stream from to said =
+    (other : ℕ) → IsTrue (from.owns other) →
+    said_so_far other to.progress
+    ≡ said_so_far other from.progress ++ (if stream == other then said else [])
+
+-- the last value of a count
+abbrev pub last_count : ℕ
+last_count = 2 ^ 64 - 1
+
+-- Free was answered at most as often as a turn was taken or a piece offered, and so many times more; this isn't known once the
+-- count of offers stands still.
+abbrev pub IsBusied : ℕ → ℕ → PortView → PortView → Type 0
+IsBusied more turns from to =
+    (to.offers ≡ last_count)
+    ⊎ (to.frees + from.offers ≤ from.frees + turns + to.offers + more)
+
+-- Just these pieces were taken through the port, on the stream; what was accepted to be said there are these, and behind them
+-- perhaps one that was lost.
+pub record SpeaksOn (stream more turns : ℕ) (from : WireView) (pieces : List Piece)
+    (lost : List Said) (to : WireView) : Type 0 where
+  pub taken : to.counts.taken ≡ from.counts.taken ++ map (λ piece. (stream, piece)) pieces
+  pub owns : to.owns ≡ from.owns
+  pub says : Says stream from to (map said_by pieces ++ lost)
+  pub busied : IsBusied more turns from.counts to.counts

@@ -1,0 +1,2 @@
+-- The definitions on small cases.
+pub mod Runs
