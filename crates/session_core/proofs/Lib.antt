@@ -1,0 +1,15 @@
+pub mod Behind
+pub mod NewStreams
+pub mod Opening
+pub mod Orders
+pub mod Reading
+pub mod Words
+pub mod Timing
+pub mod Serving
+pub mod Steps
+pub mod Frames
+pub mod Ends
+pub mod Replies
+pub mod History
+pub mod Streams
+pub mod Opened

@@ -1,0 +1,21 @@
+use Rattle.std.proofs.Common.{List, refl, subst}
+use Rattle.base_kinds.specs.Schema.{SchemaNode}
+use Rattle.rpc_desk.specs.Answers.{IsAnsweredBy}
+use Rattle.rpc_desk.specs.Services.{task_of}
+use Rattle.session_core.proofs.Replies.{called, sent_away, turned_down}
+use Rattle.session_core.proofs.answering.answer_of.Goals as goal
+
+pub returns-in-Call-clause-replied : goal.returns-in-Call-clause-replied
+returns-in-Call-clause-replied g c =
+    called c.args.desk.now c.args.asked (g.P.BookPort.port c.args.book.now) (g.P.BookPort.port c.answer.new.port) (g.C.Clock.readings c.args.clock.now) (g.C.Clock.readings c.now-now.new.self)
+    c.in-Call.method c.in-Call.body c.items.result.now c.now-now.result c.answer.result c.in-Call.is c.items.ensures
+    (subst (λ (schema : List SchemaNode). IsAnsweredBy (task_of schema c.in-Call.method c.items.result.now) (g.P.BookPort.port c.args.book.now) c.now-now.result c.answer.result (g.P.BookPort.port c.answer.new.port)) c.requires c.answer.ensures.answer)
+    c.now-now.ensures
+
+pub returns-in-Http-clause-replied : goal.returns-in-Http-clause-replied
+returns-in-Http-clause-replied g c =
+    sent_away c.args.desk.now c.args.asked (g.P.BookPort.port c.args.book.now) (g.P.BookPort.port c.args.book.now) (g.C.Clock.readings c.args.clock.now) (g.C.Clock.readings c.args.clock.now) c.in-Http.status c.in-Http.is refl refl
+
+pub returns-in-Refused-clause-replied : goal.returns-in-Refused-clause-replied
+returns-in-Refused-clause-replied g c =
+    turned_down c.args.desk.now c.args.asked (g.P.BookPort.port c.args.book.now) (g.P.BookPort.port c.args.book.now) (g.C.Clock.readings c.args.clock.now) (g.C.Clock.readings c.args.clock.now) c.in-Refused.refusal c.in-Refused.is refl refl

@@ -1,0 +1,10 @@
+pub mod Answers
+pub mod Reading
+pub mod Runs
+pub mod Saying
+pub mod Serving
+pub mod Timing
+pub mod Writing
+pub mod inner
+pub mod laws
+pub mod worked

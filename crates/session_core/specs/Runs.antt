@@ -1,0 +1,69 @@
+-- A whole connection: what was read, asked, answered, said and written, from its preface to its end.
+use Rattle.std.specs.Prelude.{◌≡◌, ℕ, List, []}
+use Rattle.edge_traits.specs.Input.{Input as Source}
+use Rattle.edge_traits.specs.Output.{Output}
+use Rattle.base_kinds.specs.Schema.{SchemaNode}
+use Rattle.h2_calls.specs.Calls.{Moment}
+use Rattle.h2_send.specs.Accepting.{AreAccepted}
+use Rattle.h2_send.specs.Inputs.{Input}
+use Rattle.h2_send.specs.Lines.{first_line}
+use Rattle.session_calls.specs.declared.request.Request.{Request}
+use Rattle.book_port.specs.Ports.{PortView}
+use Rattle.session_core.specs.declared.how.How.{How}
+use Rattle.session_core.specs.declared.how.How.TheVariants as hows
+use Rattle.session_core.specs.declared.waiting.Waiting.{Waiting}
+use Rattle.session_core.specs.Reading.{IsGiven, IsMadeOf, IsReadPartly}
+use Rattle.session_core.specs.Saying.{AreBehind}
+use Rattle.session_core.specs.Serving.{Start, IsServed}
+use Rattle.session_core.specs.Writing.{IsWritten}
+
+-- what is seen of what a session is handed: its source, its sink, its port of a book, and the readings that its clock gave
+pub record Outside : Type 0 where
+  pub input : Source
+  pub output : Output
+  pub port : PortView
+  pub readings : List ℕ
+
+abbrev pub outside_of : Source → Output → PortView → List ℕ → Outside
+outside_of input output port readings =
+    record { input = input; output = output; port = port; readings = readings }
+
+abbrev pub start_of : List SchemaNode → Outside → Start
+start_of schema outside =
+    record { schema = schema; port = outside.port; readings = outside.readings }
+
+-- Every request is answered, and what waits, waits for the peer: it needn't be so where the output failed or memory ran out.
+abbrev pub IsSettled : How → List Request → List Input → List Waiting → Type 0
+IsSettled hows.WriteFault owed inputs waiting = Unit {0}
+IsSettled hows.NoMemory owed inputs waiting = Unit {0}
+IsSettled _ owed inputs waiting = (owed ≡ []) × AreBehind inputs waiting
+
+-- A session that was handed objects like `old`, ended like this, and left them like `new`. The desk answers by this schema.
+pub record SessionRun (schema : List SchemaNode) (old : Outside) (how : How) (new : Outside)
+    : Type 0 where
+  -- the octets that the peer sent, the frames that they are with this side's ends of streams between them, and what the
+  -- sending half was given for them
+  pub octets : List ℕ
+  pub moments : List Moment
+  pub inputs : List Input
+  -- what was not said, and not answered
+  pub waiting : List Waiting
+  pub owed : List Request
+  -- RFC 9113 sections 3.4 and 6: what was read
+  pub given : IsGiven how octets old.input new.input
+  pub partly : IsReadPartly octets moments
+  pub made : IsMadeOf how octets moments inputs
+  -- each input could be given where it came: no window overflows, and what is said finds its stream open, and free
+  pub accepted : AreAccepted first_line inputs
+  -- gRPC and gNMI: what was asked, answered at the port of the book, and said on each stream
+  pub served : IsServed (start_of schema old) (record {
+    moments = moments;
+    inputs = inputs;
+    waiting = waiting;
+    owed = owed;
+    port = new.port;
+    readings = new.readings;
+  })
+  pub settled : IsSettled how owed inputs waiting
+  -- RFC 9113 sections 5.2, 5.4 and 6: what was written
+  pub written : IsWritten how octets moments inputs old.output new.output

@@ -1,0 +1,77 @@
+-- Small connections, evaluated.
+use Rattle.std.specs.Prelude.{◌≡◌, refl, List, [], ◌∷◌, ◌++◌, true, false, codes, Some, None}
+use Rattle.std.proofs.Common.{inl}
+use Rattle.std.specs.List.{flat_map}
+use Rattle.base_kinds.specs.declared.refusal.Refusal.TheVariants.{BadMessage}
+use Rattle.hpack_block.specs.declared.header.Header.{Header}
+use Rattle.hpack_block.specs.StaticTable.{pair, static_table}
+use Rattle.hpack_block.specs.Written.{block_of}
+use Rattle.std.specs.Fmt.{digits}
+use Rattle.h2_frame.specs.Frames.{Frame, frame_of, spelling}
+use Rattle.h2_events.specs.declared.event.RecvEvent.TheVariants as events
+use Rattle.h2_events.specs.declared.said.Said.TheVariants.{Finish, Status}
+use Rattle.h2_events.specs.Items.{as_read}
+use Rattle.h2_calls.specs.Calls.{Moment, read, ended, events_of, reads_of}
+use Rattle.h2_send.specs.Inputs.{Input, Event, Speech}
+use Rattle.h2_send.specs.Orders.{order_of}
+use Rattle.h2_send.specs.Outputs.{frames_of}
+use Rattle.session_calls.specs.declared.request.Asked.TheVariants as asks
+use Rattle.session_calls.specs.Requests.{requests}
+use Rattle.session_core.specs.Answers.{Answer, requests_of}
+use Rattle.session_core.specs.Saying.{IsSaid}
+
+-- A frame of which nothing is looked at here but what it means.
+abbrev some_frame : Frame
+some_frame = frame_of (record { length = 0; kind = 0; flags = 0; stream = 0 }) []
+
+-- Headers of a POST that isn't gRPC's, and of a Set without a message.
+abbrev plain_text : List Header
+plain_text = pair (codes ":method") (codes "POST") ∷ pair (codes "content-type") (codes "text/plain") ∷ []
+
+abbrev set : List Header
+set =
+    pair (codes ":method") (codes "POST") ∷ pair (codes ":path") (codes "/gnmi.gNMI/Set")
+    ∷ pair (codes "content-type") (codes "application/grpc") ∷ []
+
+-- SETTINGS, a call that is no call of gRPC, and one that has no message: each is answered before the next frame is read.
+abbrev moments : List Moment
+moments =
+    read some_frame (Some (events.Settings 65535 false))
+    ∷ read some_frame (Some (events.Call 1 plain_text true)) ∷ ended 1
+    ∷ read some_frame (Some (events.Call 3 set true)) ∷ ended 3 ∷ []
+
+abbrev inputs : List Input
+inputs =
+    Event (events.Settings 65535 false)
+    ∷ Event (events.Call 1 plain_text true) ∷ Speech 1 (Status 415)
+    ∷ Event (events.Call 3 set true) ∷ Speech 3 (Finish (Some BadMessage)) ∷ []
+
+abbrev answers : List Answer
+answers =
+    record { request = record { stream = 1; asked = asks.Http 415 }; readings = []; turn = None; said = Status 415 ∷ [] }
+    ∷ record { request = record { stream = 3; asked = asks.Refused BadMessage }; readings = []; turn = None; said = Finish (Some BadMessage) ∷ [] }
+    ∷ []
+
+pub asked : requests_of answers ++ [] ≡ requests (events_of moments)
+asked = refl
+
+pub one_order : as_read (order_of inputs) ≡ reads_of moments
+one_order = refl
+
+pub said_first : IsSaid 1 [] (order_of inputs) answers
+said_first = inl refl
+
+pub said_second : IsSaid 3 [] (order_of inputs) answers
+said_second = inl refl
+
+-- the greeting, the ACK of SETTINGS, a status alone, and a refusal in one frame of HEADERS
+pub written :
+    flat_map spelling (frames_of inputs)
+    ≡ (0 ∷ 0 ∷ 12 ∷ 4 ∷ 0 ∷ 0 ∷ 0 ∷ 0 ∷ 0 ∷ 0 ∷ 3 ∷ 0 ∷ 0 ∷ 0 ∷ 32 ∷ 0 ∷ 6 ∷ 0 ∷ 0 ∷ 64 ∷ 0 ∷ [])
+    ++ (0 ∷ 0 ∷ 0 ∷ 4 ∷ 1 ∷ 0 ∷ 0 ∷ 0 ∷ 0 ∷ [])
+    ++ (0 ∷ 0 ∷ 5 ∷ 1 ∷ 5 ∷ 0 ∷ 0 ∷ 0 ∷ 1 ∷ 8 ∷ 3 ∷ codes "415")
+    ++ (0 ∷ 0 ∷ 62 ∷ 1 ∷ 5 ∷ 0 ∷ 0 ∷ 0 ∷ 3 ∷ 136 ∷ 15 ∷ 16 ∷ 16 ∷ codes "application/grpc")
+    ++ (0 ∷ 11 ∷ codes "grpc-status") ++ (2 ∷ codes "13")
+    ++ (0 ∷ 12 ∷ codes "grpc-message") ++ (11 ∷ codes "bad message")
+unfolding block_of static_table digits
+written = refl

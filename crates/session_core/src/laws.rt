@@ -1,0 +1,28 @@
+//! Laws of the definitions, which hold for every caller.
+ghost use Rattle.session_core.specs.laws.RunLaws.{TurnsAreTaken, TurnsFollow, TurnsFollowAlone, HistoriesAreAllowed, OwnEntriesStand, EarlierEntriesStand, FindsAreKept, FaultsAreMarked, StreamsAreAnswered, DataAreAFront};
+
+/// The answers of a connection are those of one history.
+pub fn answers_are_of_one_history()
+    ensures taken { TurnsAreTaken }
+    ensures follow { TurnsFollow }
+    ensures alone { TurnsFollowAlone }
+    ensures allowed { HistoriesAreAllowed }
+{}
+
+/// That history has the entries of the connection's own turns, each once, in order, and so has the one that a later turn finds.
+pub fn own_entries_stand()
+    ensures last { OwnEntriesStand }
+    ensures earlier { EarlierEntriesStand }
+{}
+
+/// What the port of a connection keeps of its turns.
+pub fn turns_are_kept()
+    ensures found { FindsAreKept }
+    ensures marked { FaultsAreMarked }
+{}
+
+/// What is written on a stream of a connection.
+pub fn streams_are_answered()
+    ensures frames { StreamsAreAnswered }
+    ensures data { DataAreAFront }
+{}

@@ -1,0 +1,135 @@
+//! What waits is said, as far as the streams are free.
+ghost use Rattle.std.specs.Prelude.{◌≡◌, ℕ, List, MatchResult, IfOk, IfErr, OnOk};
+ghost use Rattle.edge_traits.specs.Output.{Output};
+ghost use Rattle.h2_events.specs.declared.event.RecvEvent.{RecvEvent as Heard};
+ghost use Rattle.h2_events.specs.Items.{is_last};
+ghost use Rattle.h2_send.specs.Conditions.{readiness};
+ghost use Rattle.session_calls.specs.declared.request.Request.{Request as Asking};
+ghost use Rattle.book_port.specs.Ports.{PortView};
+ghost use Rattle.session_core.specs.Serving.{Start};
+ghost use Rattle.session_core.specs.Saying.{AreBehind};
+ghost use Rattle.session_core.specs.inner.Ends.{IsOwn};
+ghost use Rattle.session_core.specs.inner.Places.{HasEnded, IsWriting, Stands, place_of};
+ghost use Rattle.session_core.specs.inner.Steps.{Speaks, done_of, told_of};
+
+use crate::how::{How, how_of};
+use crate::waiting::{Waiting, Waitings};
+use base_lists::NoMemory;
+use edge_traits::Sink;
+use h2_events::{Piece, Ready, Said, Took};
+use h2_recv::Recv;
+use h2_send::{Wire, WireFaultOut};
+use std::alloc::Global;
+
+/// The most octets of a message that the sending half takes.
+const MOST_MESSAGE: usize = 123_600_000;
+
+fn of_took(took: Took) -> Result<(), WireFaultOut>
+    ensures { result ≡ done_of took }
+{
+    match took {
+        Took::Taken => Ok(()),
+        Took::WriteFault => Err(WireFaultOut::WriteFault),
+        Took::NoMemory => Err(WireFaultOut::NoMemory),
+        Took::Busy => Err(WireFaultOut::NoMemory),
+        Took::Gone => Err(WireFaultOut::NoMemory),
+    }
+}
+
+/// Says something on a stream that is free. There is no memory for a message that is longer than the sending half takes,
+/// and none for a status that isn't one.
+fn speak<O: Sink>(
+    alloc: Global,
+    wire: &mut Wire<O>,
+    stream: u32,
+    said: Said,
+) -> Result<(), WireFaultOut>
+    requires { readiness wire.old.condition stream wire.old.line ≡ Ready.Free }
+    ensures { Speaks O.seen stream said result wire.old wire.new }
+{
+    match said {
+        Said::Message(octets) => {
+            if octets.len() > MOST_MESSAGE {
+                return Err(WireFaultOut::NoMemory);
+            }
+            of_took(wire.say(alloc, stream, &Piece::Message(octets)))
+        }
+        Said::Finish(refusal) => of_took(wire.say(alloc, stream, &Piece::Finish(refusal))),
+        Said::Status(status) => {
+            if status < 100 || 999 < status {
+                return Err(WireFaultOut::NoMemory);
+            }
+            of_took(wire.http(alloc, stream, status))
+        }
+    }
+}
+
+fn ends(said: &Said) -> bool
+    ensures { result ≡ is_last said.now }
+{
+    match said {
+        Said::Message(_) => false,
+        Said::Finish(_) => true,
+        Said::Status(_) => true,
+    }
+}
+
+/// Says something on a stream that is free, and tells the receiver where this ends the stream.
+fn say<O: Sink>(
+    alloc: Global,
+    recv: &mut Recv,
+    wire: &mut Wire<O>,
+    waiting: Waiting,
+) -> Result<(), WireFaultOut>
+    requires { readiness wire.old.condition waiting.stream wire.old.line ≡ Ready.Free }
+    ensures speaks { Speaks O.seen waiting.stream waiting.said result wire.old wire.new }
+    ensures told { OnOk result (recv.new ≡ told_of waiting.stream waiting.said recv.old) }
+{
+    let Waiting { stream, said } = waiting;
+    let last = ends(&said);
+    match speak(alloc, wire, stream, said) {
+        Ok(()) => {
+            if last {
+                recv.ended(stream);
+            }
+            Ok(())
+        }
+        Err(fault) => Err(fault),
+    }
+}
+
+/// Says what waits on streams that are free. What waits on others still waits.
+pub(crate) fn say_all<O: Sink>(
+    alloc: Global,
+    recv: &mut Recv,
+    wire: &mut Wire<O>,
+    waiting: Waitings,
+) -> Result<Waitings, How>
+    ensures says { (start : Start) (output : Output) (octets : List ℕ) (heard : List Heard)
+        (owed : List Asking) (port : PortView) (readings : List ℕ)
+        → Stands O.seen start output octets
+        (place_of recv.old wire.old heard waiting owed port readings)
+        → MatchResult result
+        (λ rest. Stands O.seen start output octets
+        (place_of recv.new wire.new heard rest owed port readings))
+        (λ how. HasEnded O.seen how start octets output wire.new port readings) }
+    ensures behind { (output : Output) → IsWriting O.seen output wire.old
+        → IfOk result (λ rest. AreBehind wire.new.inputs rest) }
+    ensures own { IfErr result (λ how. IsOwn how) }
+{
+    let mut still = Waitings::empty(alloc);
+    for w in waiting.into_vec() {
+        match wire.readiness(w.stream) {
+            Ready::Gone => {}
+            Ready::Busy => match still.push(w) {
+                Ok(()) => {}
+                Err(NoMemory) => return Err(How::NoMemory),
+            },
+            Ready::Free => match say(alloc, recv, wire, w) {
+                Ok(()) => {}
+                Err(fault) => return Err(how_of(fault)),
+            },
+        }
+    }
+    Ok(still)
+}

@@ -1,0 +1,278 @@
+//! A connection from its preface to its end.
+ghost use Rattle.std.specs.Prelude.{◌≡◌, ℕ, List, [], ◌∷◌, ◌++◌, MatchResult, IfErr, OnOk, Ok};
+ghost use Rattle.edge_traits.specs.Input.{Input as SourceSeen};
+ghost use Rattle.base_kinds.specs.Schema.{SchemaNode};
+ghost use Rattle.h2_calls.specs.Calls.{Moment};
+ghost use Rattle.h2_recv.specs.Receiving.{new_reader};
+ghost use Rattle.h2_send.specs.Inputs.{Input};
+ghost use Rattle.session_calls.specs.declared.request.Request.{Request as Asking};
+ghost use Rattle.session_calls.specs.Requests.{requests};
+ghost use Rattle.book_port.specs.Ports.{PortView};
+ghost use Rattle.session_core.specs.declared.waiting.Waiting.{Waiting as Unsaid};
+ghost use Rattle.session_core.specs.Runs.{Outside, SessionRun, outside_of, start_of};
+ghost use Rattle.session_core.specs.Serving.{IsServed};
+ghost use Rattle.session_core.specs.inner.Ends.{IsOwn};
+ghost use Rattle.session_core.specs.inner.Places.{HasCome, HasEnded, HasStopped, IsNew, IsServing, Rests, course_of, place_of};
+
+use crate::answering::{answer_of, put_reply};
+use crate::how::{How, how_of};
+use crate::incoming::{Incoming, Next};
+use crate::saying::say_all;
+use crate::waiting::Waitings;
+use base_lists::NoMemory;
+use book_port::BookPort;
+use edge_traits::{Sink, Source};
+use h2_events::RecvEvent;
+use h2_recv::Recv;
+use h2_send::Wire;
+use rpc_desk::Desk;
+use session_calls::{CallTable, Request};
+use std::alloc::Global;
+use time_traits::Clock;
+
+/// What a connection leaves: how it ended, and what it was handed.
+#[derive(Drop)]
+pub struct SessionEnd<I, O, P, C> {
+    pub how: How,
+    pub input: I,
+    pub output: O,
+    pub book: P,
+    pub clock: C,
+}
+
+/// The calls of a connection: those that are open, and where they are answered.
+#[derive(Drop)]
+struct Calls<P, C> {
+    table: CallTable,
+    book: P,
+    clock: C,
+}
+
+/// Answers a request: what is to be said waits behind the rest.
+fn answer<P: BookPort, C: Clock>(
+    alloc: Global,
+    desk: &Desk,
+    book: &mut P,
+    clock: &mut C,
+    mut waiting: Waitings,
+    request: Request,
+) -> Result<Waitings, NoMemory>
+    requires { (P.port book.old).opened.schema ≡ desk.now }
+    ensures opened { (P.port book.new).opened ≡ (P.port book.old).opened }
+    ensures answers { (before : Outside) (moments : List Moment) (inputs : List Input)
+        → IsServed (start_of desk.now before)
+        (course_of moments inputs waiting (request ∷ []) (P.port book.old) (C.readings clock.old))
+        → MatchResult result
+        (λ rest. IsServed (start_of desk.now before)
+        (course_of moments inputs rest [] (P.port book.new) (C.readings clock.new)))
+        (λ _. (rest : List Unsaid) × IsServed (start_of desk.now before)
+        (course_of moments inputs rest [] (P.port book.new) (C.readings clock.new))) }
+{
+    let Request { stream, asked } = request;
+    let reply = answer_of(alloc, desk, book, clock, asked);
+    match put_reply(&mut waiting, stream, reply) {
+        Ok(()) => Ok(waiting),
+        Err(NoMemory) => Err(NoMemory),
+    }
+}
+
+/// Hears an event, and answers the request that is whole with it.
+fn hear<P: BookPort, C: Clock>(
+    alloc: Global,
+    desk: &Desk,
+    calls: &mut Calls<P, C>,
+    waiting: Waitings,
+    event: &RecvEvent,
+) -> Result<Waitings, NoMemory>
+    requires { (P.port calls.old.book).opened.schema ≡ desk.now }
+    ensures opened { (P.port calls.new.book).opened ≡ (P.port calls.old.book).opened }
+    ensures hears { (before : Outside) (moments : List Moment) (inputs : List Input)
+        → ((owed : List Asking)
+        → requests (calls.old.table ++ event.now ∷ []) ≡ requests calls.old.table ++ owed
+        → IsServed (start_of desk.now before)
+        (course_of moments inputs waiting owed
+        (P.port calls.old.book) (C.readings calls.old.clock)))
+        → MatchResult result
+        (λ rest. IsServed (start_of desk.now before)
+        (course_of moments inputs rest [] (P.port calls.new.book) (C.readings calls.new.clock)))
+        (λ _. (rest : List Unsaid) × (owed : List Asking) × IsServed (start_of desk.now before)
+        (course_of moments inputs rest owed (P.port calls.new.book) (C.readings calls.new.clock))) }
+    ensures heard { OnOk result (calls.new.table ≡ calls.old.table ++ event.now ∷ []) }
+{
+    match calls.table.hear(alloc, event) {
+        Ok(None) => Ok(waiting),
+        Ok(Some(request)) => {
+            answer(
+                alloc,
+                desk,
+                &mut calls.book,
+                &mut calls.clock,
+                waiting,
+                request,
+            )
+        }
+        Err(NoMemory) => Err(NoMemory),
+    }
+}
+
+/// Serves an event: it is acted on, what is asked with it is answered, and then all is said that can be.
+fn serve_event<O: Sink, P: BookPort, C: Clock>(
+    alloc: Global,
+    recv: &mut Recv,
+    wire: &mut Wire<O>,
+    desk: &Desk,
+    calls: &mut Calls<P, C>,
+    waiting: Waitings,
+    event: &RecvEvent,
+) -> Result<Waitings, How>
+    requires { (P.port calls.old.book).opened.schema ≡ desk.now }
+    ensures opened { (P.port calls.new.book).opened ≡ (P.port calls.old.book).opened }
+    ensures serves { (before : Outside) (octets : List ℕ)
+        → HasCome O.seen (start_of desk.now before) before.output octets event.now
+        (place_of recv.old wire.old calls.old.table waiting []
+        (P.port calls.old.book) (C.readings calls.old.clock))
+        → MatchResult result
+        (λ rest. Rests O.seen (start_of desk.now before) before.output octets
+        (place_of recv.new wire.new calls.new.table rest []
+        (P.port calls.new.book) (C.readings calls.new.clock)))
+        (λ how. HasEnded O.seen how (start_of desk.now before) octets before.output wire.new
+        (P.port calls.new.book) (C.readings calls.new.clock)) }
+    ensures own { IfErr result (λ how. IsOwn how) }
+{
+    match wire.act(alloc, event) {
+        Ok(()) => {}
+        Err(fault) => return Err(how_of(fault)),
+    }
+    match hear(alloc, desk, calls, waiting, event) {
+        Ok(waiting) => say_all(alloc, recv, wire, waiting),
+        Err(NoMemory) => Err(How::NoMemory),
+    }
+}
+
+/// Serves frame by frame, to the end.
+fn serve_frames<I: Source, O: Sink, P: BookPort, C: Clock>(
+    alloc: Global,
+    incoming: &mut Incoming<I>,
+    wire: &mut Wire<O>,
+    desk: &Desk,
+    calls: &mut Calls<P, C>,
+) -> How
+    requires { (P.port calls.old.book).opened.schema ≡ desk.now }
+    ensures { (before : Outside)
+        → IsServing O.seen desk.now before (I.seen incoming.old.source) incoming.old.count
+        (place_of incoming.old.recv wire.old calls.old.table [] []
+        (P.port calls.old.book) (C.readings calls.old.clock))
+        → HasStopped O.seen result desk.now before (I.seen incoming.new.source) wire.new
+        (P.port calls.new.book) (C.readings calls.new.clock) }
+{
+    let mut waiting = Waitings::empty(alloc);
+    'frames: loop {
+        match incoming.next(alloc) {
+            Next::Ends(how) => return how,
+            Next::Nothing => {}
+            Next::Event(event) => {
+                match serve_event(
+                    alloc,
+                    &mut incoming.recv,
+                    wire,
+                    desk,
+                    calls,
+                    waiting,
+                    &event,
+                ) {
+                    Ok(still) => waiting = still,
+                    Err(how) => return how,
+                }
+            }
+        }
+    }
+}
+
+/// Ends the sending half, with a GOAWAY for a connection error of the peer.
+fn finish<O: Sink>(wire: &mut Wire<O>, how: How) -> How
+    ensures { (schema : List SchemaNode) (before : Outside) (source : SourceSeen) (port : PortView)
+        (readings : List ℕ)
+        → HasStopped O.seen how schema before source wire.old port readings
+        → SessionRun schema before result (outside_of source (O.seen wire.new.sink) port readings) }
+{
+    match how {
+        How::Protocol(code) => match wire.finish(code) {
+            Ok(()) => How::Protocol(code),
+            Err(fault) => how_of(fault),
+        },
+        other => other,
+    }
+}
+
+/// Greets, serves to the end, and ends the sending half.
+fn serve<I: Source, O: Sink, P: BookPort, C: Clock>(
+    alloc: Global,
+    incoming: &mut Incoming<I>,
+    wire: &mut Wire<O>,
+    desk: &Desk,
+    calls: &mut Calls<P, C>,
+) -> How
+    requires { (P.port calls.old.book).opened.schema ≡ desk.now }
+    ensures { incoming.old.recv ≡ Ok new_reader → incoming.old.count ≡ 0 → IsNew wire.old
+        → calls.old.table ≡ []
+        → SessionRun desk.now
+        (outside_of (I.seen incoming.old.source) (O.seen wire.old.sink)
+        (P.port calls.old.book) (C.readings calls.old.clock))
+        result
+        (outside_of (I.seen incoming.new.source) (O.seen wire.new.sink)
+        (P.port calls.new.book) (C.readings calls.new.clock)) }
+{
+    match wire.greet() {
+        Ok(()) => {}
+        Err(fault) => return how_of(fault),
+    }
+    let how = serve_frames(alloc, incoming, wire, desk, calls);
+    finish(wire, how)
+}
+
+/// Serves a connection to its end, and hands back what it was handed.
+///
+/// The octets of the source are a connection of a client (RFC 9113), however its reads cut them. The message of a call is answered
+/// by the desk at the port, in the order in which the calls are whole, and each frame is served before the next one is looked
+/// at. It takes one reading of the clock for each message that the desk answers. The book of the port has the desk's schema.
+pub fn serve_alone<I: Source, O: Sink, P: BookPort, C: Clock>(
+    alloc: Global,
+    input: I,
+    output: O,
+    book: P,
+    desk: &Desk,
+    clock: C,
+) -> SessionEnd<I, O, P, C>
+    requires { (P.port book).opened.schema ≡ desk.now }
+    ensures { SessionRun desk.now
+        (outside_of (I.seen input) (O.seen output) (P.port book) (C.readings clock))
+        result.how
+        (outside_of (I.seen result.input) (O.seen result.output) (P.port result.book)
+        (C.readings result.clock)) }
+{
+    let mut incoming = Incoming::make(alloc, input);
+    let mut wire = Wire::make(alloc, output);
+    let mut calls = Calls {
+        table: CallTable::make(alloc),
+        book,
+        clock,
+    };
+    let how = serve(alloc, &mut incoming, &mut wire, desk, &mut calls);
+    let Incoming {
+        source,
+        recv: _,
+        count: _,
+    } = incoming;
+    let Calls {
+        table: _,
+        book,
+        clock,
+    } = calls;
+    SessionEnd {
+        how,
+        input: source,
+        output: wire.give(),
+        book,
+        clock,
+    }
+}
