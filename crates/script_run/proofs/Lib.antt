@@ -1,9 +1,14 @@
+pub mod Acting
 pub mod Answering
 pub mod Authors
 pub mod Books
+pub mod Crashes
 pub mod LastFeeds
 pub mod NewBooks
 pub mod Pieces
+pub mod Reopenings
+pub mod Restarting
+pub mod Running
 pub mod Runs
 pub mod ScriptLaws
 pub mod ScriptTexts

@@ -1,5 +1,5 @@
 -- A script's run, line by line.
-use Rattle.std.proofs.Common.{◌≡◌, ℕ, ◌+◌, ◌<◌, ◌≤◌, List, [], ◌∷◌, ◌++◌, Bool, true, false, length, take, codes, refl, sym, ap, ◌∙◌, subst, inl, inr, ◌⊎◌, arith, append_assoc, length-append, IsTrue, if◌then◌else◌}
+use Rattle.std.proofs.Common.{◌≡◌, Some, None, ℕ, ◌+◌, ◌<◌, ◌≤◌, List, [], ◌∷◌, ◌++◌, Bool, true, false, length, take, codes, refl, sym, ap, ◌∙◌, subst, inl, inr, ◌⊎◌, arith, append_assoc, length-append, IsTrue, if◌then◌else◌}
 use Rattle.std.proofs.lemmas.Bool.{false≢true}
 use Rattle.std.proofs.lemmas.Bool.Decides.{nat_tests}
 use Rattle.std.proofs.lemmas.List.{append-nil, take-append-le}
@@ -12,8 +12,10 @@ use Rattle.script_text.proofs.Meanings.{one_meaning}
 use Rattle.commit_report.specs.Logs.{log_text}
 use Rattle.base_kinds.specs.Limits.{most_script_octets}
 use Rattle.script_run.specs.ScriptOctets.{is_too_long, to_last_feed, within_limit}
-use Rattle.script_run.specs.ScriptStates.{ScriptState, fresh, is_supported, state_after}
-use Rattle.script_run.specs.AnswerLines.{line_text}
+use Rattle.script_run.specs.ScriptStates.{ScriptState, fresh, is_supported}
+use Rattle.script_run.specs.declared.run.ScriptEnd.{ScriptEnd}
+use Rattle.script_run.specs.declared.run.ScriptEnd.TheVariants.{Whole, Refused, DiskFault}
+use Rattle.script_run.specs.inner.Replies.{Acts}
 use Rattle.script_run.specs.inner.ScriptEnds.{text_at_end}
 use Rattle.script_run.specs.Scripts.{refused_line, IsScriptLine, Prints, RunsScript}
 
@@ -29,35 +31,42 @@ none_read octets none other is = none other is.meaning
 
 -- what the lines from this number on print, behind this text, is what all lines print
 abbrev pub Leads : Bool → List (List ℕ) → ScriptState → ℕ → List (List ℕ) → ScriptState → List ℕ → Type 0
-Leads goes_on all start number lines state text = (rest : List ℕ) (whole : Bool) → Prints goes_on number lines state rest whole → Prints goes_on 1 all start (text ++ rest) whole
+Leads goes_on all start number lines state text = (rest : List ℕ) (ending : ScriptEnd) → Prints goes_on number lines state rest ending → Prints goes_on 1 all start (text ++ rest) ending
 
 pub begins : (goes_on : Bool) (all : List (List ℕ)) (start : ScriptState) → Leads goes_on all start 1 all start []
-begins goes_on all start rest whole prints = prints
+begins goes_on all start rest ending prints = prints
 
-pub taken : (goes_on : Bool) (all : List (List ℕ)) (start : ScriptState) (number : ℕ) (lines : List (List ℕ)) (octets : List ℕ) (others : List (List ℕ)) (state next : ScriptState) (text longer : List ℕ) (line : Line) → Leads goes_on all start number lines state text → lines ≡ octets ∷ others → IsScriptLine octets line → next ≡ state_after line state → longer ≡ text ++ line_text line state → Leads goes_on all start (number + 1) others next longer
-taken goes_on all start number lines octets others state next text longer line leads first meaning is grown rest whole prints =
-    let after : Prints goes_on (number + 1) others (state_after line state) rest whole = subst (λ (s : ScriptState). Prints goes_on (number + 1) others s rest whole) is prints in
-    let prints_so : Prints goes_on number (octets ∷ others) state (line_text line state ++ rest) whole = inl (record { line = line; meaning = meaning; rest = rest; whole = refl; goes_on = after }) in
-    let run : Prints goes_on 1 all start (text ++ (line_text line state ++ rest)) whole = leads (line_text line state ++ rest) whole (subst (λ ls. Prints goes_on number ls state (line_text line state ++ rest) whole) (sym first) prints_so) in
-    subst (λ t. Prints goes_on 1 all start t whole) (sym (append_assoc text (line_text line state) rest) ∙ ap (λ t. t ++ rest) (sym grown)) run
+pub taken : (goes_on : Bool) (all : List (List ℕ)) (start : ScriptState) (number : ℕ) (lines : List (List ℕ)) (octets : List ℕ) (others : List (List ℕ)) (state next : ScriptState) (text longer : List ℕ) (line : Line) → Leads goes_on all start number lines state text → lines ≡ octets ∷ others → IsScriptLine octets line → Acts line state next text longer true → Leads goes_on all start (number + 1) others next longer
+taken goes_on all start number lines octets others state next text longer line leads first meaning acts rest ending prints =
+    let prints_so : Prints goes_on number (octets ∷ others) state (acts.printed ++ rest) ending = inl (record { line = line; meaning = meaning; printed = acts.printed; next = Some next; takes = acts.takes; rest = rest; whole = refl; goes_on = prints }) in
+    let run : Prints goes_on 1 all start (text ++ (acts.printed ++ rest)) ending = leads (acts.printed ++ rest) ending (subst (λ ls. Prints goes_on number ls state (acts.printed ++ rest) ending) (sym first) prints_so) in
+    subst (λ t. Prints goes_on 1 all start t ending) (sym (append_assoc text acts.printed rest) ∙ ap (λ t. t ++ rest) (sym acts.added)) run
 
-pub refused : (goes_on : Bool) (all : List (List ℕ)) (start : ScriptState) (number : ℕ) (lines : List (List ℕ)) (octets : List ℕ) (others : List (List ℕ)) (state : ScriptState) (text longer : List ℕ) → Leads goes_on all start number lines state text → lines ≡ octets ∷ others → ((line : Line) → IsScriptLine octets line → ⊥) → longer ≡ text ++ refused_line number → Prints goes_on 1 all start (longer ++ []) false
+-- no book could be opened behind a stop
+pub stuck : (goes_on : Bool) (all : List (List ℕ)) (start : ScriptState) (number : ℕ) (lines : List (List ℕ)) (octets : List ℕ) (others : List (List ℕ)) (state next : ScriptState) (text longer last : List ℕ) (line : Line) → Leads goes_on all start number lines state text → lines ≡ octets ∷ others → IsScriptLine octets line → Acts line state next text longer false → last ≡ longer ++ codes "disk fault\n" → Prints goes_on 1 all start (last ++ []) DiskFault
+stuck goes_on all start number lines octets others state next text longer last line leads first meaning acts grown =
+    let rest = codes "disk fault\n" in
+    let prints_so : Prints goes_on number (octets ∷ others) state (acts.printed ++ rest) DiskFault = inl (record { line = line; meaning = meaning; printed = acts.printed; next = None; takes = acts.takes; rest = rest; whole = refl; goes_on = (refl, refl) }) in
+    let run : Prints goes_on 1 all start (text ++ (acts.printed ++ rest)) DiskFault = leads (acts.printed ++ rest) DiskFault (subst (λ ls. Prints goes_on number ls state (acts.printed ++ rest) DiskFault) (sym first) prints_so) in
+    subst (λ t. Prints goes_on 1 all start t DiskFault) (sym (append_assoc text acts.printed rest) ∙ ap (λ t. t ++ rest) (sym acts.added) ∙ sym grown ∙ sym (append-nil last)) run
+
+pub refused : (goes_on : Bool) (all : List (List ℕ)) (start : ScriptState) (number : ℕ) (lines : List (List ℕ)) (octets : List ℕ) (others : List (List ℕ)) (state : ScriptState) (text longer : List ℕ) → Leads goes_on all start number lines state text → lines ≡ octets ∷ others → ((line : Line) → IsScriptLine octets line → ⊥) → longer ≡ text ++ refused_line number → Prints goes_on 1 all start (longer ++ []) Refused
 refused goes_on all start number lines octets others state text longer leads first none_fits grown =
-    let prints_so : Prints goes_on number (octets ∷ others) state (refused_line number) false = inr (none_fits, refl, refl) in
-    subst (λ t. Prints goes_on 1 all start t false) (sym grown ∙ sym (append-nil longer)) (leads (refused_line number) false (subst (λ ls. Prints goes_on number ls state (refused_line number) false) (sym first) prints_so))
+    let prints_so : Prints goes_on number (octets ∷ others) state (refused_line number) Refused = inr (none_fits, refl, refl) in
+    subst (λ t. Prints goes_on 1 all start t Refused) (sym grown ∙ sym (append-nil longer)) (leads (refused_line number) Refused (subst (λ ls. Prints goes_on number ls state (refused_line number) Refused) (sym first) prints_so))
 
-pub ended : (goes_on : Bool) (all : List (List ℕ)) (start : ScriptState) (number : ℕ) (lines : List (List ℕ)) (state : ScriptState) (text : List ℕ) → goes_on ≡ false → Leads goes_on all start number lines state text → lines ≡ [] → Prints goes_on 1 all start (text ++ text_at_end true state.history) true
+pub ended : (goes_on : Bool) (all : List (List ℕ)) (start : ScriptState) (number : ℕ) (lines : List (List ℕ)) (state : ScriptState) (text : List ℕ) → goes_on ≡ false → Leads goes_on all start number lines state text → lines ≡ [] → Prints goes_on 1 all start (text ++ text_at_end Whole state.history) Whole
 ended goes_on all start number lines state text ends leads none =
     let log = codes "log\n" ++ log_text state.history in
-    let prints_so : Prints false number [] state log true = (refl, refl) in
-    let here : Prints goes_on number [] state log true = subst (λ b. Prints b number [] state log true) (sym ends) prints_so in
-    leads log true (subst (λ ls. Prints goes_on number ls state log true) (sym none) here)
+    let prints_so : Prints false number [] state log Whole = (refl, refl) in
+    let here : Prints goes_on number [] state log Whole = subst (λ b. Prints b number [] state log Whole) (sym ends) prints_so in
+    leads log Whole (subst (λ ls. Prints goes_on number ls state log Whole) (sym none) here)
 
-pub cut_off : (goes_on : Bool) (all : List (List ℕ)) (start : ScriptState) (number : ℕ) (lines : List (List ℕ)) (state : ScriptState) (text longer : List ℕ) → goes_on ≡ true → Leads goes_on all start number lines state text → lines ≡ [] → longer ≡ text ++ refused_line number → Prints goes_on 1 all start (longer ++ []) false
+pub cut_off : (goes_on : Bool) (all : List (List ℕ)) (start : ScriptState) (number : ℕ) (lines : List (List ℕ)) (state : ScriptState) (text longer : List ℕ) → goes_on ≡ true → Leads goes_on all start number lines state text → lines ≡ [] → longer ≡ text ++ refused_line number → Prints goes_on 1 all start (longer ++ []) Refused
 cut_off goes_on all start number lines state text longer more leads none grown =
-    let prints_so : Prints true number [] state (refused_line number) false = (refl, refl) in
-    let here : Prints goes_on number [] state (refused_line number) false = subst (λ b. Prints b number [] state (refused_line number) false) (sym more) prints_so in
-    subst (λ t. Prints goes_on 1 all start t false) (sym grown ∙ sym (append-nil longer)) (leads (refused_line number) false (subst (λ ls. Prints goes_on number ls state (refused_line number) false) (sym none) here))
+    let prints_so : Prints true number [] state (refused_line number) Refused = (refl, refl) in
+    let here : Prints goes_on number [] state (refused_line number) Refused = subst (λ b. Prints b number [] state (refused_line number) Refused) (sym more) prints_so in
+    subst (λ t. Prints goes_on 1 all start t Refused) (sym grown ∙ sym (append-nil longer)) (leads (refused_line number) Refused (subst (λ ls. Prints goes_on number ls state (refused_line number) Refused) (sym none) here))
 
 -- ---- a script past its limit: its front decides
 
@@ -68,14 +77,14 @@ front_of : (script : List ℕ) → is_too_long script ≡ true → within_limit 
 front_of script long = ap (λ b. if b then to_last_feed (take most_script_octets script) else script) long
 
 -- what the octets print that were taken, to the end or past the limit, the whole script prints
-pub of_whole : (schema : List SchemaNode) (limits : Limits) (octets more : List ℕ) (text : List ℕ) (whole : Bool) → (more ≡ []) ⊎ (length octets ≡ most_script_octets + 1) → RunsScript schema limits octets text whole → RunsScript schema limits (octets ++ more) text whole
+pub of_whole : (schema : List SchemaNode) (limits : Limits) (octets more : List ℕ) (text : List ℕ) (ending : ScriptEnd) → (more ≡ []) ⊎ (length octets ≡ most_script_octets + 1) → RunsScript schema limits octets text ending → RunsScript schema limits (octets ++ more) text ending
 unfolding RunsScript
-of_whole schema limits octets more text whole (inl none) run = subst (λ m. RunsScript schema limits (octets ++ m) text whole) (sym none) (subst (λ o. RunsScript schema limits o text whole) (sym (append-nil octets)) run)
-of_whole schema limits octets more text whole (inr over) run =
+of_whole schema limits octets more text ending (inl none) run = subst (λ m. RunsScript schema limits (octets ++ m) text ending) (sym none) (subst (λ o. RunsScript schema limits o text ending) (sym (append-nil octets)) run)
+of_whole schema limits octets more text ending (inr over) run =
     let long : is_too_long octets ≡ true = long_of octets (omega (arith, over)) in
     let longer : is_too_long (octets ++ more) ≡ true = long_of (octets ++ more) (simp length-append (omega (arith, over))) in
     let within : most_script_octets ≤ length octets = omega (arith, over) in
     let same : take most_script_octets (octets ++ more) ≡ take most_script_octets octets = rw take-append-le in
     let lines : within_limit octets ≡ within_limit (octets ++ more) = front_of octets long ∙ ap to_last_feed (sym same) ∙ sym (front_of (octets ++ more) longer) in
-    subst (λ s. Prints (is_too_long (octets ++ more)) 1 (lines_of s) (fresh schema limits) text whole) lines
-    (subst (λ b. Prints b 1 (lines_of (within_limit octets)) (fresh schema limits) text whole) (long ∙ sym longer) run)
+    subst (λ s. Prints (is_too_long (octets ++ more)) 1 (lines_of s) (fresh schema limits) text ending) lines
+    (subst (λ b. Prints b 1 (lines_of (within_limit octets)) (fresh schema limits) text ending) (long ∙ sym longer) run)

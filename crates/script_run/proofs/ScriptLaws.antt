@@ -31,14 +31,19 @@ use Rattle.script_run.specs.ScriptOctets.{is_too_long, within_limit}
 use Rattle.script_run.specs.ScriptStates.{ScriptState, fresh, rules_in, CountsAuthor, set_event, line_event, arming_with, book_in, book_behind, state_after}
 use Rattle.book_core.specs.Calls.{expiry_entry}
 use Rattle.script_run.specs.AnswerLines.{event_reply, line_answer, line_text}
-use Rattle.script_run.specs.Scripts.{Ends, Prints, RunsScript}
+use Rattle.std.specs.List.{AllByRecursion}
+use Rattle.script_text.specs.Grammar.{IsLine}
+use Rattle.script_run.specs.Restarts.{Takes}
+use Rattle.script_run.specs.Scripts.{Ends, Follows, IsTaken, Prints, RunsScript}
+use Rattle.script_run.specs.declared.run.ScriptEnd.{ScriptEnd}
 use Rattle.script_run.specs.Turns.{BookState, request_reply, unless_failed}
-use Rattle.script_run.specs.laws.ScriptLaws.{state_behind, with_event, script_events, HaveAuthors, LetsPass, LetPass, IsQuiet, clock_event, IsDone, AreDone, LeavesBy}
+use Rattle.script_run.specs.laws.ScriptLaws.{HasNoStop, HaveNoStops, LetsRun, NeverStops, state_behind, with_event, script_events, HaveAuthors, LetsPass, LetPass, IsQuiet, clock_event, IsDone, AreDone, LeavesBy}
 use Rattle.set_txn.proofs.FitAsks.{resolved_is_fit}
+use Rattle.script_run.proofs.Running.{line_runs, takes_one}
 use Rattle.script_run.proofs.Turns.{book, with_entry, expiry_is}
 use Rattle.script_run.proofs.TurnHistories.{Leaves, request_turn, request_leaves, quiet, event_quiet}
 
-event_leaves : (state : ScriptState) (event : Event) → Leaves state.history event.reading (history_after (rules_in state) state.history event) (book_behind (Some event) state)
+pub event_leaves : (state : ScriptState) (event : Event) → Leaves state.history event.reading (history_after (rules_in state) state.history event) (book_behind (Some event) state)
 event_leaves state event = request_leaves (rules_in state) state.history state.doubt state.arming event.reading event.author event.request
 
 -- ---- events that were done
@@ -128,7 +133,7 @@ pub makes_sound_trees : (schema : List SchemaNode) (limits : Limits) (ls : List 
 makes_sound_trees schema limits ls have =
     legal_trees_are_sound schema limits [] (state_behind ls (fresh schema limits)).history (record { tree = no_rows_are_sound schema; before = tt }) (makes_legal_histories schema limits ls have)
 
--- ---- without `fail` lines
+-- ---- without `fail` and `stop` lines
 
 abbrev pub history_behind : Rules → List Entry → Option Event → List Entry
 history_behind rules h None = h
@@ -155,7 +160,7 @@ arming_same (lines.Open author name mode only) arming lets = refl
 arming_same (lines.Turn name) arming lets = refl
 arming_same (lines.Poll name) arming lets = refl
 arming_same (lines.End name) arming lets = refl
-arming_same (lines.Stop calls fill) arming lets = refl
+arming_same (lines.Stop calls fill) arming lets = absurd lets
 arming_same (lines.Fail calls) arming lets = absurd lets
 
 pub stays_quiet : (line : Line) (state : ScriptState) → LetsPass line → IsQuiet state → IsQuiet (state_after line state)
@@ -182,27 +187,44 @@ makes_events (line ∷ ls) state lets is =
 
 -- ---- one text
 
-same_rest : (more : Bool) (number : ℕ) (others : List (List ℕ)) (state : ScriptState) (line line' : Line) (rest rest' : List ℕ) (whole whole' : Bool) → line ≡ line' → ((s : ScriptState) (t t' : List ℕ) → Prints more (number + 1) others s t whole → Prints more (number + 1) others s t' whole' → (t ≡ t') × (whole ≡ whole')) → Prints more (number + 1) others (state_after line state) rest whole → Prints more (number + 1) others (state_after line' state) rest' whole' → (line_text line state ++ rest ≡ line_text line' state ++ rest') × (whole ≡ whole')
-same_rest more number others state line line' rest rest' whole whole' same behind p q =
-    let both = behind (state_after line state) rest rest' p (subst (λ (l : Line). Prints more (number + 1) others (state_after l state) rest' whole') (sym same) q) in
-    (ap (λ r. line_text line state ++ r) both.0 ∙ ap (λ (l : Line). line_text l state ++ rest') same, both.1)
+ends_one : (more : Bool) (number : ℕ) (state : ScriptState) (text text' : List ℕ) (ending ending' : ScriptEnd) → Ends more number state text ending → Ends more number state text' ending' → (text ≡ text') × (ending ≡ ending')
+ends_one true number state text text' ending ending' p q = (p.0 ∙ sym q.0, p.1 ∙ sym q.1)
+ends_one false number state text text' ending ending' p q = (p.0 ∙ sym q.0, p.1 ∙ sym q.1)
 
-ends_one : (more : Bool) (number : ℕ) (state : ScriptState) (text text' : List ℕ) (whole whole' : Bool) → Ends more number state text whole → Ends more number state text' whole' → (text ≡ text') × (whole ≡ whole')
-ends_one true number state text text' whole whole' p q = (p.0 ∙ sym q.0, p.1 ∙ sym q.1)
-ends_one false number state text text' whole whole' p q = (p.0 ∙ sym q.0, p.1 ∙ sym q.1)
+-- what a line prints that doesn't let the disk stop, and that what follows it prints the rest
+record TakenSo (more : Bool) (number : ℕ) (others : List (List ℕ)) (line : Line) (state : ScriptState) (text : List ℕ) (ending : ScriptEnd) : Type 0 where
+  rest : List ℕ
+  whole : text ≡ line_text line state ++ rest
+  goes_on : Prints more (number + 1) others (state_after line state) rest ending
 
-prints_one : (more : Bool) (number : ℕ) (octets : List (List ℕ)) (state : ScriptState) (text text' : List ℕ) (whole whole' : Bool) → Prints more number octets state text whole → Prints more number octets state text' whole' → (text ≡ text') × (whole ≡ whole')
-prints_one more number [] state text text' whole whole' p q = ends_one more number state text text' whole whole' p q
-prints_one more number (first ∷ others) state text text' whole whole' (inl p) (inl q) =
-    let both = same_rest more number others state p.line q.line p.rest q.rest whole whole' (one_meaning first p.line q.line p.meaning.meaning q.meaning.meaning) (λ s t t'. prints_one more (number + 1) others s t t' whole whole') p.goes_on q.goes_on in
-    (p.whole ∙ both.0 ∙ sym q.whole, both.1)
-prints_one more number (first ∷ others) state text text' whole whole' (inl p) (inr q) = absurd (q.0 p.line p.meaning)
-prints_one more number (first ∷ others) state text text' whole whole' (inr p) (inl q) = absurd (p.0 q.line q.meaning)
-prints_one more number (first ∷ others) state text text' whole whole' (inr p) (inr q) = (p.1 ∙ sym q.1, p.2 ∙ sym q.2)
+taken_so : (more : Bool) (number : ℕ) (octets : List ℕ) (others : List (List ℕ)) (state : ScriptState) (text : List ℕ) (ending : ScriptEnd) (line : Line) → IsLine octets line → LetsRun line → NeverStops state.arming → IsTaken octets state text (Follows (λ next rest. Prints more (number + 1) others next rest ending) ending) → TakenSo more number others line state text ending
+taken_so more number octets others state text ending line meaning lets never is =
+    let same : is.line ≡ line = one_meaning octets is.line line is.meaning.meaning meaning in
+    let one = takes_one line state is.printed is.next lets never (subst (λ (l : Line). Takes l state is.printed is.next) same is.takes) in
+    record {
+      rest = is.rest;
+      whole = is.whole ∙ ap (λ t. t ++ is.rest) one.0;
+      goes_on = subst (λ n. Follows (λ next rest. Prints more (number + 1) others next rest ending) ending n is.rest) one.1 is.goes_on;
+    }
 
-pub prints_one_text : (schema : List SchemaNode) (limits : Limits) (script text text' : List ℕ) (whole whole' : Bool) → RunsScript schema limits script text whole → RunsScript schema limits script text' whole' → (text ≡ text') × (whole ≡ whole')
+prints_one : (more : Bool) (number : ℕ) (octets : List (List ℕ)) (state : ScriptState) (text text' : List ℕ) (ending ending' : ScriptEnd) → AllByRecursion HasNoStop octets → NeverStops state.arming → Prints more number octets state text ending → Prints more number octets state text' ending' → (text ≡ text') × (ending ≡ ending')
+prints_one more number [] state text text' ending ending' none never p q = ends_one more number state text text' ending ending' p q
+prints_one more number (first ∷ others) state text text' ending ending' none never (inl p) (inl q) =
+    let lets = none.0 p.line p.meaning in
+    let one = taken_so more number first others state text ending p.line p.meaning.meaning lets never p in
+    let other = taken_so more number first others state text' ending' p.line p.meaning.meaning lets never q in
+    let both = prints_one more (number + 1) others (state_after p.line state) one.rest other.rest ending ending' none.1 (line_runs p.line state lets never) one.goes_on other.goes_on in
+    (one.whole ∙ ap (λ r. line_text p.line state ++ r) both.0 ∙ sym other.whole, both.1)
+prints_one more number (first ∷ others) state text text' ending ending' none never (inl p) (inr q) = absurd (q.0 p.line p.meaning)
+prints_one more number (first ∷ others) state text text' ending ending' none never (inr p) (inl q) = absurd (p.0 q.line q.meaning)
+prints_one more number (first ∷ others) state text text' ending ending' none never (inr p) (inr q) = (p.1 ∙ sym q.1, p.2 ∙ sym q.2)
+
+pub fresh_never_stops : (schema : List SchemaNode) (limits : Limits) → NeverStops (fresh schema limits).arming
+fresh_never_stops schema limits = record { stops = refl; stopped = refl }
+
+pub prints_one_text : (schema : List SchemaNode) (limits : Limits) (script text text' : List ℕ) (ending ending' : ScriptEnd) → HaveNoStops script → RunsScript schema limits script text ending → RunsScript schema limits script text' ending' → (text ≡ text') × (ending ≡ ending')
 unfolding RunsScript
-prints_one_text schema limits script text text' whole whole' p q = prints_one (is_too_long script) 1 (lines_of (within_limit script)) (fresh schema limits) text text' whole whole' p q
+prints_one_text schema limits script text text' ending ending' none p q = prints_one (is_too_long script) 1 (lines_of (within_limit script)) (fresh schema limits) text text' ending ending' none (fresh_never_stops schema limits) p q
 
 -- ---- what an answer says of the history
 
@@ -259,15 +281,15 @@ answers_tell (lines.Fail calls) state = refl
 
 -- ---- what was accepted stays
 
-record GoesOn (h left : List Entry) : Type 0 where
-  later : List Entry
-  whole : left ≡ h ++ later
+pub record GoesOn (h left : List Entry) : Type 0 where
+  pub later : List Entry
+  pub whole : left ≡ h ++ later
 
 entry_goes_on : (h : List Entry) (entry : Option Entry) → GoesOn h (with_entry h entry)
 entry_goes_on h None = record { later = []; whole = sym (append-nil h) }
 entry_goes_on h (Some entry) = record { later = entry ∷ []; whole = refl }
 
-goes_on_then : (a b c : List Entry) → GoesOn a b → GoesOn b c → GoesOn a c
+pub goes_on_then : (a b c : List Entry) → GoesOn a b → GoesOn b c → GoesOn a c
 goes_on_then a b c first second = record { later = first.later ++ second.later; whole = second.whole ∙ ap (λ l. l ++ second.later) first.whole ∙ append_assoc a first.later second.later }
 
 expiry_goes_on : (h : List Entry) (reading : ℕ) → GoesOn h (after_expiry h reading)
@@ -277,7 +299,7 @@ cut_goes_on : (h : List Entry) (reading : ℕ) (left : List Entry) → IsCut h r
 cut_goes_on h reading left (inl same) = record { later = []; whole = same ∙ sym (append-nil h) }
 cut_goes_on h reading left (inr behind) = subst (GoesOn h) (sym behind) (expiry_goes_on h reading)
 
-line_goes_on : (h : List Entry) (reading : ℕ) (answer : Option Answer) (left : List Entry) → LeavesBy h reading answer left → GoesOn h left
+pub line_goes_on : (h : List Entry) (reading : ℕ) (answer : Option Answer) (left : List Entry) → LeavesBy h reading answer left → GoesOn h left
 line_goes_on h reading (Some (OfSet (Ok entry))) left is = goes_on_then h (after_expiry h reading) left (expiry_goes_on h reading) (record { later = entry ∷ []; whole = is })
 line_goes_on h reading (Some (OfSet (Err refusal))) left is = cut_goes_on h reading left is
 line_goes_on h reading (Some (OfGet view)) left is = cut_goes_on h reading left is
@@ -300,7 +322,7 @@ abbrev reading_of : Option Event → ℕ
 reading_of None = 0
 reading_of (Some event) = event.reading
 
-reading_is : (line : Line) (state : ScriptState) (event : Event) → line_event line state ≡ Some event → event.reading ≡ state.reading
+pub reading_is : (line : Line) (state : ScriptState) (event : Event) → line_event line state ≡ Some event → event.reading ≡ state.reading
 reading_is (lines.Set author) state event is = sym (ap reading_of is)
 reading_is (lines.Get author pattern) state event is = sym (ap reading_of is)
 reading_is (lines.Trial author id span) state event is = sym (ap reading_of is)
@@ -332,7 +354,7 @@ event_lets_pass (lines.Open author name mode only) state event is = tt
 event_lets_pass (lines.Turn name) state event is = tt
 event_lets_pass (lines.Poll name) state event is = tt
 event_lets_pass (lines.End name) state event is = tt
-event_lets_pass (lines.Stop calls fill) state event is = tt
+event_lets_pass (lines.Stop calls fill) state event is = cc is
 
 unless_refused : (failed : Bool) (answer : Result Entry Refusal) (refusal : Refusal) → unless_failed failed answer ≡ Err refusal → refusal ≢ DiskFault → (failed ≡ false) × (answer ≡ Err refusal)
 unless_refused true answer refusal is other = absurd (other (cc is))

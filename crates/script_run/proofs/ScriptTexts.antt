@@ -1,5 +1,5 @@
 -- What a script prints whose lines are all taken.
-use Rattle.std.proofs.Common.{◌≡◌, ℕ, ◌+◌, List, [], ◌∷◌, ◌++◌, take, true, false, Option, Some, None, codes, refl, sym, ap, ◌∙◌, subst, inl, append_assoc, if◌then◌else◌}
+use Rattle.std.proofs.Common.{◌≡◌, ℕ, ◌+◌, List, [], ◌∷◌, ◌++◌, take, false, Option, Some, None, codes, refl, sym, ap, ◌∙◌, subst, inl, append_assoc, if◌then◌else◌}
 use Rattle.std.specs.List.{flat_map}
 use Rattle.base_kinds.specs.declared.entry.Entry.{Entry}
 use Rattle.base_kinds.specs.declared.entry.Limits.{Limits}
@@ -16,9 +16,13 @@ use Rattle.script_run.specs.ScriptOctets.{is_too_long, to_last_feed, within_limi
 use Rattle.script_run.specs.ScriptStates.{ScriptState, fresh, rules_in, line_event, state_after}
 use Rattle.script_run.specs.Scripts.{Prints, RunsScript}
 use Rattle.script_run.specs.Turns.{BookState, turn_answer}
-use Rattle.script_run.specs.laws.ScriptLaws.{IsQuiet, LetPass, state_behind, with_event, script_events}
+use Rattle.script_run.specs.declared.run.ScriptEnd.TheVariants.{Whole}
+use Rattle.script_run.specs.laws.ScriptLaws.{HasNoStop, HaveNoStops, IsQuiet, LetPass, LetsRun, LetRun, NeverStops, state_behind, with_event, script_events}
 use Rattle.script_run.specs.laws.ScriptTexts.{AreScriptLines, texts_of, whole_text, PrintsAnswers, AnswersEvents}
-use Rattle.script_run.proofs.ScriptLaws.{history_behind, behind_quiet, stays_quiet, makes_events, prints_one_text}
+use Rattle.std.specs.List.{AllByRecursion}
+use Rattle.script_text.proofs.Meanings.{one_meaning}
+use Rattle.script_run.proofs.Running.{line_runs, takes_so}
+use Rattle.script_run.proofs.ScriptLaws.{history_behind, behind_quiet, stays_quiet, makes_events, fresh_never_stops, prints_one_text}
 use Rattle.script_run.proofs.TurnHistories.{answer_quiet}
 
 abbrev quiet_lines : Rules → List Entry → Option Event → List ℕ
@@ -50,34 +54,48 @@ texts_are_of_events (line ∷ lines) state lets is =
     ∙ one_answer rules state.history event events
 
 -- lines that are all taken print their answers and the log
-prints_all : (number : ℕ) (octets : List (List ℕ)) (lines : List Line) (state : ScriptState) → AreScriptLines octets lines → Prints false number octets state (texts_of lines state ++ (codes "log\n" ++ log_text (state_behind lines state).history)) true
-prints_all number [] [] state are = (refl, refl)
-prints_all number [] (line ∷ lines) state are = absurd are
-prints_all number (first ∷ others) [] state are = absurd are
-prints_all number (first ∷ others) (line ∷ lines) state are =
+prints_all : (number : ℕ) (octets : List (List ℕ)) (lines : List Line) (state : ScriptState) → AreScriptLines octets lines → LetRun lines → NeverStops state.arming → Prints false number octets state (texts_of lines state ++ (codes "log\n" ++ log_text (state_behind lines state).history)) Whole
+prints_all number [] [] state are lets never = (refl, refl)
+prints_all number [] (line ∷ lines) state are lets never = absurd are
+prints_all number (first ∷ others) [] state are lets never = absurd are
+prints_all number (first ∷ others) (line ∷ lines) state are lets never =
     let log = codes "log\n" ++ log_text (state_behind lines (state_after line state)).history in
     inl (record {
       line = line;
       meaning = are.0;
+      printed = line_text line state;
+      next = Some (state_after line state);
+      takes = takes_so line state lets.0 never;
       rest = texts_of lines (state_after line state) ++ log;
       whole = append_assoc (line_text line state) (texts_of lines (state_after line state)) log;
-      goes_on = prints_all (number + 1) others lines (state_after line state) are.1;
+      goes_on = prints_all (number + 1) others lines (state_after line state) are.1 lets.1 (line_runs line state lets.0 never);
     })
+
+-- lines that don't let the disk stop are no others that do
+no_stops : (octets : List (List ℕ)) (lines : List Line) → AreScriptLines octets lines → LetRun lines → AllByRecursion HasNoStop octets
+no_stops [] [] are lets = tt
+no_stops [] (line ∷ lines) are lets = absurd are
+no_stops (first ∷ others) [] are lets = absurd are
+no_stops (first ∷ others) (line ∷ lines) are lets = (
+  λ other is. subst LetsRun (one_meaning first line other are.0.meaning is.meaning) lets.0,
+  no_stops others lines are.1 lets.1,
+)
 
 short_script : (script : List ℕ) → is_too_long script ≡ false → within_limit script ≡ script
 short_script script short = ap (λ b. if b then to_last_feed (take most_script_octets script) else script) short
 
-runs_all : (schema : List SchemaNode) (limits : Limits) (script : List ℕ) (lines : List Line) → is_too_long script ≡ false → AreScriptLines (lines_of script) lines → RunsScript schema limits script (whole_text schema limits lines) true
+runs_all : (schema : List SchemaNode) (limits : Limits) (script : List ℕ) (lines : List Line) → is_too_long script ≡ false → AreScriptLines (lines_of script) lines → LetRun lines → RunsScript schema limits script (whole_text schema limits lines) Whole
 unfolding RunsScript
-runs_all schema limits script lines short are =
+runs_all schema limits script lines short are lets =
     let start = fresh schema limits in
     let text = whole_text schema limits lines in
-    subst (λ b. Prints b 1 (lines_of (within_limit script)) start text true) (sym short)
-    (subst (λ s. Prints false 1 (lines_of s) start text true) (sym (short_script script short)) (prints_all 1 (lines_of script) lines start are))
+    subst (λ b. Prints b 1 (lines_of (within_limit script)) start text Whole) (sym short)
+    (subst (λ s. Prints false 1 (lines_of s) start text Whole) (sym (short_script script short)) (prints_all 1 (lines_of script) lines start are lets (fresh_never_stops schema limits)))
 
 pub prints_answers : PrintsAnswers
-prints_answers schema limits script lines text is_whole short are runs =
-    prints_one_text schema limits script text (whole_text schema limits lines) is_whole true runs (runs_all schema limits script lines short are)
+prints_answers schema limits script lines text ending short are lets runs =
+    let none : HaveNoStops script = subst (λ s. AllByRecursion HasNoStop (lines_of s)) (sym (short_script script short)) (no_stops (lines_of script) lines are lets) in
+    prints_one_text schema limits script text (whole_text schema limits lines) ending Whole none runs (runs_all schema limits script lines short are lets)
 
 pub answers_events : AnswersEvents
 answers_events schema limits lines lets =

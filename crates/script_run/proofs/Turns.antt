@@ -14,7 +14,7 @@ use Rattle.script_run.specs.Turns.{BookState, failed_first, failed_call, settled
 
 -- ---- calls that pass, and the first that fails
 
-none_fails : (calls : ℕ) (arming : Arming) → AllPass calls arming → failed_call calls arming ≡ None
+pub none_fails : (calls : ℕ) (arming : Arming) → AllPass calls arming → failed_call calls arming ≡ None
 none_fails zero arming pass = refl
 none_fails (suc calls) arming pass =
     ap (λ outcome. failed_first outcome (failed_call calls (arming_after arming))) pass.0
@@ -25,7 +25,7 @@ first_fails Passes later other = absurd (other refl)
 first_fails Fails later other = refl
 first_fails (Stops fill) later other = refl
 
-this_fails : (calls call : ℕ) (arming : Arming) → call < calls → AllPass call arming → outcome_of (arming_after_calls call arming) ≢ Passes → failed_call calls arming ≡ Some call
+pub this_fails : (calls call : ℕ) (arming : Arming) → call < calls → AllPass call arming → outcome_of (arming_after_calls call arming) ≢ Passes → failed_call calls arming ≡ Some call
 this_fails zero call arming within pass other = absurd (omega (arith, within))
 this_fails (suc calls) zero arming within pass other = first_fails (outcome_of arming) (failed_call calls (arming_after arming)) other
 this_fails (suc calls) (suc call) arming within pass other =
@@ -62,20 +62,20 @@ pub passed_of : (calls : ℕ) (old new : Arming) (before after : Bool) → Calls
 passed_of calls old new before after calls_passed = record { pass = calls_passed.passed; left = some_inj new (arming_after_calls calls old) calls_passed.arming }
 
 -- the call behind so many fails
-record Failed (call : ℕ) (old new : Arming) : Type 0 where
-  pass : AllPass call old
-  fails : outcome_of (arming_after_calls call old) ≢ Passes
-  left : new ≡ arming_after_calls (suc call) old
+pub record Failed (call : ℕ) (old new : Arming) : Type 0 where
+  pub pass : AllPass call old
+  pub fails : outcome_of (arming_after_calls call old) ≢ Passes
+  pub left : new ≡ arming_after_calls (suc call) old
 
 one_more : (n : ℕ) (arming : Arming) → arming_after (arming_after_calls n arming) ≡ arming_after_calls (suc n) arming
 one_more zero arming = refl
 one_more (suc n) arming = one_more n (arming_after arming)
 
-not_both : (b : Bool) → b ≡ true → b ≡ false → ⊥
+pub not_both : (b : Bool) → b ≡ true → b ≡ false → ⊥
 not_both true is not = cc not
 not_both false is not = cc is
 
-failed_of : (call : ℕ) (old new : Arming) (before after : Bool) → after ≡ false → CallsFailed call (fuse old before) (fuse new after) → Failed call old new
+pub failed_of : (call : ℕ) (old new : Arming) (before after : Bool) → after ≡ false → CallsFailed call (fuse old before) (fuse new after) → Failed call old new
 failed_of call old new before after fed failed =
     let at : failed.last.arming ≡ Some (arming_after_calls call old) = failed.passed.arming in
     let cause : outcome_of (arming_after_calls call old) ≡ Passes → after ≡ true = subst (λ (o : Option Arming). IfSome o (λ arming. outcome_of arming ≡ Passes → after ≡ true)) at failed.failed.cause in

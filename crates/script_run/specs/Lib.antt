@@ -1,8 +1,10 @@
 pub mod AnswerLines
 pub mod Requests
+pub mod Restarts
 pub mod ScriptOctets
 pub mod ScriptStates
 pub mod Scripts
+pub mod Stops
 pub mod Turns
 pub mod inner
 pub mod laws

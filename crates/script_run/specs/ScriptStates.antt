@@ -9,7 +9,7 @@ use Rattle.base_kinds.specs.Events.{Set, Get, Event}
 use Rattle.base_kinds.specs.Rules.{rules_of}
 use Rattle.base_kinds.specs.Schema.{SchemaNode}
 use Rattle.base_kinds.specs.Step.{Rules}
-use Rattle.disk_model.specs.Arming.{Arming, unarmed, with_failure}
+use Rattle.disk_model.specs.Arming.{Arming, unarmed, with_failure, with_stop}
 use Rattle.set_txn.specs.Resolution.{resolved}
 use Rattle.script_text.specs.declared.line.Line.{Line}
 use Rattle.script_text.specs.declared.line.Line.TheVariants as lines
@@ -53,7 +53,7 @@ set_event state author action = record {
 }
 
 -- The event that a line is: a Set of the pending request, plain or with an action, or a read of one pattern. The clock's
--- line, those of operations and `fail` are none, and the others aren't taken yet.
+-- line, those of operations, `fail` and `stop` are none, and the others aren't taken yet.
 abbrev pub line_event : Line → ScriptState → Option Event
 line_event (lines.At reading) state = None
 line_event (lines.Add act path value) state = None
@@ -74,7 +74,7 @@ line_event (lines.End name) state = None
 line_event (lines.Stop calls fill) state = None
 line_event (lines.Fail calls) state = None
 
--- the lines that scripts may have: those of Sets and reads, and of a disk that fails
+-- the lines that scripts may have: those of Sets and reads, and of a disk that fails and stops
 abbrev pub is_supported : Line → Bool
 is_supported (lines.At reading) = true
 is_supported (lines.Add act path value) = true
@@ -89,7 +89,7 @@ is_supported (lines.Open author name mode only) = false
 is_supported (lines.Turn name) = false
 is_supported (lines.Poll name) = false
 is_supported (lines.End name) = false
-is_supported (lines.Stop calls fill) = false
+is_supported (lines.Stop calls fill) = true
 is_supported (lines.Fail calls) = true
 
 -- author 0 is the target itself, and neither sets nor reads
@@ -118,9 +118,11 @@ pending_after (lines.Cancel author id) pending = nothing_pending
 pending_after (lines.Extend author id span) pending = nothing_pending
 pending_after _ pending = pending
 
--- `fail` arms the disk to fail in the call after so many, counted once all failures have hit that wait already
+-- `fail` arms the disk to fail in the call after so many, counted once all failures have hit that wait already, and
+-- `stop` to stop in it, and to leave this fill
 abbrev pub arming_with : Line → Arming → Arming
 arming_with (lines.Fail calls) arming = with_failure calls arming
+arming_with (lines.Stop calls fill) arming = with_stop calls fill arming
 arming_with _ arming = arming
 
 -- the book between two lines
@@ -132,6 +134,7 @@ abbrev pub book_behind : Option Event → ScriptState → BookState
 book_behind None state = book_in state
 book_behind (Some event) state = book_after (rules_in state) event (book_in state)
 
+-- The state behind a line's turn. Where the disk has stopped in it, the book is opened again (Restarts.antt).
 unfoldable pub state_after : Line → ScriptState → ScriptState
 state_after line state = let left = book_behind (line_event line state) state in
     record {

@@ -1,3 +1,4 @@
 -- What private functions alone cite.
+pub mod Replies
 pub mod ScriptBooks
 pub mod ScriptEnds

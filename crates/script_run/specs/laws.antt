@@ -1,2 +1,3 @@
+pub mod CrashLaws
 pub mod ScriptLaws
 pub mod ScriptTexts

@@ -6,12 +6,12 @@ ghost use Rattle.base_kinds.specs.Step.{step};
 ghost use Rattle.set_txn.specs.Resolution.{resolved};
 ghost use Rattle.book_core.specs.Views.{history_in};
 ghost use Rattle.book_port.specs.Opened.{rules_in};
-ghost use Rattle.script_run.specs.inner.ScriptBooks.{IsNew, IsLeft, asked_event, asked_turn, left_by, read_event};
+ghost use Rattle.script_run.specs.inner.ScriptBooks.{IsNew, IsLeft, MayStand, asked_event, asked_turn, left_by, read_event};
 ghost use Rattle.script_run.specs.AnswerLines.{entry_stamp};
 ghost use Rattle.script_run.specs.Turns.{unless_failed};
 
 use base_kinds::{Ask, Fill, Limits, MOST_ELEMENTS, NoMemory, Path, Paths, Refusal, SetAsk, View};
-use book_core::{Book, BookOpening};
+use book_core::{Book, BookOpening, doubts_may_stand};
 use commit_journal::Ledger;
 use memory_disks::{FuseDisk, MemDisk, NO_STOP};
 use plain_tree::PlainTree;
@@ -47,7 +47,9 @@ pub fn set(
     author: u32,
     request: SetAsk,
 ) -> Result<Result<u64, Refusal>, NoMemory>
-    requires { 0 < author }
+    requires author { 0 < author }
+    requires may_stand { MayStand book.old }
+    ensures may_stand { MayStand book.new }
     ensures left { OnOk result (IsLeft
         (left_by (asked_event book.old reading author request) book.old) book.old book.new) }
     ensures reply { IfOk result (λ reply.
@@ -72,11 +74,14 @@ fn commit(
 ) -> Result<Result<u64, Refusal>, NoMemory>
     requires author { 0 < author }
     requires fit { IsFit ask }
+    requires may_stand { MayStand book.old }
+    ensures may_stand { MayStand book.new }
     ensures left { OnOk result (IsLeft (asked_turn book.old reading author ask) book.old book.new) }
     ensures reply { IfOk result (λ reply. reply
         ≡ entry_stamp (unless_failed (asked_turn book.old reading author ask).failed
         (step (rules_in book.old.opened) (history_in book.old) reading author ask))) }
 {
+    doubts_may_stand();
     let reply = book.set(alloc, reading, author, ask);
     if book.starved() {
         return Err(NoMemory);
@@ -95,7 +100,9 @@ pub fn get(
     author: u32,
     pattern: Path,
 ) -> Result<Result<View, Refusal>, NoMemory>
-    requires { 0 < author }
+    requires author { 0 < author }
+    requires may_stand { MayStand book.old }
+    ensures may_stand { MayStand book.new }
     ensures left { OnOk result (IsLeft
         (left_by (read_event reading author pattern) book.old) book.old book.new) }
     ensures view { IfOk result (λ view.
@@ -107,6 +114,7 @@ pub fn get(
     }
     let mut patterns = Paths::empty(alloc);
     patterns.push(pattern)?;
+    doubts_may_stand();
     let seen = book.look(alloc, reading, author, &patterns);
     if book.starved() {
         return Err(NoMemory);

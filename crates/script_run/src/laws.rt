@@ -1,5 +1,6 @@
 // Laws of what scripts make and print.
-ghost use Rattle.script_run.specs.laws.ScriptLaws.{MakesEvents, MakesDoneEvents, MakesHistories, MakesLegalHistories, MakesSoundTrees, PrintsOne, AnswersTell, AcceptedStay, RefusedChangesNothing, BadRequestsChangeNothing};
+ghost use Rattle.script_run.specs.laws.ScriptLaws.{LeadToOne, MakesEvents, MakesDoneEvents, MakesHistories, MakesLegalHistories, MakesSoundTrees, PrintsOne, AnswersTell, AcceptedStay, RefusedChangesNothing, BadRequestsChangeNothing};
+ghost use Rattle.script_run.specs.laws.CrashLaws.{AcknowledgedStay, DisksRunOn, DoubtsAreSettled, ShownStay, StopsEndTrials, StopsReopen};
 ghost use Rattle.script_run.specs.laws.ScriptTexts.{PrintsAnswers, AnswersEvents};
 
 /// What a script's lines make of the history, their events make of it, as those of every other front end. Where a line
@@ -7,6 +8,27 @@ ghost use Rattle.script_run.specs.laws.ScriptTexts.{PrintsAnswers, AnswersEvents
 pub fn scripts_are_events()
     ensures all { MakesEvents }
     ensures done { MakesDoneEvents }
+{}
+
+/// Behind a stop the book goes on from the history, or from that with the one attempt, without an open trial or a doubt; and the
+/// disk runs on.
+pub fn stops_leave_the_history()
+    ensures reopened { StopsReopen }
+    ensures no_trial { StopsEndTrials }
+    ensures running { DisksRunOn }
+{}
+
+/// Whatever lines come behind a line, and whatever stops in them: an entry that was answered with `ok` stays, and so does the
+/// history of which a read has shown the state. A doubt is settled by the next turn in which nothing fails.
+pub fn what_was_answered_stays()
+    ensures acknowledged { AcknowledgedStay }
+    ensures shown { ShownStay }
+    ensures settled { DoubtsAreSettled }
+{}
+
+/// Where no line lets the disk stop, the lines lead to the state behind their turns.
+pub fn scripts_run_on()
+    ensures { LeadToOne }
 {}
 
 /// Whatever a script's lines are, the entries that they make are numbered from 1, and their stamps rise from 1 on.

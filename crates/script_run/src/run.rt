@@ -14,11 +14,22 @@ use schema_core::Schema;
 use script_text::{Line, LineFault, next_line, read_line};
 use std::alloc::Global;
 
-/// What a script prints, and whether each of its lines was taken.
+/// How a script ends.
+#[derive(Clone, Copy, Debug, PartialEq, Eq)]
+pub enum ScriptEnd {
+    /// Each of its lines was taken.
+    Whole,
+    /// A line is none of a script.
+    Refused,
+    /// A call of the disk failed in an opening behind a stop.
+    DiskFault,
+}
+
+/// What a script prints, and how it ends.
 #[derive(Drop)]
 pub struct Transcript {
     pub text: Bytes,
-    pub is_whole: bool,
+    pub ending: ScriptEnd,
 }
 
 /// Runs the script's lines in order, up to the first that is none, over a book on a disk in memory, whose journal takes these
@@ -32,38 +43,59 @@ pub fn run_script(
 ) -> Result<Transcript, NoMemory>
     requires { AreInRange limits }
     ensures { IfOk result (λ transcript.
-        RunsScript schema limits script.now transcript.text transcript.is_whole) }
+        RunsScript schema limits script.now transcript.text transcript.ending) }
 {
     let mut state = ScriptState::fresh(alloc, schema, limits)?;
     let mut text = Bytes::empty(alloc);
     let goes_on = is_too_long(script);
-    let is_whole = take_lines(alloc, &mut state, goes_on, within_limit(script), &mut text)?;
-    state.put_end(alloc, is_whole, &mut text)?;
-    Ok(Transcript { text, is_whole })
+    let ending = take_lines(alloc, &mut state, goes_on, within_limit(script), &mut text)?;
+    put_end(alloc, state, ending, &mut text)?;
+    Ok(Transcript { text, ending })
 }
 
-/// Takes the lines of this text, up to the first that is none. Where the script goes on behind it, the next line is refused.
-/// The answer is whether each line was taken.
+/// Adds the log of the history, where each line was taken.
+fn put_end(
+    alloc: Global,
+    state: ScriptState,
+    ending: ScriptEnd,
+    out: &mut Bytes,
+) -> Result<(), NoMemory>
+    ensures { OnOk result (out.new ≡ out.old ++ text_at_end ending state.history) }
+{
+    match ending {
+        ScriptEnd::Whole => state.put_log(alloc, out),
+        ScriptEnd::Refused => Ok(()),
+        ScriptEnd::DiskFault => Ok(()),
+    }
+}
+
+/// Takes the lines of this text, up to the first that is none, or behind which no book could be opened. Where the script goes on
+/// behind it, the next line is refused.
 fn take_lines(
     alloc: Global,
     state: &mut ScriptState,
     goes_on: bool,
     script: &[u8],
     text: &mut Bytes,
-) -> Result<bool, NoMemory>
+) -> Result<ScriptEnd, NoMemory>
     requires short { length script.now ≤ most_script_octets }
     requires empty { text.old ≡ [] }
-    ensures { IfOk result (λ is_whole. Prints goes_on 1 (lines_of script.now) state.old
-        (text.new ++ text_at_end is_whole state.new.history) is_whole) }
+    ensures { IfOk result (λ ending. Prints goes_on 1 (lines_of script.now) state.old
+        (text.new ++ text_at_end ending state.new.history) ending) }
 {
     let mut number = 1u64;
     let mut rest = script;
     'lines: while let Some((octets, others)) = next_line(rest) {
         match script_line(alloc, octets)? {
-            Some(line) => state.act(alloc, line, text)?,
+            Some(line) => {
+                if !state.act(alloc, line, text)? {
+                    text.extend_from_slice(b"disk fault\n")?;
+                    return Ok(ScriptEnd::DiskFault);
+                }
+            }
             None => {
                 put_refused_line(alloc, number, text)?;
-                return Ok(false);
+                return Ok(ScriptEnd::Refused);
             }
         }
         number += 1;
@@ -71,9 +103,9 @@ fn take_lines(
     }
     if goes_on {
         put_refused_line(alloc, number, text)?;
-        return Ok(false);
+        return Ok(ScriptEnd::Refused);
     }
-    Ok(true)
+    Ok(ScriptEnd::Whole)
 }
 
 /// The line that the octets are, where scripts may have it.
@@ -108,13 +140,10 @@ fn is_supported(line: &Line) -> bool
         | Line::Confirm(_, _)
         | Line::Cancel(_, _)
         | Line::Extend(_, _, _)
+        | Line::Stop(_, _)
         | Line::Fail(_) => true,
-        Line::Sub(_)
-        | Line::Open(_, _, _, _)
-        | Line::Turn(_)
-        | Line::Poll(_)
-        | Line::End(_)
-        | Line::Stop(_, _) => false,
+        Line::Sub(_) | Line::Open(_, _, _, _) | Line::Turn(_) | Line::Poll(_) | Line::End(_) =>
+            false,
     }
 }
 

@@ -13,22 +13,54 @@ use Rattle.base_kinds.specs.Legal.{IsLegal}
 use Rattle.base_kinds.specs.Rules.{rules_of}
 use Rattle.base_kinds.specs.Schema.{SchemaNode}
 use Rattle.base_kinds.specs.Step.{after_expiry}
-use Rattle.disk_model.specs.Arming.{unarmed}
+use Rattle.disk_model.specs.Arming.{Arming, unarmed}
 use Rattle.script_text.specs.declared.line.Line.{Line}
 use Rattle.script_text.specs.declared.line.Line.TheVariants as lines
 use Rattle.script_run.specs.AnswerLines.{line_answer}
 use Rattle.script_run.specs.ScriptStates.{ScriptState, fresh, rules_in, CountsAuthor, line_event, book_behind, state_after}
-use Rattle.script_run.specs.Scripts.{RunsScript}
+use Rattle.script_text.specs.Lines.{lines_of}
+use Rattle.script_run.specs.Restarts.{Takes}
+use Rattle.script_run.specs.ScriptOctets.{within_limit}
+use Rattle.script_run.specs.Scripts.{IsScriptLine, RunsScript}
+use Rattle.script_run.specs.declared.run.ScriptEnd.{ScriptEnd}
 
--- the state behind these lines
+-- the state behind these lines, where the disk stops in none of them
 abbrev pub state_behind : List Line → ScriptState → ScriptState
 state_behind [] state = state
 state_behind (line ∷ lines) state = state_behind lines (state_after line state)
 
--- ---- without `fail` lines
+-- the lines are taken, and lead to this state
+abbrev pub LeadTo : List Line → ScriptState → ScriptState → Type 0
+LeadTo [] state left = left ≡ state
+LeadTo (line ∷ lines) state left =
+    (printed : List ℕ) × (next : ScriptState) × Takes line state printed (Some next)
+    × LeadTo lines next left
+
+-- ---- without `stop` lines
+
+abbrev pub LetsRun : Line → Type 0
+LetsRun (lines.Stop calls fill) = ⊥
+LetsRun _ = Unit {0}
+
+abbrev pub LetRun : List Line → Type 0
+LetRun = AllByRecursion LetsRun
+
+-- the disk hasn't stopped, and isn't to stop
+pub record NeverStops (arming : Arming) : Type 0 where
+  pub stops : arming.stops ≡ []
+  pub stopped : arming.stopped ≡ false
+
+-- where no line lets the disk stop, that state is the one behind the turns of the lines
+abbrev pub LeadToOne : Type 0
+LeadToOne =
+    (lines : List Line) (state left : ScriptState) → LetRun lines → NeverStops state.arming →
+    LeadTo lines state left → left ≡ state_behind lines state
+
+-- ---- without `fail` and `stop` lines
 
 abbrev pub LetsPass : Line → Type 0
 LetsPass (lines.Fail calls) = ⊥
+LetsPass (lines.Stop calls fill) = ⊥
 LetsPass _ = Unit {0}
 
 abbrev pub LetPass : List Line → Type 0
@@ -105,12 +137,20 @@ MakesSoundTrees =
 
 -- ---- one text
 
--- under a schema and limits a script prints one text
+-- the octets are no line that lets the disk stop
+abbrev pub HasNoStop : List ℕ → Type 0
+HasNoStop octets = (line : Line) → IsScriptLine octets line → LetsRun line
+
+abbrev pub HaveNoStops : List ℕ → Type 0
+HaveNoStops script = AllByRecursion HasNoStop (lines_of (within_limit script))
+
+-- Under a schema and limits a script prints one text, where no line lets the disk stop: what a stop leaves may be one of two
+-- histories.
 abbrev pub PrintsOne : Type 0
 PrintsOne =
-    (schema : List SchemaNode) (limits : Limits) (script text other : List ℕ) (is_whole is_other : Bool) →
-    RunsScript schema limits script text is_whole → RunsScript schema limits script other is_other →
-    (text ≡ other) × (is_whole ≡ is_other)
+    (schema : List SchemaNode) (limits : Limits) (script text other : List ℕ) (ending another : ScriptEnd) →
+    HaveNoStops script → RunsScript schema limits script text ending →
+    RunsScript schema limits script other another → (text ≡ other) × (ending ≡ another)
 
 -- ---- what an answer says of the history
 

@@ -1,5 +1,5 @@
 -- What a script prints that has no line but those that scripts may have.
-use Rattle.std.specs.Prelude.{◌≡◌, ℕ, List, [], ◌∷◌, ◌++◌, Bool, true, false, codes, ⊤}
+use Rattle.std.specs.Prelude.{◌≡◌, ℕ, List, [], ◌∷◌, ◌++◌, false, codes, ⊤}
 use Rattle.std.specs.List.{flat_map}
 use Rattle.base_kinds.specs.declared.entry.Limits.{Limits}
 use Rattle.base_kinds.specs.Events.{Event, event_answers, history_after_all}
@@ -12,7 +12,9 @@ use Rattle.script_run.specs.AnswerLines.{answer_lines, line_text}
 use Rattle.script_run.specs.ScriptOctets.{is_too_long}
 use Rattle.script_run.specs.ScriptStates.{ScriptState, fresh, state_after}
 use Rattle.script_run.specs.Scripts.{IsScriptLine, RunsScript}
-use Rattle.script_run.specs.laws.ScriptLaws.{LetPass, script_events, state_behind}
+use Rattle.script_run.specs.declared.run.ScriptEnd.{ScriptEnd}
+use Rattle.script_run.specs.declared.run.ScriptEnd.TheVariants.{Whole}
+use Rattle.script_run.specs.laws.ScriptLaws.{LetPass, LetRun, script_events, state_behind}
 
 -- these octets are these lines, one by one
 abbrev pub AreScriptLines : List (List ℕ) → List Line → Type 0
@@ -32,14 +34,14 @@ abbrev pub whole_text : List SchemaNode → Limits → List Line → List ℕ
 whole_text schema limits lines = let start = fresh schema limits in
     texts_of lines start ++ (codes "log\n" ++ log_text (state_behind lines start).history)
 
--- a script within the limit of its octets whose lines are these prints that, and it is whole
+-- a script within the limit of its octets whose lines are these, none of which lets the disk stop, prints that, and it is whole
 abbrev pub PrintsAnswers : Type 0
 PrintsAnswers =
     (schema : List SchemaNode) (limits : Limits) (script : List ℕ) (lines : List Line)
-    (text : List ℕ) (is_whole : Bool) →
-    is_too_long script ≡ false → AreScriptLines (lines_of script) lines →
-    RunsScript schema limits script text is_whole →
-    (text ≡ whole_text schema limits lines) × (is_whole ≡ true)
+    (text : List ℕ) (ending : ScriptEnd) →
+    is_too_long script ≡ false → AreScriptLines (lines_of script) lines → LetRun lines →
+    RunsScript schema limits script text ending →
+    (text ≡ whole_text schema limits lines) × (ending ≡ Whole)
 
 -- the answers to events, one after another, and then the log of the history that they made
 abbrev pub events_text : List SchemaNode → Limits → List Event → List ℕ
@@ -47,7 +49,7 @@ events_text schema limits events =
     flat_map answer_lines (event_answers (rules_of schema limits) [] events)
     ++ (codes "log\n" ++ log_text (history_after_all (rules_of schema limits) [] events))
 
--- where no line lets the disk fail, what is printed are the answers to the events that the lines are
+-- where no line lets the disk fail or stop, what is printed are the answers to the events that the lines are
 abbrev pub AnswersEvents : Type 0
 AnswersEvents =
     (schema : List SchemaNode) (limits : Limits) (lines : List Line) → LetPass lines →

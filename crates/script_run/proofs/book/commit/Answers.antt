@@ -1,8 +1,10 @@
-use Rattle.std.proofs.Common.{◌≢◌, Err, sym, ◌∙◌}
+use Rattle.std.proofs.Common.{◌≢◌, Err, sym, ◌∙◌, subst}
 use Rattle.base_kinds.specs.declared.refusal.Refusal.TheVariants.{NoMemory}
 use Rattle.base_kinds.specs.Step.{step}
 use Rattle.book_core.specs.Views.{history_in}
-use Rattle.book_port.specs.Opened.{rules_in}
+use Rattle.book_core.specs.laws.DoubtLaws.{IsRunWith}
+use Rattle.book_port.specs.Answers.{set_stages}
+use Rattle.book_port.specs.Opened.{Opened, rules_in}
 use Rattle.script_run.specs.AnswerLines.{entry_stamp}
 use Rattle.script_run.specs.inner.ScriptBooks.{IsLeft, asked_turn}
 use Rattle.script_run.specs.Turns.{unless_failed}
@@ -35,3 +37,12 @@ returns-in-Err-clause-reply c =
     let judged = step (rules_in c.args.book.now.opened) (history_in c.args.book.now) c.args.reading c.args.author c.args.ask in
     if_ok c.unless_memory.result (Err c.in-Err.refusal) (entry_stamp (unless_failed (asked_turn c.args.book.now c.args.reading c.args.author c.args.ask).failed judged)) (c.in-Err.refusal ≢ NoMemory) c.unless_memory.ensures.reply c.unless_memory.ensures.no_memory
     (λ other. sym c.in-Err.is ∙ set_replies c.args.book.now c.set-reply.new.self c.args.reading c.args.author c.args.ask result (refused_other result c.in-Err.refusal c.in-Err.is other) set)
+
+pub returns-in-Err-clause-may_stand : goal.returns-in-Err-clause-may_stand
+returns-in-Err-clause-may_stand c =
+    let old = c.args.book.now in
+    let new = c.set-reply.new.self in
+    let stages = set_stages (rules_in old.opened) (history_in old) c.args.reading c.args.author c.args.ask in
+    let runs = c.doubts_may_stand.ensures.set old.opened (history_in old) c.args.reading c.args.author c.args.ask c.set-reply.ensures.run c.requires.author c.requires.fit in
+    let stands = c.doubts_may_stand.ensures.doubt old.opened stages (history_in old) old.doubt (history_in new) new.doubt runs c.requires.may_stand c.set-reply.ensures.doubt in
+    subst (λ (o : Opened). IsRunWith o (history_in new) new.doubt) (sym c.set-reply.ensures.opened) stands

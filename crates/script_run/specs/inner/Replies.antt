@@ -1,0 +1,29 @@
+-- What a line is answered, in the order in which it is found and printed.
+use Rattle.std.specs.Prelude.{◌≡◌, ℕ, List, [], ◌++◌, Bool, true, false, Option, Some, None}
+use Rattle.base_kinds.specs.Events.{Answer, OfSet, OfGet}
+use Rattle.script_text.specs.declared.line.Line.{Line}
+use Rattle.script_run.specs.AnswerLines.{entry_stamp, reply_line, view_lines}
+use Rattle.script_run.specs.ScriptStates.{ScriptState}
+use Rattle.script_run.specs.Restarts.{Takes}
+use Rattle.script_run.specs.declared.answer_lines.Reply.{Reply}
+use Rattle.script_run.specs.declared.answer_lines.Reply.TheVariants as replies
+
+abbrev pub reply_of : Answer → Reply
+reply_of (OfSet answer) = replies.Set (entry_stamp answer)
+reply_of (OfGet view) = replies.Get view
+
+abbrev pub reply_lines : Option Reply → List ℕ
+reply_lines None = []
+reply_lines (Some (replies.Set reply)) = reply_line reply
+reply_lines (Some (replies.Get view)) = view_lines view
+
+-- the state that is left, where the script goes on
+abbrev pub state_if : Bool → ScriptState → Option ScriptState
+state_if true state = Some state
+state_if false state = None
+
+-- a line is taken, and what it prints is added
+pub record Acts (line : Line) (old new : ScriptState) (before after : List ℕ) (goes_on : Bool) : Type 0 where
+  pub printed : List ℕ
+  pub takes : Takes line old printed (state_if goes_on new)
+  pub added : after ≡ before ++ printed
