@@ -1,4 +1,4 @@
-use crate::scripts::{LIMITS, run};
+use crate::scripts::{LIMITS, is_whole, run};
 use std::alloc::Global;
 use std::process::Abort;
 use std::test::Fail;
@@ -15,7 +15,7 @@ fn assert_printed(rt: &impl Abort, alloc: Global, row: &Row, calls: &str) {
     script.push_str(after).expect(rt, "memory");
     let transcript = run(rt, alloc, LIMITS, script.as_bytes());
     assert_eq!(rt; transcript.text.items(), printed.as_bytes(), "of {script}");
-    assert_eq!(rt; transcript.is_whole, true, "of {script}");
+    assert_eq!(rt; is_whole(&transcript), true, "of {script}");
 }
 
 fn assert_each(rt: &impl Abort, alloc: Global, rows: &[Row]) {
@@ -213,6 +213,6 @@ fn a_failed_set_leaves_room_for_the_next(rt: HostRuntime) -> Result<(), Fail> {
         "refused 19 14\nok 1000\nlog\n1 1000 1 apply\n  update /system/config/hostname\n    /system/config/hostname \"b\"\n";
     let transcript = run(&rt, alloc, LIMITS, script.as_bytes());
     assert_eq!(rt; transcript.text.items(), printed.as_bytes());
-    assert_eq!(rt; transcript.is_whole, true);
+    assert_eq!(rt; is_whole(&transcript), true);
     Ok(())
 }

@@ -1,10 +1,11 @@
-use base_lists::{Bytes, Text, Texts};
+use base_lists::{Bytes, Seq, Text, Texts};
 use disk_model::read_whole;
 use edge_traits::{MemSink, MemSource};
 use memory_disks::{FuseDisk, NO_STOP};
 use std::alloc::Global;
 use std::process::Abort;
 use target_top::{DiskFile, Host, Kit, MemFiles, RunEnd, run};
+use time_traits::StepClock;
 
 struct MemKit;
 
@@ -14,6 +15,8 @@ impl Kit for MemKit {
     type Input = MemSource;
 
     type Output = MemSink;
+
+    type Clock = StepClock;
 }
 
 fn octets_of(rt: &impl Abort, alloc: Global, octets: &[u8]) -> Bytes {
@@ -50,6 +53,7 @@ fn run_over<A: Abort>(
         files: MemFiles::of(Text::of(alloc, b"S").expect(rt, "a text"), None, Some(file)),
         input: MemSource::make(octets_of(rt, alloc, b""), Texts::empty(alloc)),
         output: MemSink::make(alloc, Texts::empty(alloc)),
+        clock: StepClock::make(Seq::empty(alloc)),
     };
     let RunEnd {
         status,

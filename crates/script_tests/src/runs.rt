@@ -2,12 +2,13 @@ ghost use Rattle.std.specs.Prelude.{None};
 ghost use Rattle.edge_traits.specs.Memory.{input_of};
 
 use crate::examples::{HOSTNAME, HOSTNAME_PRINTED, SCHEMA};
-use base_lists::{Bytes, Text, Texts};
+use base_lists::{Bytes, Seq, Text, Texts};
 use edge_traits::{Failed, InputRecord, MemSink, MemSource, Sink, Source};
 use std::alloc::Global;
 use std::process::Abort;
 use std::test::Fail;
 use target_top::{Host, Kit, MemFiles, RunEnd, run};
+use time_traits::StepClock;
 
 /// A source that gives one octet at a time.
 #[derive(Drop)]
@@ -51,6 +52,8 @@ impl Kit for MemKit {
     type Input = MemSource;
 
     type Output = MemSink;
+
+    type Clock = StepClock;
 }
 
 /// A source each of whose reads fails.
@@ -88,6 +91,8 @@ impl Kit for FailKit {
     type Input = FailSource;
 
     type Output = MemSink;
+
+    type Clock = StepClock;
 }
 
 struct DripKit;
@@ -98,6 +103,8 @@ impl Kit for DripKit {
     type Input = Drip;
 
     type Output = Trickle;
+
+    type Clock = StepClock;
 }
 
 fn octets_of(rt: &impl Abort, alloc: Global, octets: &[u8]) -> Bytes {
@@ -148,6 +155,7 @@ fn run_over<A: Abort>(
         files: files_of(rt, alloc, Some(schema.as_bytes())),
         input: MemSource::make(octets_of(rt, alloc, script), Texts::empty(alloc)),
         output: MemSink::make(alloc, numbers_of(rt, alloc, writes)),
+        clock: StepClock::make(Seq::empty(alloc)),
     };
     let RunEnd { status, host, .. } = run(rt, alloc, words.as_slice(), host);
     let Host { output, .. } = host;
@@ -168,12 +176,14 @@ fn fails_over<A: Abort>(
         files: files_of(rt, alloc, text),
         input: FailSource::make(),
         output: MemSink::make(alloc, numbers_of(rt, alloc, writes)),
+        clock: StepClock::make(Seq::empty(alloc)),
     };
     let RunEnd { status, host, .. } = run(rt, alloc, words.as_slice(), host);
     let Host {
         files,
         input,
         output,
+        ..
     } = host;
     (status, output, files.faults(), input.faults)
 }
@@ -195,6 +205,7 @@ fn drip_over<A: Abort>(
         output: Trickle {
             sink: MemSink::make(alloc, numbers_of(rt, alloc, writes)),
         },
+        clock: StepClock::make(Seq::empty(alloc)),
     };
     let RunEnd { status, host, .. } = run(rt, alloc, words.as_slice(), host);
     let Host { output, .. } = host;
@@ -209,6 +220,12 @@ fn a_script_runs_under_its_schema_and_limits(rt: HostRuntime) -> Result<(), Fail
         ("script S", HOSTNAME, HOSTNAME_PRINTED, 0),
         ("script S", "get 1 /\n", "refused 8 5\nlog\n", 0),
         ("script S", "set 1\n\n", "ok 1\nscript line 2 refused\n", 9),
+        (
+            "script S",
+            "stop 0 old\nfail 1\nset 1\n",
+            "stopped\ndisk fault\n",
+            5,
+        ),
         (
             "script S 2 4096",
             "set 1\nset 1\nset 1\n",
@@ -366,7 +383,7 @@ fn an_input_that_gives_octets_and_then_fails_is_told_as_such(rt: HostRuntime) ->
 }
 
 const HELP: &str =
-    "check SCHEMA: print how many nodes the schema in the file SCHEMA has, or its first fault\ninit JOURNAL: write a journal without entries into the file JOURNAL, which must be empty or not there yet\ninit JOURNAL ENTRIES OCTETS: the same, for a log of at most ENTRIES entries and OCTETS octets\nlog JOURNAL: print the commit log in the journal in the file JOURNAL\nscript SCHEMA: run the script on standard input under the schema, and print its answers and its log\nscript SCHEMA ENTRIES OCTETS: the same, with a log of at most ENTRIES entries and OCTETS octets\n--help: print these lines\n--version: print the name and the version of the program\n";
+    "check SCHEMA: print how many nodes the schema in the file SCHEMA has, or its first fault\ninit JOURNAL: write a journal without entries into the file JOURNAL, which must be empty or not there yet\ninit JOURNAL ENTRIES OCTETS: the same, for a log of at most ENTRIES entries and OCTETS octets\nlog JOURNAL: print the commit log in the journal in the file JOURNAL\nscript SCHEMA: run the script on standard input under the schema, and print its answers and its log\nscript SCHEMA ENTRIES OCTETS: the same, with a log of at most ENTRIES entries and OCTETS octets\nsession SCHEMA JOURNAL: serve one gNMI connection over standard input and output, on the journal in the file JOURNAL\n--help: print these lines\n--version: print the name and the version of the program\n";
 
 #[test]
 fn help_and_version_are_printed_and_nothing_is_read(rt: HostRuntime) {

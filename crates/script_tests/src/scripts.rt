@@ -2,7 +2,7 @@ use crate::examples::{HOSTNAME, HOSTNAME_PRINTED, SCHEMA};
 use base_kinds::{Limits, MOST_LOG_ENTRIES, MOST_LOG_OCTETS};
 use schema_core::Schema;
 use schema_text::read_schema;
-use script_run::{Transcript, run_script};
+use script_run::{ScriptEnd, Transcript, run_script};
 use std::alloc::Global;
 use std::process::Abort;
 use std::test::Fail;
@@ -16,13 +16,18 @@ fn schema(rt: &impl Abort, alloc: Global) -> Schema {
     read_schema(alloc, SCHEMA.as_bytes()).expect(rt, "a schema")
 }
 
-/// What the script prints, and whether each of its lines was taken.
+/// What the script prints, and how it ends.
 pub fn run(rt: &impl Abort, alloc: Global, limits: Limits, script: &[u8]) -> Transcript {
     let schema = schema(rt, alloc);
     if limits.in_range() {
         return run_script(alloc, schema, limits, script).expect(rt, "memory");
     }
     panic!(rt; "limits that a log may have")
+}
+
+/// Whether each line of the script was taken.
+pub fn is_whole(transcript: &Transcript) -> bool {
+    transcript.ending == ScriptEnd::Whole
 }
 
 const SCRIPTS: &[(&str, &str, bool)] = &[
@@ -100,7 +105,7 @@ const SCRIPTS: &[(&str, &str, bool)] = &[
     ("open 1 s stream 0\n", "script line 1 refused\n", false),
     ("fail 0\nturn s\n", "script line 2 refused\n", false),
     (
-        "set 1\nstop 0 old\n",
+        "set 1\nstop 0 256\n",
         "ok 1\nscript line 2 refused\n",
         false,
     ),
@@ -118,10 +123,10 @@ const SCRIPTS: &[(&str, &str, bool)] = &[
 #[test]
 fn scripts_print_the_answers_of_one_history_and_its_log(rt: HostRuntime) -> Result<(), Fail> {
     let alloc = rt.alloc();
-    for (script, printed, is_whole) in SCRIPTS.iter().copied() {
+    for (script, printed, whole) in SCRIPTS.iter().copied() {
         let transcript = run(&rt, alloc, LIMITS, script.as_bytes());
         assert_eq!(rt; transcript.text.items(), printed.as_bytes(), "of {script}");
-        assert_eq!(rt; transcript.is_whole, is_whole, "of {script}");
+        assert_eq!(rt; is_whole(&transcript), whole, "of {script}");
     }
     Ok(())
 }
@@ -143,12 +148,12 @@ fn a_replace_leaves_only_its_own_rows(rt: HostRuntime) -> Result<(), Fail> {
             false,
         ),
     ];
-    for (rest, printed, is_whole) in table.iter().copied() {
+    for (rest, printed, whole) in table.iter().copied() {
         let mut script = String::from_str(alloc, first).expect(&rt, "memory");
         script.push_str(rest).expect(&rt, "memory");
         let transcript = run(&rt, alloc, LIMITS, script.as_bytes());
         assert_eq!(rt; transcript.text.items(), printed.as_bytes(), "of {rest}");
-        assert_eq!(rt; transcript.is_whole, is_whole, "of {rest}");
+        assert_eq!(rt; is_whole(&transcript), whole, "of {rest}");
     }
     Ok(())
 }
@@ -198,7 +203,7 @@ fn a_tree_and_a_log_have_limits(rt: HostRuntime) -> Result<(), Fail> {
     let transcript = run(&rt, alloc, short, b"set 1\nset 1\nset 1\n");
     let printed = "ok 1\nok 2\nrefused 18 8\nlog\n1 1 1 apply\n2 2 1 apply\n";
     assert_eq!(rt; transcript.text.items(), printed.as_bytes());
-    assert_eq!(rt; transcript.is_whole, true);
+    assert_eq!(rt; is_whole(&transcript), true);
     Ok(())
 }
 

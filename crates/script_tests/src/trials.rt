@@ -1,4 +1,4 @@
-use crate::scripts::{LIMITS, long_hostname, run};
+use crate::scripts::{LIMITS, is_whole, long_hostname, run};
 use base_kinds::Limits;
 use std::test::Fail;
 
@@ -71,7 +71,7 @@ fn a_trial_is_confirmed_or_taken_back(rt: HostRuntime) -> Result<(), Fail> {
         wanted.push_str(logged).expect(&rt, "memory");
         let transcript = run(&rt, alloc, LIMITS, script.as_bytes());
         assert_eq!(rt; transcript.text.items(), wanted.as_bytes(), "of {behind}");
-        assert_eq!(rt; transcript.is_whole, true, "of {behind}");
+        assert_eq!(rt; is_whole(&transcript), true, "of {behind}");
     }
     Ok(())
 }

@@ -15,17 +15,17 @@ ran_lines : (schema : List SchemaNode) (limits : Limits) (before after : Environ
 ran_lines schema limits before after status ran = record {
   script = ran.0;
   read = ran.1;
-  wrote = λ lines short are.
+  wrote = λ lines short are lets.
       let runs = ran.2 in
-      let prints = prints_answers schema limits ran.0 lines runs.answers runs.is_whole short are runs.runs in (
+      let prints = prints_answers schema limits ran.0 lines runs.answers runs.script_end short are lets runs.runs in (
         subst (λ text. Wrote text before.output after.output) prints.0 runs.written.0,
-        runs.written.1 ∙ ap (λ whole. exit_status (script_ending whole)) prints.1,
+        runs.written.1 ∙ ap (λ e. exit_status (script_ending e)) prints.1,
       );
 }
 
 pub good_scripts_complete : CompletesGoodScripts
-good_scripts_complete words name limits before after returned status is run quiet =
-    elim (scripts_complete words name limits before after returned status is run quiet) [
+good_scripts_complete words name limits before after returned how status is run quiet =
+    elim (scripts_complete words name limits before after returned how status is run quiet) [
       | inl starved ↦ inl starved
       | inr ran ↦ inr (ran.0, ran.1, λ schema read. ran_lines schema limits before after status (subst (λ r. RanAs r limits before after status) read ran.2))
     ]

@@ -4,3 +4,4 @@ pub mod WordLists
 pub mod MemoryRuns
 pub mod WordLaws
 pub mod GoodScripts
+pub mod Sessions

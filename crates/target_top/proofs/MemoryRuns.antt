@@ -12,13 +12,16 @@ use Rattle.commit_journal.specs.Writes.{Creates}
 use Rattle.commit_report.specs.Logs.{log_text}
 use Rattle.schema_text.specs.declared.cause.SchemaFault.{SchemaFault}
 use Rattle.schema_text.specs.Schemas.{schema_of}
+use Rattle.session_core.specs.declared.how.How.{How}
+use Rattle.session_core.specs.declared.how.How.TheVariants as hows
+use Rattle.session_core.specs.Reading.{IsGiven}
 use Rattle.target_top.specs.declared.ending.Ending.{Ending}
 use Rattle.target_top.specs.declared.ending.Ending.TheVariants.{Done, NoSchema, JournalNotEmpty, JournalDamaged}
 use Rattle.target_top.specs.declared.files_record.NamedText.{NamedText}
 use Rattle.target_top.specs.Ending.{exit_status}
 use Rattle.target_top.specs.Environment.{Environment, SeenDisk, GaveText, DiskAsk, GaveDisk, IsDiskOf, texts_of, files_after_disk, files_after_new_disk}
 use Rattle.target_top.specs.CheckRun.{Counts, count_line}
-use Rattle.target_top.specs.Commands.{Command, Check, Script, Init, Log, Help, Version, Gives}
+use Rattle.target_top.specs.Commands.{Command, Check, Script, Init, Log, Session, Help, Version, Gives, IsNoSession}
 use Rattle.target_top.specs.InitRun.{PreparesDisk}
 use Rattle.target_top.specs.JournalFile.{DiskWork, OverDisk}
 use Rattle.target_top.specs.LogRun.{ListsDisk, damage_line}
@@ -26,8 +29,10 @@ use Rattle.target_top.specs.HelpRun.{help_text, version_text}
 use Rattle.target_top.specs.Run.{Run, Does}
 use Rattle.target_top.specs.SchemaFile.{fault_line, UnderText, UnderSchema}
 use Rattle.target_top.specs.ScriptRun.{RunsLines}
+use Rattle.target_top.specs.SessionCommand.{Streams, OnDisk, SessionCommand, streams_of}
 use Rattle.target_top.specs.laws.RunLaws.{WroteAndEnded, CheckedAs, RanAs, PreparedAs, ListedAs}
 use Rattle.target_top.specs.laws.MemoryRuns.{Memory, IsFreshMemory, IsInputOf, LosesNoOctet, WentWell, WroteAlike, RunsAlike}
+use Rattle.script_run.specs.laws.ScriptLaws.{HaveNoStops}
 use Rattle.target_top.proofs.RunLaws.{checks_complete, scripts_complete, inits_complete, logs_complete, whole_answered, same_written}
 use Rattle.target_top.proofs.WordLaws.{help_completes, version_completes, refusals_complete}
 
@@ -74,17 +79,42 @@ disk_loses_none : (octets : List ℕ) (ask : DiskAsk) (name : List ℕ) (before 
 disk_loses_none octets ask name before after returned ending Work of (inl with) = untouched octets before.input after.input with.input of
 disk_loses_none octets ask name before after returned ending Work of (inr none) = untouched octets before.input after.input none.input of
 
-command_loses_none : (octets : List ℕ) (command : Command) (before after : Environment) (returned : Option SeenDisk) (ending : Ending) → IsInputOf octets before.input → Does command before after returned ending → IsInputOf octets after.input
-command_loses_none octets (Check name) before after returned ending of does = under_loses_none octets name before after ending (Counts before after ending) (λ schema counts. untouched octets before.input after.input counts.input of) of does.0
-command_loses_none octets (Script name limits) before after returned ending of does = under_loses_none octets name before after ending (RunsLines limits before after ending) (λ schema lines. lines_lose_none octets limits before after ending schema of lines) of does.0
-command_loses_none octets (Init name limits) before after returned ending of does = disk_loses_none octets files_after_new_disk name before after returned ending (PreparesDisk limits) of does
-command_loses_none octets (Log name) before after returned ending of does = disk_loses_none octets files_after_disk name before after returned ending ListsDisk of does
-command_loses_none octets Help before after returned ending of does = untouched octets before.input after.input does.0.input of
-command_loses_none octets Version before after returned ending of does = untouched octets before.input after.input does.0.input of
+given_loses_none : (octets piece : List ℕ) (how : How) (old new : Input) → IsInputOf octets old → IsGiven how piece old new → IsInputOf octets new
+given_loses_none octets piece hows.Closed old new of given = read_loses_none octets piece old new given.all of
+given_loses_none octets piece hows.Cut old new of given = read_loses_none octets piece old new given.all of
+given_loses_none octets piece hows.ReadFault old new of given =
+    let last = given.failed.0 in
+    let read = read_loses_none octets piece old last given.failed.1 of in
+    untouched octets (input_with_fault last) new given.failed.2 (fault_loses_none octets last read)
+given_loses_none octets piece (hows.Protocol code) old new of given = read_loses_none octets piece old new given of
+given_loses_none octets piece hows.WriteFault old new of given = read_loses_none octets piece old new given of
+given_loses_none octets piece hows.Spent old new of given = read_loses_none octets piece old new given of
+given_loses_none octets piece hows.NoMemory old new of given = read_loses_none octets piece old new given of
+
+served_loses_none : (octets : List ℕ) (schema : List SchemaNode) (initial final : SeenDisk) (old new : Streams) (how : Option How) (ending : Ending) → IsInputOf octets old.input → OnDisk schema initial final old new how ending → IsInputOf octets new.input
+served_loses_none octets schema initial final old new how ending of on =
+    elim on.serves [
+      | inl one ↦ given_loses_none octets one.run.octets one.connection old.input new.input of one.run.given
+      | inr none ↦ untouched octets old.input new.input (ap (λ (s : Streams). s.input) none.streams) of
+    ]
+
+session_loses_none : (octets schema journal : List ℕ) (before after : Environment) (returned : Option SeenDisk) (how : Option How) (ending : Ending) → IsInputOf octets before.input → SessionCommand schema journal before after returned how ending → IsInputOf octets after.input
+session_loses_none octets schema journal before after returned how ending of (inl on) = served_loses_none octets on.schema on.initial on.final (streams_of before) (streams_of after) how ending of on.goes_on
+session_loses_none octets schema journal before after returned how ending of (inr (inl stops)) = untouched octets before.input after.input (ap (λ (s : Streams). s.input) stops.nothing.streams) of
+session_loses_none octets schema journal before after returned how ending of (inr (inr stops)) = untouched octets before.input after.input (ap (λ (s : Streams). s.input) stops.nothing.streams) of
+
+command_loses_none : (octets : List ℕ) (command : Command) (before after : Environment) (returned : Option SeenDisk) (how : Option How) (ending : Ending) → IsInputOf octets before.input → Does command before after returned how ending → IsInputOf octets after.input
+command_loses_none octets (Check name) before after returned how ending of does = under_loses_none octets name before after ending (Counts before after ending) (λ schema counts. untouched octets before.input after.input counts.input of) of does.0
+command_loses_none octets (Script name limits) before after returned how ending of does = under_loses_none octets name before after ending (RunsLines limits before after ending) (λ schema lines. lines_lose_none octets limits before after ending schema of lines) of does.0
+command_loses_none octets (Init name limits) before after returned how ending of does = disk_loses_none octets files_after_new_disk name before after returned ending (PreparesDisk limits) of does
+command_loses_none octets (Log name) before after returned how ending of does = disk_loses_none octets files_after_disk name before after returned ending ListsDisk of does
+command_loses_none octets (Session schema journal) before after returned how ending of does = session_loses_none octets schema journal before after returned how ending of does
+command_loses_none octets Help before after returned how ending of does = untouched octets before.input after.input does.0.input of
+command_loses_none octets Version before after returned how ending of does = untouched octets before.input after.input does.0.input of
 
 pub loses_no_octet : LosesNoOctet
-loses_no_octet words octets before after returned status (inl given) run of = command_loses_none octets given.0 before after returned run.ending of (run.done given.0 given.1)
-loses_no_octet words octets before after returned status (inr none) run of = untouched octets before.input after.input (run.refused none).input of
+loses_no_octet words octets before after returned how status (inl given) run of = command_loses_none octets given.0 before after returned how run.ending of (run.done given.0 given.1)
+loses_no_octet words octets before after returned how status (inr none) run of = untouched octets before.input after.input (run.refused none).input of
 
 -- ---- equal objects
 
@@ -99,13 +129,13 @@ checked_alike : (read : Result (List SchemaNode) SchemaFault) (p q r s : Output)
 checked_alike (Ok schema) p q r s status status' one other = both_ended (count_line schema) (exit_status Done) p q r s status status' one other
 checked_alike (Err fault) p q r s status status' one other = both_ended (fault_line fault) (exit_status NoSchema) p q r s status status' one other
 
-ran_alike : (read : Result (List SchemaNode) SchemaFault) (limits : Limits) (octets : List ℕ) (a b c d : Environment) (status status' : ℕ) → a.input.left ≡ Some octets → c.input.left ≡ Some octets → RanAs read limits a b status → RanAs read limits c d status' → (written : List ℕ) × WroteBoth written a.output b.output c.output d.output status status'
-ran_alike (Ok schema) limits octets a b c d status status' one_left other_left one other =
+ran_alike : (read : Result (List SchemaNode) SchemaFault) (limits : Limits) (octets : List ℕ) (a b c d : Environment) (status status' : ℕ) → HaveNoStops octets → a.input.left ≡ Some octets → c.input.left ≡ Some octets → RanAs read limits a b status → RanAs read limits c d status' → (written : List ℕ) × WroteBoth written a.output b.output c.output d.output status status'
+ran_alike (Ok schema) limits octets a b c d status status' none one_left other_left one other =
     let first = whole_answered schema limits one.0 octets a b status one.1 one_left one.2 in
     let second = whole_answered schema limits other.0 octets c d status' other.1 other_left other.2 in
-    let same = same_written schema limits octets a.output b.output c.output d.output status status' first second in
+    let same = same_written schema limits octets a.output b.output c.output d.output status status' none first second in
     (first.answers, (first.written.0, subst (λ text. Wrote text c.output d.output) (sym same.0) second.written.0, same.1))
-ran_alike (Err fault) limits octets a b c d status status' one_left other_left one other = both_ended (fault_line fault) (exit_status NoSchema) a.output b.output c.output d.output status status' one other
+ran_alike (Err fault) limits octets a b c d status status' none one_left other_left one other = both_ended (fault_line fault) (exit_status NoSchema) a.output b.output c.output d.output status status' one other
 
 -- the text that files of one text gave is that one
 one_text : (name : List ℕ) (text : Option (List ℕ)) (asked given : List ℕ) → Contains (texts_of name text) (record { name = asked; text = given }) → text ≡ Some given
@@ -194,45 +224,46 @@ listed_alike octets initial initial' p q r s status status' holds also (inr one)
 held_disk : (memory : Memory) (ask : DiskAsk) (asked : List ℕ) (initial : SeenDisk) (a b : Environment) → IsFreshMemory memory a → GaveDisk ask asked initial a.files b.files → HoldsAll memory.disk initial.told
 held_disk memory ask asked initial a b fresh gave = disk_of_held memory.disk_name memory.disk asked initial.told a.files.disks_held (ap (λ f. f.disks_held) fresh.files) gave.held
 
-command_alike : (memory : Memory) (words : List (List ℕ)) (command : Command) (a b c d : Environment) (returned returned' : Option SeenDisk) (status status' : ℕ) → Gives words command → IsFreshMemory memory a → IsFreshMemory memory c → Run words a b returned status → Run words c d returned' status' → WentWell a b returned status → WentWell c d returned' status' → (written : List ℕ) × WroteBoth written a.output b.output c.output d.output status status'
-command_alike memory words (Check schema) a b c d returned returned' status status' is first second run also well fine =
-    elim (checks_complete words schema a b returned status is run well.quiet) [
+command_alike : (memory : Memory) (words : List (List ℕ)) (command : Command) (a b c d : Environment) (returned returned' : Option SeenDisk) (how how' : Option How) (status status' : ℕ) → IsNoSession words → Gives words command → HaveNoStops memory.octets → IsFreshMemory memory a → IsFreshMemory memory c → Run words a b returned how status → Run words c d returned' how' status' → WentWell a b returned status → WentWell c d returned' status' → (written : List ℕ) × WroteBoth written a.output b.output c.output d.output status status'
+command_alike memory words (Check schema) a b c d returned returned' how how' status status' apart is none first second run also well fine =
+    elim (checks_complete words schema a b returned how status is run well.quiet) [
       | inl starved ↦ absurd (well.memory starved)
-      | inr one ↦ elim (checks_complete words schema c d returned' status' is also fine.quiet) [
+      | inr one ↦ elim (checks_complete words schema c d returned' how' status' is also fine.quiet) [
         | inl starved ↦ absurd (fine.memory starved)
         | inr other ↦
             let same = same_text memory schema one.0 other.0 a b c d first second one.1 other.1 in
             checked_alike (schema_of one.0) a.output b.output c.output d.output status status' one.2 (subst (λ t. CheckedAs (schema_of t) c.output d.output status') same other.2)
       ]
     ]
-command_alike memory words (Script schema limits) a b c d returned returned' status status' is first second run also well fine =
-    elim (scripts_complete words schema limits a b returned status is run well.quiet) [
+command_alike memory words (Script schema limits) a b c d returned returned' how how' status status' apart is none first second run also well fine =
+    elim (scripts_complete words schema limits a b returned how status is run well.quiet) [
       | inl starved ↦ absurd (well.memory starved)
-      | inr one ↦ elim (scripts_complete words schema limits c d returned' status' is also fine.quiet) [
+      | inr one ↦ elim (scripts_complete words schema limits c d returned' how' status' is also fine.quiet) [
         | inl starved ↦ absurd (fine.memory starved)
         | inr other ↦
             let same = same_text memory schema one.0 other.0 a b c d first second one.1 other.1 in
-            ran_alike (schema_of one.0) limits memory.octets a b c d status status' (ap (λ (i : Input). i.left) first.input) (ap (λ (i : Input). i.left) second.input) one.2 (subst (λ t. RanAs (schema_of t) limits c d status') same other.2)
+            ran_alike (schema_of one.0) limits memory.octets a b c d status status' none (ap (λ (i : Input). i.left) first.input) (ap (λ (i : Input). i.left) second.input) one.2 (subst (λ t. RanAs (schema_of t) limits c d status') same other.2)
       ]
     ]
-command_alike memory words (Init journal limits) a b c d returned returned' status status' is first second run also well fine =
-    elim (inits_complete words journal limits a b returned status is run well.quiet) [
+command_alike memory words (Init journal limits) a b c d returned returned' how how' status status' apart is none first second run also well fine =
+    elim (inits_complete words journal limits a b returned how status is run well.quiet) [
       | inl starved ↦ absurd (well.memory starved)
-      | inr one ↦ elim (inits_complete words journal limits c d returned' status' is also fine.quiet) [
+      | inr one ↦ elim (inits_complete words journal limits c d returned' how' status' is also fine.quiet) [
         | inl starved ↦ absurd (fine.memory starved)
         | inr other ↦ prepared_alike limits memory.disk one.0 one.1 other.0 other.1 a.output b.output c.output d.output status status' (held_disk memory files_after_new_disk journal one.0 a b first one.2) (held_disk memory files_after_new_disk journal other.0 c d second other.2) one.4 other.4
       ]
     ]
-command_alike memory words (Log journal) a b c d returned returned' status status' is first second run also well fine =
-    elim (logs_complete words journal a b returned status is run well.quiet) [
+command_alike memory words (Log journal) a b c d returned returned' how how' status status' apart is none first second run also well fine =
+    elim (logs_complete words journal a b returned how status is run well.quiet) [
       | inl starved ↦ absurd (well.memory starved)
-      | inr one ↦ elim (logs_complete words journal c d returned' status' is also fine.quiet) [
+      | inr one ↦ elim (logs_complete words journal c d returned' how' status' is also fine.quiet) [
         | inl starved ↦ absurd (fine.memory starved)
         | inr other ↦ listed_alike memory.disk one.0 other.0 a.output b.output c.output d.output status status' (held_disk memory files_after_disk journal one.0 a b first one.2) (held_disk memory files_after_disk journal other.0 c d second other.2) one.5 other.5
       ]
     ]
-command_alike memory words Help a b c d returned returned' status status' is first second run also well fine = both_ended help_text (exit_status Done) a.output b.output c.output d.output status status' (help_completes words a b returned status is run well.quiet) (help_completes words c d returned' status' is also fine.quiet)
-command_alike memory words Version a b c d returned returned' status status' is first second run also well fine = both_ended version_text (exit_status Done) a.output b.output c.output d.output status status' (version_completes words a b returned status is run well.quiet) (version_completes words c d returned' status' is also fine.quiet)
+command_alike memory words (Session schema journal) a b c d returned returned' how how' status status' apart is none first second run also well fine = absurd (apart schema journal is)
+command_alike memory words Help a b c d returned returned' how how' status status' apart is none first second run also well fine = both_ended help_text (exit_status Done) a.output b.output c.output d.output status status' (help_completes words a b returned how status is run well.quiet) (help_completes words c d returned' how' status' is also fine.quiet)
+command_alike memory words Version a b c d returned returned' how how' status status' apart is none first second run also well fine = both_ended version_text (exit_status Done) a.output b.output c.output d.output status status' (version_completes words a b returned how status is run well.quiet) (version_completes words c d returned' how' status' is also fine.quiet)
 
 from_fresh : (text : List ℕ) (p q r s : Output) (status status' : ℕ) → p ≡ unwritten_output → r ≡ unwritten_output → WroteBoth text p q r s status status' → WroteAlike q s status status'
 from_fresh text p q r s status status' first second wrote = record {
@@ -243,9 +274,9 @@ from_fresh text p q r s status status' first second wrote = record {
 }
 
 pub runs_alike : RunsAlike
-runs_alike words memory a b c d returned returned' status status' (inl given) first second run also well fine =
-    let both = command_alike memory words given.0 a b c d returned returned' status status' given.1 first second run also well fine in
+runs_alike words memory a b c d returned returned' how how' status status' (inl given) apart none first second run also well fine =
+    let both = command_alike memory words given.0 a b c d returned returned' how how' status status' apart given.1 none first second run also well fine in
     from_fresh both.0 a.output b.output c.output d.output status status' first.output second.output both.1
-runs_alike words memory a b c d returned returned' status status' (inr none) first second run also well fine =
-    let both = both_ended (codes "bad words\n") _ a.output b.output c.output d.output status status' (refusals_complete words a b returned status none run well.quiet) (refusals_complete words c d returned' status' none also fine.quiet) in
+runs_alike words memory a b c d returned returned' how how' status status' (inr no_command) apart quiet first second run also well fine =
+    let both = both_ended (codes "bad words\n") _ a.output b.output c.output d.output status status' (refusals_complete words a b returned how status no_command run well.quiet) (refusals_complete words c d returned' how' status' no_command also fine.quiet) in
     from_fresh both.0 a.output b.output c.output d.output status status' first.output second.output both.1

@@ -1,5 +1,5 @@
 -- A run in its stages.
-use Rattle.std.proofs.Common.{Bool, ◌≡◌, ℕ, List, Result, Ok, Err, inl, inr, sym, subst}
+use Rattle.std.proofs.Common.{◌≡◌, ℕ, List, Result, Ok, Err, inl, inr, sym, subst}
 use Rattle.base_kinds.specs.Limits.{most_script_octets}
 use Rattle.base_kinds.specs.Schema.{SchemaNode}
 use Rattle.base_kinds.specs.declared.entry.Limits.{Limits}
@@ -12,6 +12,7 @@ use Rattle.disk_model.specs.Content.{Tells}
 use Rattle.disk_model.specs.Moments.{LeavesNow}
 use Rattle.journal_format.specs.Journal.{IsJournal}
 use Rattle.commit_report.specs.Logs.{log_text}
+use Rattle.script_run.specs.declared.run.ScriptEnd.{ScriptEnd}
 use Rattle.script_run.specs.Scripts.{RunsScript}
 use Rattle.target_top.specs.declared.ending.Ending.{Ending}
 use Rattle.target_top.specs.declared.ending.Ending.TheVariants.{Done, NoSchema}
@@ -50,7 +51,7 @@ from_start : (limits : Limits) (before mid after : Environment) (ending : Ending
 from_start limits before mid after ending schema rest lines = files_apart limits before mid.files after ending schema (subst (λ (o : Environment). RunsLines limits o after ending schema) rest lines)
   where
     files_apart : (limits : Limits) (before : Environment) (files : SeenFiles) (after : Environment) (ending : Ending) (schema : List SchemaNode) → RunsLines limits (record before { files = files }) after ending schema → RunsLines limits before after ending schema
-    files_apart limits before files after ending schema (inl answers) = inl (record { script = answers.script; read = answers.read; text = answers.text; is_whole = answers.is_whole; runs = answers.runs; output = answers.output })
+    files_apart limits before files after ending schema (inl answers) = inl (record { script = answers.script; read = answers.read; text = answers.text; script_end = answers.script_end; runs = answers.runs; output = answers.output })
     files_apart limits before files after ending schema (inr (inl bad)) = inr (inl (record { ends = bad.ends; read = bad.read; line = bad.line }))
     files_apart limits before files after ending schema (inr (inr out)) = inr (inr (record { read = out.read; output = out.output }))
 
@@ -58,12 +59,12 @@ pub script_goes_on : (name : List ℕ) (limits : Limits) (schema : List SchemaNo
 script_goes_on name limits schema before mid after ending opened files lines = goes_on name schema before mid after ending (RunsLines limits before after ending) opened files (from_start limits before mid after ending schema opened.rest lines)
 
 -- what was read was answered
-pub answered : (limits : Limits) (before after : Environment) (ending : Ending) (schema : List SchemaNode) (script text : List ℕ) (is_whole : Bool) → ReadsToLimit most_script_octets script before.input after.input → RunsScript schema limits script text is_whole → PrintsText text (script_ending is_whole) before.output after.output ending → RunsLines limits before after ending schema
-answered limits before after ending schema script text is_whole read runs output = inl (record {
+pub answered : (limits : Limits) (before after : Environment) (ending : Ending) (schema : List SchemaNode) (script text : List ℕ) (script_end : ScriptEnd) → ReadsToLimit most_script_octets script before.input after.input → RunsScript schema limits script text script_end → PrintsText text (script_ending script_end) before.output after.output ending → RunsLines limits before after ending schema
+answered limits before after ending schema script text script_end read runs output = inl (record {
   script = script;
   read = read;
   text = text;
-  is_whole = is_whole;
+  script_end = script_end;
   runs = runs;
   output = output;
 })

@@ -1,11 +1,12 @@
--- Lists of one word, of two and of four.
+-- Lists of one word, of two, of three and of four.
 use Rattle.std.proofs.Common.{codes, ◌≡◌, ℕ, ◌+◌, ◌<◌, ◌≤◌, List, [], ◌∷◌, inl, inr, Option, Some, None, length, map, get_or, refl, sym, ap, ◌∙◌, subst, arith}
 use Rattle.std.specs.Option.{IfNone}
 use Rattle.std.proofs.lemmas.Fmt.{decimal_injective}
 use Rattle.base_kinds.specs.declared.entry.Limits.{Limits}
+use Rattle.session_core.specs.declared.how.How.{How}
 use Rattle.target_top.specs.declared.ending.Ending.{Ending}
 use Rattle.target_top.specs.Environment.{Environment, SeenDisk}
-use Rattle.target_top.specs.Commands.{Command, Check, Script, Init, Log, Help, Version, AreLimits, IsName, IsNameWithLimits, IsScript, IsInit, IsCheck, IsLog, Gives, GivesNone}
+use Rattle.target_top.specs.Commands.{Command, Check, Script, Init, Log, Session, Help, Version, AreLimits, IsName, IsNameWithLimits, IsScript, IsInit, IsCheck, IsLog, IsNoSession, Gives, GivesNone}
 use Rattle.target_top.specs.Run.{Does}
 
 pub one_word : {W : Type 0} (text : W → List ℕ) (words : List W) (word : W) → 1 ≤ length words → length words < 2 → word ≡ get_or words 0 word → map text words ≡ text word ∷ []
@@ -18,6 +19,24 @@ two_words text [] word name some few is next = absurd (omega (arith, some))
 two_words text (first ∷ []) word name some few is next = absurd (omega (arith, some))
 two_words text (first ∷ second ∷ []) word name some few is next = ap (λ w. text w ∷ text second ∷ []) (sym is) ∙ ap (λ w. text word ∷ text w ∷ []) (sym next)
 two_words text (first ∷ second ∷ third ∷ others) word name some few is next = absurd (omega (arith, few))
+
+pub three_words : {W : Type 0} (text : W → List ℕ) (words : List W) (a b c : W) → 3 ≤ length words → length words < 4 → a ≡ get_or words 0 a → b ≡ get_or words 1 b → c ≡ get_or words 2 c → map text words ≡ text a ∷ text b ∷ text c ∷ []
+three_words text [] a b c some few p q r = absurd (omega (arith, some))
+three_words text (w ∷ []) a b c some few p q r = absurd (omega (arith, some))
+three_words text (w ∷ x ∷ []) a b c some few p q r = absurd (omega (arith, some))
+three_words text (w ∷ x ∷ y ∷ []) a b c some few p q r =
+    ap (λ t. text t ∷ text x ∷ text y ∷ []) (sym p) ∙ ap (λ t. text a ∷ text t ∷ text y ∷ []) (sym q)
+    ∙ ap (λ t. text a ∷ text b ∷ text t ∷ []) (sym r)
+three_words text (w ∷ x ∷ y ∷ z ∷ others) a b c some few p q r = absurd (omega (arith, few))
+
+first_of_three : (a b c p q r : List ℕ) → a ∷ b ∷ c ∷ [] ≡ p ∷ q ∷ r ∷ [] → a ≡ p
+first_of_three a b c p q r e = cc
+
+second_of_three : (a b c p q r : List ℕ) → a ∷ b ∷ c ∷ [] ≡ p ∷ q ∷ r ∷ [] → b ≡ q
+second_of_three a b c p q r e = cc
+
+third_of_three : (a b c p q r : List ℕ) → a ∷ b ∷ c ∷ [] ≡ p ∷ q ∷ r ∷ [] → c ≡ r
+third_of_three a b c p q r e = cc
 
 pub four_words : {W : Type 0} (text : W → List ℕ) (words : List W) (a b c d : W) → 4 ≤ length words → length words < 5 → a ≡ get_or words 0 a → b ≡ get_or words 1 b → c ≡ get_or words 2 c → d ≡ get_or words 3 d → map text words ≡ text a ∷ text b ∷ text c ∷ text d ∷ []
 four_words text [] a b c d some few p q r s = absurd (omega (arith, some))
@@ -56,6 +75,10 @@ no_four word words a n e o shown other name limits (inr is) = other (first_of_fo
 
 pub no_name : (word : List ℕ) (words : List (List ℕ)) (a n : List ℕ) → words ≡ a ∷ n ∷ [] → (a ≡ word → ⊥) → (name : List ℕ) → IsName word words name → ⊥
 no_name word words a n shown other name is = other (first_of_two _ _ _ _ (sym shown ∙ is))
+
+-- three words of which another one is the first aren't this one and two names
+pub no_three : (word : List ℕ) (words : List (List ℕ)) (a n o : List ℕ) → words ≡ a ∷ n ∷ o ∷ [] → (a ≡ word → ⊥) → (first last : List ℕ) → words ≡ word ∷ first ∷ last ∷ [] → ⊥
+no_three word words a n o shown other first last is = other (first_of_three _ _ _ _ _ _ (sym shown ∙ is))
 
 second_of_two : (a b p q : List ℕ) → a ∷ b ∷ [] ≡ p ∷ q ∷ [] → b ≡ q
 second_of_two a b p q e = cc
@@ -101,13 +124,14 @@ same_form word words name other limits others (inr p) (inr q) =
     (second_of_four _ _ _ _ _ _ _ _ both, same_limits limits others entries octets)
 
 -- words that are of no form give no command
-pub gives_none : (words : List (List ℕ)) → ((name : List ℕ) (limits : Limits) → IsScript words name limits → ⊥) → ((name : List ℕ) (limits : Limits) → IsInit words name limits → ⊥) → ((name : List ℕ) → IsCheck words name → ⊥) → ((name : List ℕ) → IsLog words name → ⊥) → (words ≡ codes "--help" ∷ [] → ⊥) → (words ≡ codes "--version" ∷ [] → ⊥) → GivesNone words
-gives_none words no_script no_init no_check no_log no_help no_version (Check name) is = no_check name is
-gives_none words no_script no_init no_check no_log no_help no_version (Script name limits) is = no_script name limits is
-gives_none words no_script no_init no_check no_log no_help no_version (Init name limits) is = no_init name limits is
-gives_none words no_script no_init no_check no_log no_help no_version (Log name) is = no_log name is
-gives_none words no_script no_init no_check no_log no_help no_version Help is = no_help is
-gives_none words no_script no_init no_check no_log no_help no_version Version is = no_version is
+pub gives_none : (words : List (List ℕ)) → ((name : List ℕ) (limits : Limits) → IsScript words name limits → ⊥) → ((name : List ℕ) (limits : Limits) → IsInit words name limits → ⊥) → ((name : List ℕ) → IsCheck words name → ⊥) → ((name : List ℕ) → IsLog words name → ⊥) → IsNoSession words → (words ≡ codes "--help" ∷ [] → ⊥) → (words ≡ codes "--version" ∷ [] → ⊥) → GivesNone words
+gives_none words no_script no_init no_check no_log no_session no_help no_version (Check name) is = no_check name is
+gives_none words no_script no_init no_check no_log no_session no_help no_version (Script name limits) is = no_script name limits is
+gives_none words no_script no_init no_check no_log no_session no_help no_version (Init name limits) is = no_init name limits is
+gives_none words no_script no_init no_check no_log no_session no_help no_version (Log name) is = no_log name is
+gives_none words no_script no_init no_check no_log no_session no_help no_version (Session schema journal) is = no_session schema journal is
+gives_none words no_script no_init no_check no_log no_session no_help no_version Help is = no_help is
+gives_none words no_script no_init no_check no_log no_session no_help no_version Version is = no_version is
 
 -- a number that tells the first words of the forms apart: how many octets it has and its first one, added up
 abbrev word_key : List (List ℕ) → ℕ
@@ -123,6 +147,7 @@ key (Check name) = 104
 key (Script name limits) = 121
 key (Init name limits) = 109
 key (Log name) = 111
+key (Session schema journal) = 122
 key Help = 51
 key Version = 54
 
@@ -131,6 +156,7 @@ has_key words (Check name) is = ap (λ ws. word_key ws) is
 has_key words (Script name limits) is = with_limits (codes "script") words name limits is
 has_key words (Init name limits) is = with_limits (codes "init") words name limits is
 has_key words (Log name) is = ap (λ ws. word_key ws) is
+has_key words (Session schema journal) is = ap (λ ws. word_key ws) is
 has_key words Help is = ap (λ ws. word_key ws) is
 has_key words Version is = ap (λ ws. word_key ws) is
 
@@ -149,6 +175,7 @@ one_command words (Check name) (Check other) is also = ap (λ n. Check n) (secon
 one_command words (Check name) (Script other others) is also = absurd (apart 104 121 (omega arith) (one_key words (Check name) (Script other others) is also))
 one_command words (Check name) (Init other others) is also = absurd (apart 104 109 (omega arith) (one_key words (Check name) (Init other others) is also))
 one_command words (Check name) (Log other) is also = absurd (apart 104 111 (omega arith) (one_key words (Check name) (Log other) is also))
+one_command words (Check name) (Session schema journal) is also = absurd (apart 104 122 (omega arith) (one_key words (Check name) (Session schema journal) is also))
 one_command words (Check name) Help is also = absurd (apart' 104 51 (omega arith) (one_key words (Check name) Help is also))
 one_command words (Check name) Version is also = absurd (apart' 104 54 (omega arith) (one_key words (Check name) Version is also))
 one_command words (Script name limits) (Check other) is also = absurd (apart' 121 104 (omega arith) (one_key words (Script name limits) (Check other) is also))
@@ -157,6 +184,7 @@ one_command words (Script name limits) (Script other others) is also =
     ap (λ n. Script n limits) same.0 ∙ ap (λ l. Script other l) same.1
 one_command words (Script name limits) (Init other others) is also = absurd (apart' 121 109 (omega arith) (one_key words (Script name limits) (Init other others) is also))
 one_command words (Script name limits) (Log other) is also = absurd (apart' 121 111 (omega arith) (one_key words (Script name limits) (Log other) is also))
+one_command words (Script name limits) (Session schema journal) is also = absurd (apart 121 122 (omega arith) (one_key words (Script name limits) (Session schema journal) is also))
 one_command words (Script name limits) Help is also = absurd (apart' 121 51 (omega arith) (one_key words (Script name limits) Help is also))
 one_command words (Script name limits) Version is also = absurd (apart' 121 54 (omega arith) (one_key words (Script name limits) Version is also))
 one_command words (Init name limits) (Check other) is also = absurd (apart' 109 104 (omega arith) (one_key words (Init name limits) (Check other) is also))
@@ -165,27 +193,49 @@ one_command words (Init name limits) (Init other others) is also =
     let same = same_form (codes "init") words name other limits others is also in
     ap (λ n. Init n limits) same.0 ∙ ap (λ l. Init other l) same.1
 one_command words (Init name limits) (Log other) is also = absurd (apart 109 111 (omega arith) (one_key words (Init name limits) (Log other) is also))
+one_command words (Init name limits) (Session schema journal) is also = absurd (apart 109 122 (omega arith) (one_key words (Init name limits) (Session schema journal) is also))
 one_command words (Init name limits) Help is also = absurd (apart' 109 51 (omega arith) (one_key words (Init name limits) Help is also))
 one_command words (Init name limits) Version is also = absurd (apart' 109 54 (omega arith) (one_key words (Init name limits) Version is also))
 one_command words (Log name) (Check other) is also = absurd (apart' 111 104 (omega arith) (one_key words (Log name) (Check other) is also))
 one_command words (Log name) (Script other others) is also = absurd (apart 111 121 (omega arith) (one_key words (Log name) (Script other others) is also))
 one_command words (Log name) (Init other others) is also = absurd (apart' 111 109 (omega arith) (one_key words (Log name) (Init other others) is also))
 one_command words (Log name) (Log other) is also = ap (λ n. Log n) (second_of_two _ _ _ _ (sym is ∙ also))
+one_command words (Log name) (Session schema journal) is also = absurd (apart 111 122 (omega arith) (one_key words (Log name) (Session schema journal) is also))
 one_command words (Log name) Help is also = absurd (apart' 111 51 (omega arith) (one_key words (Log name) Help is also))
 one_command words (Log name) Version is also = absurd (apart' 111 54 (omega arith) (one_key words (Log name) Version is also))
+one_command words (Session schema journal) (Check other) is also = absurd (apart' 122 104 (omega arith) (one_key words (Session schema journal) (Check other) is also))
+one_command words (Session schema journal) (Script other others) is also = absurd (apart' 122 121 (omega arith) (one_key words (Session schema journal) (Script other others) is also))
+one_command words (Session schema journal) (Init other others) is also = absurd (apart' 122 109 (omega arith) (one_key words (Session schema journal) (Init other others) is also))
+one_command words (Session schema journal) (Log other) is also = absurd (apart' 122 111 (omega arith) (one_key words (Session schema journal) (Log other) is also))
+one_command words (Session schema journal) (Session other others) is also =
+    let both = sym is ∙ also in
+    ap (λ n. Session n journal) (second_of_three _ _ _ _ _ _ both) ∙ ap (λ n. Session other n) (third_of_three _ _ _ _ _ _ both)
+one_command words (Session schema journal) Help is also = absurd (apart' 122 51 (omega arith) (one_key words (Session schema journal) Help is also))
+one_command words (Session schema journal) Version is also = absurd (apart' 122 54 (omega arith) (one_key words (Session schema journal) Version is also))
 one_command words Help (Check other) is also = absurd (apart 51 104 (omega arith) (one_key words Help (Check other) is also))
 one_command words Help (Script other others) is also = absurd (apart 51 121 (omega arith) (one_key words Help (Script other others) is also))
 one_command words Help (Init other others) is also = absurd (apart 51 109 (omega arith) (one_key words Help (Init other others) is also))
 one_command words Help (Log other) is also = absurd (apart 51 111 (omega arith) (one_key words Help (Log other) is also))
+one_command words Help (Session schema journal) is also = absurd (apart 51 122 (omega arith) (one_key words Help (Session schema journal) is also))
 one_command words Help Help is also = refl
 one_command words Help Version is also = absurd (apart 51 54 (omega arith) (one_key words Help Version is also))
 one_command words Version (Check other) is also = absurd (apart 54 104 (omega arith) (one_key words Version (Check other) is also))
 one_command words Version (Script other others) is also = absurd (apart 54 121 (omega arith) (one_key words Version (Script other others) is also))
 one_command words Version (Init other others) is also = absurd (apart 54 109 (omega arith) (one_key words Version (Init other others) is also))
 one_command words Version (Log other) is also = absurd (apart 54 111 (omega arith) (one_key words Version (Log other) is also))
+one_command words Version (Session schema journal) is also = absurd (apart 54 122 (omega arith) (one_key words Version (Session schema journal) is also))
 one_command words Version Help is also = absurd (apart' 54 51 (omega arith) (one_key words Version Help is also))
 one_command words Version Version is also = refl
 
 -- what one command of the words does is what the words ask
-pub does_all : (words : List (List ℕ)) (command : Command) (before after : Environment) (returned : Option SeenDisk) (ending : Ending) → Gives words command → Does command before after returned ending → (other : Command) → Gives words other → Does other before after returned ending
-does_all words command before after returned ending is does other also = subst (λ c. Does c before after returned ending) (one_command words command other is also) does
+pub does_all : (words : List (List ℕ)) (command : Command) (before after : Environment) (returned : Option SeenDisk) (how : Option How) (ending : Ending) → Gives words command → Does command before after returned how ending → (other : Command) → Gives words other → Does other before after returned how ending
+does_all words command before after returned how ending is does other also = subst (λ c. Does c before after returned how ending) (one_command words command other is also) does
+
+-- and so it is of what a command leaves that is handed on
+pub ends_so : (words : List (List ℕ)) (command : Command) (before after after' : Environment) (returned returned' : Option SeenDisk) (how how' : Option How) (ending ending' : Ending) → after' ≡ after → returned' ≡ returned → how' ≡ how → ending' ≡ ending → Gives words command → Does command before after returned how ending → (other : Command) → Gives words other → Does other before after' returned' how' ending'
+ends_so words command before after after' returned returned' how how' ending ending' p q r s is does other also =
+    let one = subst (λ (e : Environment). Does command before e returned how ending) (sym p) does in
+    let two = subst (λ (d : Option SeenDisk). Does command before after' d how ending) (sym q) one in
+    let three = subst (λ (h : Option How). Does command before after' returned' h ending) (sym r) two in
+    let four = subst (λ (e : Ending). Does command before after' returned' how' e) (sym s) three in
+    does_all words command before after' returned' how' ending' is four other also

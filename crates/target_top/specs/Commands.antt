@@ -6,13 +6,14 @@ use Rattle.std.specs.Global.{Global}
 use Rattle.base_kinds.specs.declared.entry.Limits.{Limits}
 use Rattle.base_kinds.specs.Limits.{AreInRange, default_limits}
 
--- `Check` and `Script` by the name of the schema's file, `Init` and `Log` by that of the journal's; `Script` and `Init` with the
--- limits of the commit log
+-- `Check` and `Script` by the name of the schema's file, `Init` and `Log` by that of the journal's, `Session` by both; `Script`
+-- and `Init` with the limits of the commit log
 pub data Command : Type 0 where
   Check : List ℕ → Command
   Script : List ℕ → Limits → Command
   Init : List ℕ → Limits → Command
   Log : List ℕ → Command
+  Session : List ℕ → List ℕ → Command
   Help : Command
   Version : Command
 
@@ -49,12 +50,21 @@ IsCheck = IsName (codes "check")
 abbrev pub IsLog : List (List ℕ) → List ℕ → Type 0
 IsLog = IsName (codes "log")
 
+-- `session`, the name of the schema's file and that of the journal's
+abbrev pub IsSession : List (List ℕ) → List ℕ → List ℕ → Type 0
+IsSession words schema journal = words ≡ codes "session" ∷ schema ∷ journal ∷ []
+
+-- the words are no session's
+abbrev pub IsNoSession : List (List ℕ) → Type 0
+IsNoSession words = (schema journal : List ℕ) → IsSession words schema journal → ⊥
+
 -- the words give this command
 abbrev pub Gives : List (List ℕ) → Command → Type 0
 Gives words (Check name) = IsCheck words name
 Gives words (Script name limits) = IsScript words name limits
 Gives words (Init name limits) = IsInit words name limits
 Gives words (Log name) = IsLog words name
+Gives words (Session schema journal) = IsSession words schema journal
 Gives words Help = words ≡ codes "--help" ∷ []
 Gives words Version = words ≡ codes "--version" ∷ []
 

@@ -31,10 +31,12 @@ pub record SeenDisk : Type 0 where
   pub told : Option Content
   pub faults : ℕ
 
+-- the clock by the readings that it gave
 pub record Environment : Type 0 where
   pub files : SeenFiles
   pub input : Input
   pub output : Output
+  pub clock : List ℕ
 
 -- nothing was asked for as yet
 abbrev pub unread_files : SeenFiles

@@ -9,6 +9,8 @@ pub mod LogRun
 pub mod Printing
 pub mod Run
 pub mod SchemaFile
+pub mod SchemaGiven
 pub mod ScriptRun
+pub mod SessionCommand
 pub mod inner
 pub mod laws

@@ -1,35 +1,40 @@
 -- THE THEOREM. What every run of the program is, whatever its words, its files and its input hold.
--- Commands.antt says how a command is written, Environment.antt what is seen of the files, a disk, the input and the output,
+-- Commands.antt says how a command is written, Environment.antt what is seen of the files, a disk, the streams and the clock,
 -- Ending.antt what a status means, and one file a command what it does. docs/THEOREM.md says the same in words.
 use Rattle.std.specs.Prelude.{◌≡◌, ℕ, List, codes, Option, None}
+use Rattle.session_core.specs.declared.how.How.{How}
 use Rattle.target_top.specs.declared.ending.Ending.{Ending}
 use Rattle.target_top.specs.declared.ending.Ending.TheVariants.{BadWords}
 use Rattle.target_top.specs.Ending.{exit_status}
 use Rattle.target_top.specs.Environment.{Environment, SeenDisk}
 use Rattle.target_top.specs.Printing.{SaysLast}
-use Rattle.target_top.specs.Commands.{Command, Check, Script, Init, Log, Help, Version, Gives, GivesNone}
+use Rattle.target_top.specs.Commands.{Command, Check, Script, Init, Log, Session, Help, Version, Gives, GivesNone, IsNoSession}
 use Rattle.target_top.specs.CheckRun.{CheckRun}
 use Rattle.target_top.specs.HelpRun.{PrintsAlone, help_text, version_text}
 use Rattle.target_top.specs.InitRun.{InitRun}
 use Rattle.target_top.specs.LogRun.{LogRun}
 use Rattle.target_top.specs.ScriptRun.{ScriptRun}
+use Rattle.target_top.specs.SessionCommand.{SessionCommand}
 
 -- the work is done, and no disk is handed back
 abbrev pub WithoutDisk : Type 0 → Option SeenDisk → Type 0
 WithoutDisk Work returned = Work × (returned ≡ None)
 
--- what each command does; `returned` is the disk that is handed back, as it is then
-abbrev pub Does : Command → Environment → Environment → Option SeenDisk → Ending → Type 0
-Does (Check schema) before after returned ending =
+-- what each command does; `returned` is the disk that is handed back, as it is then, and `how` tells how a connection ended that
+-- was served
+abbrev pub Does : Command → Environment → Environment → Option SeenDisk → Option How → Ending → Type 0
+Does (Check schema) before after returned how ending =
     WithoutDisk (CheckRun schema before after ending) returned
-Does (Script schema limits) before after returned ending =
+Does (Script schema limits) before after returned how ending =
     WithoutDisk (ScriptRun schema limits before after ending) returned
-Does (Init journal limits) before after returned ending =
+Does (Init journal limits) before after returned how ending =
     InitRun journal limits before after returned ending
-Does (Log journal) before after returned ending = LogRun journal before after returned ending
-Does Help before after returned ending =
+Does (Log journal) before after returned how ending = LogRun journal before after returned ending
+Does (Session schema journal) before after returned how ending =
+    SessionCommand schema journal before after returned how ending
+Does Help before after returned how ending =
     WithoutDisk (PrintsAlone help_text before after ending) returned
-Does Version before after returned ending =
+Does Version before after returned how ending =
     WithoutDisk (PrintsAlone version_text before after ending) returned
 
 -- words that give no command are refused, and nothing is read
@@ -42,9 +47,12 @@ pub record Refuses
   pub line : SaysLast (codes "bad words\n") before.output after.output
 
 pub record Run
-    (words : List (List ℕ)) (before after : Environment) (returned : Option SeenDisk) (status : ℕ)
-    : Type 0 where
+    (words : List (List ℕ)) (before after : Environment) (returned : Option SeenDisk)
+    (how : Option How) (status : ℕ) : Type 0 where
   pub ending : Ending
   pub status_is : status ≡ exit_status ending
-  pub done : (command : Command) → Gives words command → Does command before after returned ending
+  pub done : (command : Command) → Gives words command →
+      Does command before after returned how ending
   pub refused : GivesNone words → Refuses before after returned ending
+  -- a connection is served for `session` alone
+  pub unserved : IsNoSession words → how ≡ None

@@ -1,21 +1,24 @@
 -- `script SCHEMA` reads a script from the input, and prints the answers to its lines and then the log of the history that
 -- they made (Scripts.antt of script_run says which).
-use Rattle.std.specs.Prelude.{◌≡◌, ℕ, List, ◌⊎◌, codes, Bool, true, false}
+use Rattle.std.specs.Prelude.{◌≡◌, ℕ, List, ◌⊎◌, codes}
 use Rattle.edge_traits.specs.Input.{ReadsToLimit, FailedToLimit, StoppedToLimit}
 use Rattle.base_kinds.specs.declared.entry.Limits.{Limits}
 use Rattle.base_kinds.specs.Limits.{most_script_octets}
 use Rattle.base_kinds.specs.Schema.{SchemaNode}
+use Rattle.script_run.specs.declared.run.ScriptEnd.{ScriptEnd}
+use Rattle.script_run.specs.declared.run.ScriptEnd.TheVariants as ends
 use Rattle.script_run.specs.Scripts.{RunsScript}
 use Rattle.target_top.specs.declared.ending.Ending.{Ending}
-use Rattle.target_top.specs.declared.ending.Ending.TheVariants.{Done, InputFault, BadLine}
+use Rattle.target_top.specs.declared.ending.Ending.TheVariants.{Done, DiskFault, InputFault, BadLine}
 use Rattle.target_top.specs.Environment.{Environment}
 use Rattle.target_top.specs.Printing.{SaysLast, OutOfMemory, PrintsText}
 use Rattle.target_top.specs.SchemaFile.{UnderSchema}
 
--- how a script ends, by whether each of its lines was taken
-abbrev pub script_ending : Bool → Ending
-script_ending true = Done
-script_ending false = BadLine
+-- how the run ends whose script ends so
+abbrev pub script_ending : ScriptEnd → Ending
+script_ending ends.Whole = Done
+script_ending ends.Refused = BadLine
+script_ending ends.DiskFault = DiskFault
 
 -- the input was read to its end, or one octet past the limit of a script, since what follows changes nothing; and what is
 -- printed are the answers to what was read
@@ -25,9 +28,9 @@ pub record Answers
   pub script : List ℕ
   pub read : ReadsToLimit most_script_octets script before.input after.input
   pub text : List ℕ
-  pub is_whole : Bool
-  pub runs : RunsScript schema limits script text is_whole
-  pub output : PrintsText text (script_ending is_whole) before.output after.output ending
+  pub script_end : ScriptEnd
+  pub runs : RunsScript schema limits script text script_end
+  pub output : PrintsText text (script_ending script_end) before.output after.output ending
 
 -- the input failed within the limit
 pub record Unreadable (before after : Environment) (ending : Ending) : Type 0 where

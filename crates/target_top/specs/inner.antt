@@ -1,2 +1,3 @@
 pub mod OpenedSchema
 pub mod ParsedCommand
+pub mod ServedBook

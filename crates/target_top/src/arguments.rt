@@ -49,6 +49,24 @@ pub fn name_behind<'a>(words: &'a [String], word: &str) -> Option<&'a str>
     }
 }
 
+/// The two names behind this word, where the words are these three.
+pub fn two_names_behind<'a>(words: &'a [String], word: &str) -> Option<(&'a str, &'a str)>
+    ensures names { IfSome result (λ names.
+        octets_of_words words.now ≡ word.now ∷ names.0.now ∷ names.1.now ∷ []) }
+    ensures none { IfNone result ((first other : List ℕ) →
+        octets_of_words words.now ≡ word.now ∷ first ∷ other ∷ [] → ⊥) }
+{
+    match words {
+        [first, name, other] => {
+            if first.as_str() == word {
+                return Some((name.as_str(), other.as_str()));
+            }
+            None
+        }
+        _ => None,
+    }
+}
+
 /// Whether there is one word, and it is this one.
 pub fn only_word(words: &[String], word: &str) -> bool
     ensures { IsTrue result ↔ (octets_of_words words.now ≡ word.now ∷ []) }

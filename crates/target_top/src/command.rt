@@ -2,7 +2,7 @@ ghost use Rattle.std.specs.Prelude.{IfSome, IfNone};
 ghost use Rattle.target_top.specs.Commands.{Gives, GivesNone, octets_of_words};
 ghost use Rattle.target_top.specs.inner.ParsedCommand.{command_parsed};
 
-use crate::arguments::{name_behind, name_with_limits, only_word};
+use crate::arguments::{name_behind, name_with_limits, only_word, two_names_behind};
 use base_kinds::Limits;
 
 /// What the words of a run ask for.
@@ -12,6 +12,7 @@ pub enum Command<'a> {
     Script { schema: &'a str, limits: Limits },
     Init { journal: &'a str, limits: Limits },
     Log { journal: &'a str },
+    Session { schema: &'a str, journal: &'a str },
     Help,
     Version,
 }
@@ -33,6 +34,9 @@ pub fn command_of(words: &[String]) -> Option<Command<'_>>
     }
     if let Some(journal) = name_behind(words, "log") {
         return Some(Command::Log { journal });
+    }
+    if let Some((schema, journal)) = two_names_behind(words, "session") {
+        return Some(Command::Session { schema, journal });
     }
     if only_word(words, "--help") {
         return Some(Command::Help);

@@ -7,12 +7,15 @@ pub enum Ending {
     NoMemory,
     BadWords,
     NoSchema,
+    /// The tree of the journal doesn't keep to the schema.
+    SchemaUnfit,
     JournalNotEmpty,
     JournalDamaged,
     DiskFault,
     InputFault,
     OutputFault,
     BadLine,
+    ConnectionBroken,
 }
 
 impl Ending {
@@ -27,12 +30,14 @@ impl Ending {
             Ending::NoMemory => 1,
             Ending::BadWords => 2,
             Ending::NoSchema => 3,
+            Ending::SchemaUnfit => 3,
             Ending::JournalNotEmpty => 4,
             Ending::JournalDamaged => 4,
             Ending::DiskFault => 5,
             Ending::InputFault => 6,
             Ending::OutputFault => 7,
             Ending::BadLine => 9,
+            Ending::ConnectionBroken => 10,
         }
     }
 }

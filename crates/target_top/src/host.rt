@@ -1,6 +1,7 @@
 use crate::files::Files;
 use edge_traits::{Sink, Source};
 use std::marker::Model;
+use time_traits::Clock;
 
 /// The kinds of objects of the environment that a run is handed.
 pub trait Kit {
@@ -9,6 +10,8 @@ pub trait Kit {
     type Input: Source + Drop;
 
     type Output: Sink + Drop;
+
+    type Clock: Clock + Drop;
 }
 
 /// The objects of the environment that a run is handed, and hands back at its end.
@@ -17,6 +20,7 @@ pub struct Host<K: Kit> {
     pub files: K::Files,
     pub input: K::Input,
     pub output: K::Output,
+    pub clock: K::Clock,
 }
 
 impl<K: Kit> Model for Host<K> {
@@ -28,5 +32,6 @@ impl<K: Kit> Model for Host<K> {
       files = K.Files.seen h.files;
       input = K.Input.seen h.input;
       output = K.Output.seen h.output;
+      clock = K.Clock.readings h.clock;
     } };
 }

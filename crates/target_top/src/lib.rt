@@ -1,4 +1,4 @@
-//! The program as one call, `run`, over the objects of the environment that it is handed: files, an input and an output.
+//! The program as one call, `run`, over the objects of the environment that it is handed: files, an input, an output and a clock.
 //! Start at `run` (program.rt) and specs/Run.antt, which says what every run is; one page of specs/ a command.
 //! What is seen of the environment is in specs/Environment.antt. `MemFiles` are files in memory, for tests.
 #![tactic(auto)]
@@ -6,6 +6,7 @@
 mod arguments;
 mod check_command;
 mod command;
+mod command_end;
 mod ending;
 mod files;
 mod files_record;
@@ -19,6 +20,7 @@ mod printing;
 mod program;
 mod schema_file;
 mod script_command;
+mod session_command;
 
 pub use ending::Ending;
 pub use files::{DiskFile, Files, MemFiles};

@@ -1,5 +1,6 @@
 ghost use Rattle.std.specs.Prelude.{◌≡◌, IfOk, IfErr};
 ghost use Rattle.target_top.specs.SchemaFile.{UnderSchema, fault_line};
+ghost use Rattle.target_top.specs.SchemaGiven.{SchemaGives};
 ghost use Rattle.target_top.specs.inner.OpenedSchema.{Opened};
 
 use crate::ending::Ending;
@@ -13,24 +14,49 @@ use schema_core::Schema;
 use schema_text::{SchemaError, SchemaFault, read_schema};
 use std::alloc::Global;
 
+/// Why a file gives no schema.
+#[derive(Clone, Copy, Debug, PartialEq, Eq)]
+pub enum SchemaFileError {
+    Unreadable,
+    /// Its text is none, with this first fault.
+    NoSchema(SchemaFault),
+    NoMemory,
+}
+
+/// The schema whose text is in the file with this name.
+pub fn schema_in_file<F: Files>(
+    alloc: Global,
+    name: &str,
+    files: &mut F,
+) -> Result<Schema, SchemaFileError>
+    ensures { SchemaGives name.now result (F.seen files.old) (F.seen files.new) }
+{
+    let text = match files.text(alloc, name) {
+        Ok(text) => text,
+        Err(ReadFault::Failed) => return Err(SchemaFileError::Unreadable),
+        Err(ReadFault::NoMemory) => return Err(SchemaFileError::NoMemory),
+    };
+    match read_schema(alloc, text.items()) {
+        Ok(schema) => Ok(schema),
+        Err(SchemaError::Fault(fault)) => Err(SchemaFileError::NoSchema(fault)),
+        Err(SchemaError::NoMemory) => Err(SchemaFileError::NoMemory),
+    }
+}
+
 /// Reads the schema whose text is in the file with this name, or says why there is none.
 pub fn open_schema<K: Kit>(alloc: Global, name: &str, host: &mut Host<K>) -> Result<Schema, Ending>
     ensures opened { IfOk result (λ schema. Opened name.now schema host.old host.new) }
     ensures stopped { IfErr result (λ ending.
         UnderSchema name.now host.old host.new ending (λ _. ⊥)) }
 {
-    let text = match host.files.text(alloc, name) {
-        Ok(text) => text,
-        Err(ReadFault::Failed) => return Err(input_fault(&mut host.output)),
-        Err(ReadFault::NoMemory) => return Err(out_of_memory(&mut host.output)),
-    };
-    match read_schema(alloc, text.items()) {
+    match schema_in_file(alloc, name, &mut host.files) {
         Ok(schema) => Ok(schema),
-        Err(SchemaError::Fault(fault)) => match fault_line(alloc, fault) {
+        Err(SchemaFileError::Unreadable) => Err(input_fault(&mut host.output)),
+        Err(SchemaFileError::NoSchema(fault)) => match fault_line(alloc, fault) {
             Ok(line) => Err(print(line.items(), Ending::NoSchema, &mut host.output)),
             Err(_) => Err(out_of_memory(&mut host.output)),
         },
-        Err(SchemaError::NoMemory) => Err(out_of_memory(&mut host.output)),
+        Err(SchemaFileError::NoMemory) => Err(out_of_memory(&mut host.output)),
     }
 }
 

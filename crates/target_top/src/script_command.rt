@@ -9,7 +9,7 @@ use crate::schema_file::open_schema;
 use base_kinds::{Limits, MOST_SCRIPT_OCTETS};
 use edge_traits::{ReadFault, read_to_limit};
 use schema_core::Schema;
-use script_run::run_script;
+use script_run::{ScriptEnd, run_script};
 use std::alloc::Global;
 
 /// Runs a script under these limits and the schema whose text is in the file with this name.
@@ -37,17 +37,17 @@ fn run_lines<K: Kit>(alloc: Global, schema: Schema, limits: Limits, host: &mut H
     let Ok(transcript) = run_script(alloc, schema, limits, octets.items()) else {
         return out_of_memory(&mut host.output);
     };
-    let good = script_ending(transcript.is_whole);
+    let good = script_ending(transcript.ending);
     print(transcript.text.items(), good, &mut host.output)
 }
 
-/// How a script ends, by whether each of its lines was taken.
-fn script_ending(is_whole: bool) -> Ending
-    ensures { result ≡ script_ending is_whole }
+/// How a run ends whose script ends so.
+fn script_ending(ending: ScriptEnd) -> Ending
+    ensures { result ≡ script_ending ending }
 {
-    if is_whole {
-        Ending::Done
-    } else {
-        Ending::BadLine
+    match ending {
+        ScriptEnd::Whole => Ending::Done,
+        ScriptEnd::Refused => Ending::BadLine,
+        ScriptEnd::DiskFault => Ending::DiskFault,
     }
 }

@@ -8,7 +8,9 @@ use Rattle.schema_text.specs.Schemas.{schema_of}
 use Rattle.script_text.specs.declared.line.Line.{Line}
 use Rattle.script_text.specs.Lines.{lines_of}
 use Rattle.script_run.specs.ScriptOctets.{is_too_long}
+use Rattle.script_run.specs.laws.ScriptLaws.{LetRun}
 use Rattle.script_run.specs.laws.ScriptTexts.{AreScriptLines, whole_text}
+use Rattle.session_core.specs.declared.how.How.{How}
 use Rattle.target_top.specs.declared.ending.Ending.TheVariants.{Done, NoMemory}
 use Rattle.target_top.specs.Ending.{exit_status}
 use Rattle.target_top.specs.Environment.{Environment, SeenDisk, GaveText}
@@ -16,7 +18,7 @@ use Rattle.target_top.specs.Commands.{IsScript}
 use Rattle.target_top.specs.Run.{Run}
 use Rattle.target_top.specs.laws.RunLaws.{NothingFailed, WroteAndEnded}
 
--- This script was read; and where it is within its limit and its lines are these, their answers and the log were written, and
+-- This script was read; and where it is within its limit and its lines are these, none of which lets the disk stop, their answers and the log were written, and
 -- the run ended with 0.
 pub record RanLines
     (schema : List SchemaNode) (limits : Limits) (before after : Environment) (status : ℕ)
@@ -24,7 +26,7 @@ pub record RanLines
   pub script : List ℕ
   pub read : ReadsToLimit most_script_octets script before.input after.input
   pub wrote : (lines : List Line) →
-      is_too_long script ≡ false → AreScriptLines (lines_of script) lines →
+      is_too_long script ≡ false → AreScriptLines (lines_of script) lines → LetRun lines →
       WroteAndEnded (whole_text schema limits lines) (exit_status Done)
       before.output after.output status
 
@@ -32,8 +34,8 @@ pub record RanLines
 abbrev pub CompletesGoodScripts : Type 0
 CompletesGoodScripts =
     (words : List (List ℕ)) (name : List ℕ) (limits : Limits) (before after : Environment)
-    (returned : Option SeenDisk) (status : ℕ) →
-    IsScript words name limits → Run words before after returned status →
+    (returned : Option SeenDisk) (how : Option How) (status : ℕ) →
+    IsScript words name limits → Run words before after returned how status →
     NothingFailed before after returned →
     (status ≡ exit_status NoMemory)
     ⊎ ((text : List ℕ) × GaveText name text before.files after.files

@@ -2,9 +2,12 @@
 use Rattle.std.specs.Prelude.{◌≡◌, ℕ, List, ◌++◌, Option, Some}
 use Rattle.edge_traits.specs.Input.{Input, unread_input}
 use Rattle.edge_traits.specs.Output.{Output, Wrote, unwritten_output}
+use Rattle.session_core.specs.declared.how.How.{How}
 use Rattle.target_top.specs.declared.ending.Ending.TheVariants.{NoMemory}
 use Rattle.target_top.specs.Ending.{exit_status}
 use Rattle.target_top.specs.Environment.{Environment, SeenDisk, unread_files, texts_of}
+use Rattle.script_run.specs.laws.ScriptLaws.{HaveNoStops}
+use Rattle.target_top.specs.Commands.{IsNoSession}
 use Rattle.target_top.specs.Run.{Run}
 use Rattle.target_top.specs.laws.RunLaws.{NothingFailed}
 use Rattle.target_top.specs.laws.WordLaws.{AreDecided}
@@ -36,8 +39,8 @@ pub record IsInputOf (octets : List ℕ) (input : Input) : Type 0 where
 abbrev pub LosesNoOctet : Type 0
 LosesNoOctet =
     (words : List (List ℕ)) (octets : List ℕ) (before after : Environment)
-    (returned : Option SeenDisk) (status : ℕ) →
-    AreDecided words → Run words before after returned status →
+    (returned : Option SeenDisk) (how : Option How) (status : ℕ) →
+    AreDecided words → Run words before after returned how status →
     IsInputOf octets before.input → IsInputOf octets after.input
 
 -- the run ended with this status, nothing failed and memory was there
@@ -53,12 +56,15 @@ pub record WroteAlike (one other : Output) (status status' : ℕ) : Type 0 where
   pub second : Wrote text unwritten_output other
   pub statuses : status ≡ status'
 
--- two runs with the same words over fresh and equal objects in memory, which both go well, write the same
+-- Two runs with the same words over fresh and equal objects in memory, which both go well, write the same, where no line of the
+-- input is one of a script that lets its disk stop. The words are no session's: what that answers stands on its clock and on the
+-- memory that each call finds.
 abbrev pub RunsAlike : Type 0
 RunsAlike =
     (words : List (List ℕ)) (memory : Memory) (a b c d : Environment)
-    (returned returned' : Option SeenDisk) (status status' : ℕ) →
-    AreDecided words → IsFreshMemory memory a → IsFreshMemory memory c →
-    Run words a b returned status → Run words c d returned' status' →
+    (returned returned' : Option SeenDisk) (how how' : Option How) (status status' : ℕ) →
+    AreDecided words → IsNoSession words → HaveNoStops memory.octets →
+    IsFreshMemory memory a → IsFreshMemory memory c →
+    Run words a b returned how status → Run words c d returned' how' status' →
     WentWell a b returned status → WentWell c d returned' status' →
     WroteAlike b.output d.output status status'

@@ -1,5 +1,5 @@
 -- What follows of runs in which nothing fails: each ends as its command says, unless memory is wanting.
-use Rattle.std.specs.Prelude.{◌≡◌, ℕ, List, ◌≢◌, [], ◌⊎◌, codes, Bool, Option, Some, IfSome, Result, Ok, Err}
+use Rattle.std.specs.Prelude.{◌≡◌, ℕ, List, ◌≢◌, [], ◌⊎◌, codes, Option, Some, IfSome, Result, Ok, Err}
 use Rattle.edge_traits.specs.Input.{ReadsToLimit}
 use Rattle.edge_traits.specs.Output.{Output, Wrote}
 use Rattle.base_kinds.specs.declared.entry.Entry.{Entry}
@@ -12,7 +12,10 @@ use Rattle.disk_model.specs.Content.{WhereTold, Tells}
 use Rattle.journal_format.specs.Journal.{IsJournal, IsDamaged}
 use Rattle.commit_journal.specs.Writes.{Creates}
 use Rattle.commit_report.specs.Logs.{log_text}
+use Rattle.script_run.specs.declared.run.ScriptEnd.{ScriptEnd}
 use Rattle.script_run.specs.Scripts.{RunsScript}
+use Rattle.script_run.specs.laws.ScriptLaws.{HaveNoStops}
+use Rattle.session_core.specs.declared.how.How.{How}
 use Rattle.target_top.specs.declared.ending.Ending.TheVariants.{Done, NoMemory, NoSchema}
 use Rattle.target_top.specs.declared.ending.Ending.TheVariants.{JournalNotEmpty, JournalDamaged}
 use Rattle.target_top.specs.Ending.{exit_status}
@@ -47,8 +50,8 @@ CheckedAs (Err fault) old new status =
 abbrev pub CompletesChecks : Type 0
 CompletesChecks =
     (words : List (List ℕ)) (name : List ℕ) (before after : Environment)
-    (returned : Option SeenDisk) (status : ℕ) →
-    IsCheck words name → Run words before after returned status →
+    (returned : Option SeenDisk) (how : Option How) (status : ℕ) →
+    IsCheck words name → Run words before after returned how status →
     NothingFailed before after returned →
     (status ≡ exit_status NoMemory)
     ⊎ ((text : List ℕ) × GaveText name text before.files after.files
@@ -59,9 +62,9 @@ pub record WroteAnswers
     (schema : List SchemaNode) (limits : Limits) (script : List ℕ) (old new : Output)
     (status : ℕ) : Type 0 where
   pub answers : List ℕ
-  pub is_whole : Bool
-  pub runs : RunsScript schema limits script answers is_whole
-  pub written : WroteAndEnded answers (exit_status (script_ending is_whole)) old new status
+  pub script_end : ScriptEnd
+  pub runs : RunsScript schema limits script answers script_end
+  pub written : WroteAndEnded answers (exit_status (script_ending script_end)) old new status
 
 -- what a script's run does by a text read as a schema
 abbrev pub RanAs : Result (List SchemaNode) SchemaFault → Limits → Environment → Environment → ℕ →
@@ -76,8 +79,8 @@ RanAs (Err fault) limits before after status =
 abbrev pub CompletesScripts : Type 0
 CompletesScripts =
     (words : List (List ℕ)) (name : List ℕ) (limits : Limits) (before after : Environment)
-    (returned : Option SeenDisk) (status : ℕ) →
-    IsScript words name limits → Run words before after returned status →
+    (returned : Option SeenDisk) (how : Option How) (status : ℕ) →
+    IsScript words name limits → Run words before after returned how status →
     NothingFailed before after returned →
     (status ≡ exit_status NoMemory)
     ⊎ ((text : List ℕ) × GaveText name text before.files after.files
@@ -95,8 +98,8 @@ PreparedAs limits initial final old new status =
 abbrev pub CompletesInits : Type 0
 CompletesInits =
     (words : List (List ℕ)) (name : List ℕ) (limits : Limits) (before after : Environment)
-    (returned : Option SeenDisk) (status : ℕ) →
-    IsInit words name limits → Run words before after returned status →
+    (returned : Option SeenDisk) (how : Option How) (status : ℕ) →
+    IsInit words name limits → Run words before after returned how status →
     NothingFailed before after returned →
     (status ≡ exit_status NoMemory)
     ⊎ ((initial : SeenDisk) × (final : SeenDisk)
@@ -117,8 +120,8 @@ ListedAs initial old new status =
 abbrev pub CompletesLogs : Type 0
 CompletesLogs =
     (words : List (List ℕ)) (name : List ℕ) (before after : Environment)
-    (returned : Option SeenDisk) (status : ℕ) →
-    IsLog words name → Run words before after returned status →
+    (returned : Option SeenDisk) (how : Option How) (status : ℕ) →
+    IsLog words name → Run words before after returned how status →
     NothingFailed before after returned →
     (status ≡ exit_status NoMemory)
     ⊎ ((initial : SeenDisk) × (final : SeenDisk)
@@ -135,11 +138,12 @@ AnswersWhole =
     WroteAnswers schema limits script before.output after.output status →
     WroteAnswers schema limits all before.output after.output status
 
--- two runs under one schema and limits that answer one script write the same, and end with one status
+-- two runs under one schema and limits that answer one script, of which no line lets the disk stop, write the same, and end
+-- with one status
 abbrev pub WritesTheSame : Type 0
 WritesTheSame =
     (schema : List SchemaNode) (limits : Limits) (script : List ℕ) (a b c d : Output)
-    (status other : ℕ) →
+    (status other : ℕ) → HaveNoStops script →
     (first : WroteAnswers schema limits script a b status) →
     (second : WroteAnswers schema limits script c d other) →
     (first.answers ≡ second.answers) × (status ≡ other)

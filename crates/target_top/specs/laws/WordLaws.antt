@@ -1,5 +1,6 @@
 -- What the words of a run decide.
 use Rattle.std.specs.Prelude.{◌≡◌, ℕ, List, ◌⊎◌, codes, Option}
+use Rattle.session_core.specs.declared.how.How.{How}
 use Rattle.target_top.specs.declared.ending.Ending.TheVariants.{Done, BadWords}
 use Rattle.target_top.specs.Ending.{exit_status}
 use Rattle.target_top.specs.Environment.{Environment, SeenDisk}
@@ -22,8 +23,8 @@ GiveOneCommand =
 abbrev pub CompletesAlone : Command → List ℕ → Type 0
 CompletesAlone command text =
     (words : List (List ℕ)) (before after : Environment)
-    (returned : Option SeenDisk) (status : ℕ) →
-    Gives words command → Run words before after returned status →
+    (returned : Option SeenDisk) (how : Option How) (status : ℕ) →
+    Gives words command → Run words before after returned how status →
     NothingFailed before after returned →
     WroteAndEnded text (exit_status Done) before.output after.output status
 
@@ -37,7 +38,7 @@ CompletesVersion = CompletesAlone Version version_text
 abbrev pub CompletesRefusals : Type 0
 CompletesRefusals =
     (words : List (List ℕ)) (before after : Environment)
-    (returned : Option SeenDisk) (status : ℕ) →
-    GivesNone words → Run words before after returned status →
+    (returned : Option SeenDisk) (how : Option How) (status : ℕ) →
+    GivesNone words → Run words before after returned how status →
     NothingFailed before after returned →
     WroteAndEnded (codes "bad words\n") (exit_status BadWords) before.output after.output status

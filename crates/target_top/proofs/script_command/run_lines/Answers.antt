@@ -13,8 +13,8 @@ returns-clause-lines g c =
     let new = seen c.print.new.output in
     let schema = c.args.schema in
     let text = c.in-Ok-run_script.transcript.text in
-    let is_whole = c.in-Ok-run_script.transcript.is_whole in
-    let runs = subst (λ octets. RunsScript schema c.args.limits octets text is_whole) c.items.ensures c.in-Ok-run_script.ensures in
+    let script_end = c.in-Ok-run_script.transcript.ending in
+    let runs = subst (λ octets. RunsScript schema c.args.limits octets text script_end) c.items.ensures c.in-Ok-run_script.ensures in
     let by_ending = subst (λ (good : Ending). PrintsText c.items-2.result.now good old new c.print.result) c.script_ending-good.ensures c.print.ensures in
-    let output = subst (λ t. PrintsText t (script_ending is_whole) old new c.print.result) c.items-2.ensures by_ending in
-    rw (← c.host.view_is) (answered c.args.limits _ _ c.print.result schema c.in-Ok.octets text is_whole c.in-Ok.ensures.ok runs output)
+    let output = subst (λ t. PrintsText t (script_ending script_end) old new c.print.result) c.items-2.ensures by_ending in
+    rw (← c.host.view_is) (answered c.args.limits _ _ c.print.result schema c.in-Ok.octets text script_end c.in-Ok.ensures.ok runs output)

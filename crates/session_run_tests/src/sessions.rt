@@ -1,0 +1,141 @@
+use crate::edges::{EMPTY_JOURNAL, End, Given, run_with, without_faults};
+use memory_disks::NO_STOP;
+use session_core::How;
+use std::alloc::Global;
+use std::process::Abort;
+use std::test::Fail;
+
+/// A schema of three modules and 17 nodes.
+const SCHEMA: &[u8] =
+    b"module openconfig-system\ncontainer /system\ncontainer /system/config\nleaf /system/config/hostname string\nleaf /system/config/motd string\nmodule openconfig-interfaces\ncontainer /interfaces\nlist /interfaces/interface name\nleaf /interfaces/interface/name string\ncontainer /interfaces/interface/config\nleaf /interfaces/interface/config/mtu uint16\nleaf /interfaces/interface/config/description string\nleaf /interfaces/interface/config/enabled bool\nmodule lab\ncontainer /lab\nleaf /lab/big uint64\nleaf /lab/rate dec2\nleaf /lab/blob binary\nleaf-list /lab/tags string\nleaf /lab/via string ref /interfaces/interface/name\n";
+
+/// The preface, SETTINGS, WINDOW_UPDATE, the headers of a Set on stream 1, its message of an mtu of 1500, and GOAWAY.
+const SET: &[u8] = b"PRI * HTTP/2.0\r\n\r\nSM\r\n\r\n\
+    \0\0\0\x04\0\0\0\0\0\
+    \0\0\x04\x08\0\0\0\0\0\0\x01\0\0\
+    \0\0\x4a\x01\x04\0\0\0\x01\
+    \x83\x86\x04\x0e/gnmi.gNMI/Set\x01\x01x\x0f\x10\x10application/grpc\
+    \0\x02te\x08trailers\x0f\x2b\x01g\0\x0cgrpc-timeout\x025S\
+    \0\0\x48\0\x01\0\0\0\x01\0\0\0\0\x43\x22\x41\x0a\x3a\
+    \x1a\x0c\x0a\x0ainterfaces\x1a\x19\x0a\x09interface\x12\x0c\x0a\x04name\x12\x04eth0\
+    \x1a\x08\x0a\x06config\x1a\x05\x0a\x03mtu\x1a\x03\x18\xdc\x0b\
+    \0\0\x08\x07\0\0\0\0\0\0\0\0\0\0\0\0\0";
+
+/// The greeting, the ACK of SETTINGS, WINDOW_UPDATE, the headers of the reply, its message with the stamp 1000, and trailers.
+const REPLY: &[u8] = b"\0\0\x0c\x04\0\0\0\0\0\0\x03\0\0\0\x20\0\x06\0\0\x40\0\
+    \0\0\0\x04\x01\0\0\0\0\
+    \0\0\x04\x08\0\0\0\0\0\0\0\0\x48\
+    \0\0\x14\x01\x04\0\0\0\x01\x88\x0f\x10\x10application/grpc\
+    \0\0\x48\0\0\0\0\0\x01\0\0\0\0\x43\x12\x3e\x12\x3a\
+    \x1a\x0c\x0a\x0ainterfaces\x1a\x19\x0a\x09interface\x12\x0c\x0a\x04name\x12\x04eth0\
+    \x1a\x08\x0a\x06config\x1a\x05\x0a\x03mtu\x20\x03\x20\xe8\x07\
+    \0\0\x0f\x01\x05\0\0\0\x01\0\x0bgrpc-status\x010";
+
+/// The log of that Set.
+const LOG: &[u8] =
+    b"1 1000 1 apply\n  update /interfaces/interface[name=eth0]/config/mtu\n    /interfaces/interface[name=eth0]/config/mtu 1500\n    /interfaces/interface[name=eth0]/name \"eth0\"\n";
+
+fn ended(end: &End, status: u8, how: Option<How>, written: &[u8]) -> bool {
+    end.status == status && end.how == how && end.output.octets() == written
+}
+
+#[test]
+fn a_session_answers_a_set_and_leaves_it_in_the_journal(rt: HostRuntime) -> Result<(), Fail> {
+    let alloc = rt.alloc();
+    let end = run_with(&rt, alloc, "session S J", &without_faults(SCHEMA, SET));
+    assert!(rt; ended(&end, 0, Some(How::Closed), REPLY));
+    let left = Given {
+        journal: end.held.items(),
+        ..without_faults(SCHEMA, b"")
+    };
+    let log = run_with(&rt, alloc, "log J", &left);
+    assert!(rt; ended(&log, 0, None, LOG));
+    Ok(())
+}
+
+/// The schema, the journal's octets, the input, whether the output fails, and how the run ends: its status, how the connection
+/// ended, and how many octets of the reply were written.
+type Row = (
+    &'static [u8],
+    &'static [u8],
+    &'static [u8],
+    bool,
+    u8,
+    Option<How>,
+    usize,
+);
+
+/// A text that is no schema.
+const NO_SCHEMA: &[u8] = b"module m\nleaf /a/b string\n";
+
+const TABLE: &[Row] = &[
+    (SCHEMA, EMPTY_JOURNAL, SET, false, 0, Some(How::Closed), 177),
+    (SCHEMA, EMPTY_JOURNAL, b"", false, 10, Some(How::Cut), 21),
+    (
+        SCHEMA,
+        EMPTY_JOURNAL,
+        SET,
+        true,
+        7,
+        Some(How::WriteFault),
+        0,
+    ),
+    (NO_SCHEMA, EMPTY_JOURNAL, SET, false, 3, None, 0),
+    (SCHEMA, b"", SET, false, 4, None, 0),
+    (SCHEMA, b"GNMI", SET, false, 4, None, 0),
+];
+
+fn row_holds(rt: &impl Abort, alloc: Global, row: &Row) -> bool {
+    let (schema, journal, input, write_fails, status, how, written) = *row;
+    let given = Given {
+        schema,
+        journal,
+        input,
+        write_fails,
+        passes: NO_STOP,
+    };
+    let end = run_with(rt, alloc, "session S J", &given);
+    written <= REPLY.len() && ended(&end, status, how, &REPLY[..written])
+}
+
+#[test]
+fn a_session_ends_by_its_cause_and_writes_nothing_else(rt: HostRuntime) -> Result<(), Fail> {
+    let alloc = rt.alloc();
+    for row in TABLE.iter() {
+        assert!(rt; row_holds(&rt, alloc, row), "status {}", row.4);
+    }
+    Ok(())
+}
+
+#[test]
+fn a_cut_session_has_answered_what_was_whole(rt: HostRuntime) -> Result<(), Fail> {
+    let alloc = rt.alloc();
+    let cut = run_with(
+        &rt,
+        alloc,
+        "session S J",
+        &without_faults(SCHEMA, &SET[..226]),
+    );
+    assert!(rt; ended(&cut, 10, Some(How::Cut), REPLY));
+    let unfit = Given {
+        journal: cut.held.items(),
+        ..without_faults(b"", SET)
+    };
+    let refused = run_with(&rt, alloc, "session S J", &unfit);
+    assert!(rt; ended(&refused, 3, None, b""));
+    Ok(())
+}
+
+#[test]
+fn a_disk_that_stops_ends_the_opening(rt: HostRuntime) -> Result<(), Fail> {
+    let alloc = rt.alloc();
+    for passes in 0..3 {
+        let stopped = Given {
+            passes,
+            ..without_faults(SCHEMA, SET)
+        };
+        let end = run_with(&rt, alloc, "session S J", &stopped);
+        assert!(rt; ended(&end, 5, None, b""), "behind {passes} calls");
+    }
+    Ok(())
+}
