@@ -1,0 +1,5 @@
+pub mod Draws
+pub mod Schemas
+pub mod Messages
+pub mod Connections
+pub mod worked
