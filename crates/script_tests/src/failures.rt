@@ -1,4 +1,5 @@
-use crate::scripts::{LIMITS, is_whole, run};
+use crate::scripts::{LIMITS, joined, prints};
+use script_run::ScriptEnd;
 use std::alloc::Global;
 use std::process::Abort;
 use std::test::Fail;
@@ -6,16 +7,18 @@ use std::test::Fail;
 /// A script in which the line `fail K` stands for each K from the first to the last one, and what it prints.
 type Row = (&'static str, &'static str, u64, u64, &'static str);
 
-/// What the script prints that has this number of calls between its two parts.
-fn assert_printed(rt: &impl Abort, alloc: Global, row: &Row, calls: &str) {
+/// Whether the script prints it that has this number of calls between its two parts, and each of its lines is taken.
+fn row_prints(rt: &impl Abort, alloc: Global, row: &Row, calls: &str) -> bool {
     let (before, after, _, _, printed) = *row;
-    let mut script = String::from_str(alloc, before).expect(rt, "memory");
-    script.push_str("fail ").expect(rt, "memory");
-    script.push_str(calls).expect(rt, "memory");
-    script.push_str(after).expect(rt, "memory");
-    let transcript = run(rt, alloc, LIMITS, script.as_bytes());
-    assert_eq!(rt; transcript.text.items(), printed.as_bytes(), "of {script}");
-    assert_eq!(rt; is_whole(&transcript), true, "of {script}");
+    let script = joined(rt, alloc, &[before, "fail ", calls, after]);
+    prints(
+        rt,
+        alloc,
+        LIMITS,
+        script.as_bytes(),
+        printed,
+        ScriptEnd::Whole,
+    )
 }
 
 fn assert_each(rt: &impl Abort, alloc: Global, rows: &[Row]) {
@@ -23,7 +26,7 @@ fn assert_each(rt: &impl Abort, alloc: Global, rows: &[Row]) {
         for (number, calls) in CALLS.iter().enumerate() {
             let number = number as u64;
             if row.2 <= number && number <= row.3 {
-                assert_printed(rt, alloc, row, calls);
+                assert!(rt; row_prints(rt, alloc, row, calls), "fail {calls}");
             }
         }
     }
@@ -211,8 +214,15 @@ fn a_failed_set_leaves_room_for_the_next(rt: HostRuntime) -> Result<(), Fail> {
         "at 1000\nupdate /system/config/hostname \"a\"\nfail 2\nset 1\nupdate /system/config/hostname \"b\"\nset 1\n";
     let printed =
         "refused 19 14\nok 1000\nlog\n1 1000 1 apply\n  update /system/config/hostname\n    /system/config/hostname \"b\"\n";
-    let transcript = run(&rt, alloc, LIMITS, script.as_bytes());
-    assert_eq!(rt; transcript.text.items(), printed.as_bytes());
-    assert_eq!(rt; is_whole(&transcript), true);
+    assert!(rt;
+        prints(
+            &rt,
+            alloc,
+            LIMITS,
+            script.as_bytes(),
+            printed,
+            ScriptEnd::Whole
+        )
+    );
     Ok(())
 }

@@ -86,40 +86,66 @@ const MADE: &[(&str, &[u8])] = &[
     ("init J 2 4096", b"GNMIJRN1\0\0\0\x02\0\0\x10\0\0"),
 ];
 
+/// Whether a run with these words over these octets, whose disk stops after so many calls, prints this, ends so, and leaves
+/// these octets on the disk.
+fn leaves(
+    rt: &impl Abort,
+    alloc: Global,
+    words: &str,
+    octets: &[u8],
+    passes: u64,
+    printed: &str,
+    status: u8,
+    left: &[u8],
+) -> bool {
+    let (ended, output, disk) = run_over(rt, alloc, words, octets, passes);
+    let held = held(rt, alloc, disk);
+    output.octets() == printed.as_bytes() && ended == status && held.items() == left
+}
+
 #[test]
 fn a_journal_is_made_on_an_empty_disk(rt: HostRuntime) {
     let alloc = rt.alloc();
     for (words, made) in MADE.iter().copied() {
-        let (ended, output, disk) = run_over(&rt, alloc, words, b"", NO_STOP);
-        assert_eq!(rt; output.octets(), b"journal ready\n".as_slice(), "{words}");
-        assert_eq!(rt; held(&rt, alloc, disk).items(), made, "{words}");
-        assert_eq!(rt; ended, 0, "{words}");
+        assert!(rt;
+            leaves(&rt, alloc, words, b"", NO_STOP, "journal ready\n", 0, made),
+            "{words}"
+        );
     }
-    let (ended, output, disk) = run_over(&rt, alloc, "init J", b"\0", NO_STOP);
-    assert_eq!(rt; output.octets(), b"journal not empty\n".as_slice());
-    assert_eq!(rt; held(&rt, alloc, disk).items(), b"\0".as_slice());
-    assert_eq!(rt; ended, 4);
+    let printed = "journal not empty\n";
+    assert!(rt; leaves(&rt, alloc, "init J", b"\0", NO_STOP, printed, 4, b"\0"));
+}
+
+/// Whether a run with these words over these octets, whose disk stops after so many calls, ends with a fault of the disk, which
+/// is given or not.
+fn ends_with_5(
+    rt: &impl Abort,
+    alloc: Global,
+    words: &str,
+    octets: &[u8],
+    passes: u64,
+    given: bool,
+) -> bool {
+    let (ended, output, disk) = run_over(rt, alloc, words, octets, passes);
+    output.octets() == b"disk fault\n" && ended == 5 && disk.is_some() == given
 }
 
 #[test]
 fn a_disk_that_fails_ends_with_5(rt: HostRuntime) {
     let alloc = rt.alloc();
     // A length, a write and a sync; a sync, a length and a read.
-    for (words, octets) in [("init J", b"".as_slice()), ("log J", JOURNAL)]
-        .iter()
-        .copied()
-    {
-        for passes in 0..3u64 {
-            let (ended, output, _disk) = run_over(&rt, alloc, words, octets, passes);
-            assert_eq!(rt; output.octets(), b"disk fault\n".as_slice(), "{words}");
-            assert_eq!(rt; ended, 5, "{words}, call {passes}");
-        }
+    for passes in 0..3u64 {
+        assert!(rt;
+            ends_with_5(&rt, alloc, "init J", b"", passes, true),
+            "init, call {passes}"
+        );
+        assert!(rt;
+            ends_with_5(&rt, alloc, "log J", JOURNAL, passes, true),
+            "log, call {passes}"
+        );
     }
-    for words in ["init K", "log K"].iter().copied() {
-        let (ended, output, disk) = run_over(&rt, alloc, words, b"", NO_STOP);
-        assert_eq!(rt; output.octets(), b"disk fault\n".as_slice(), "{words}");
-        assert_eq!(rt; (ended, disk.is_none()), (5, true), "{words}");
-    }
+    assert!(rt; ends_with_5(&rt, alloc, "init K", b"", NO_STOP, false));
+    assert!(rt; ends_with_5(&rt, alloc, "log K", b"", NO_STOP, false));
 }
 
 /// The octet at a place changed to another one, how many octets stand, what is printed, and the status.
@@ -133,20 +159,26 @@ const DISKS: &[(usize, u8, usize, &str, u8)] = &[
     (0, b'G', 0, "journal damaged at 0\n", 4),
 ];
 
+/// The journal with this octet at this place, cut to this length.
+fn changed(rt: &impl Abort, alloc: Global, place: usize, octet: u8, length: usize) -> Vec<u8> {
+    let mut octets = JOURNAL.to_vec(alloc).expect(rt, "memory");
+    if let Some(changed) = octets.get_mut(place) {
+        *changed = octet;
+    }
+    octets.truncate(length);
+    octets
+}
+
 #[test]
 fn the_log_of_a_journal_is_printed(rt: HostRuntime) {
     let alloc = rt.alloc();
     for (place, octet, length, printed, status) in DISKS.iter().copied() {
-        let mut octets = JOURNAL.to_vec(alloc).expect(&rt, "memory");
-        octets[place] = octet;
-        octets.truncate(length);
-        let (ended, output, disk) = run_over(&rt, alloc, "log J", octets.as_slice(), NO_STOP);
-        assert_eq!(rt; output.octets(), printed.as_bytes(), "{place} {length}");
-        assert_eq!(rt;
-            held(&rt, alloc, disk).items(),
-            octets.as_slice(),
+        let octets = changed(&rt, alloc, place, octet, length);
+        assert!(rt;
+            leaves(
+                &rt, alloc, "log J", &octets, NO_STOP, printed, status, &octets
+            ),
             "{place} {length}"
         );
-        assert_eq!(rt; ended, status, "{place} {length}");
     }
 }

@@ -49,7 +49,10 @@ fn sample(
 
 /// The line is read as this one. (A call a line costs its proof less than a table, which would have to be let go row by row.)
 fn assert_line(rt: &impl Abort, alloc: Global, octets: &str, meant: Line) {
-    assert_eq!(rt; read_line(alloc, octets.as_bytes()), Ok(meant), "{octets}");
+    assert!(rt;
+        read_line(alloc, octets.as_bytes()) == Ok(meant),
+        "{octets}"
+    );
 }
 
 #[test]
@@ -325,63 +328,64 @@ const REFUSED: &[&str] = &[
     "fail -",
 ];
 
+fn is_refused(alloc: Global, line: &[u8]) -> bool {
+    read_line(alloc, line) == Err(LineFault::NoLine)
+}
+
 #[test]
 fn other_lines_are_refused(rt: HostRuntime) {
     let alloc = rt.alloc();
     for line in REFUSED.iter().copied() {
-        assert_eq!(rt;
-            read_line(alloc, line.as_bytes()),
-            Err(LineFault::NoLine),
-            "{line}"
-        );
+        assert!(rt; is_refused(alloc, line.as_bytes()), "{line}");
     }
-    assert_eq!(rt; read_line(alloc, b"at \xff"), Err(LineFault::NoLine));
+    assert!(rt; is_refused(alloc, b"at \xff"));
+}
+
+/// A front, what stands behind it so many times, and whether all is no line.
+const LONG: &[(&str, &str, usize, bool)] = &[
+    ("update /a ", "x", 1_048_566, false),
+    ("update /a ", "x", 1_048_567, true),
+    ("turn a", "n", 63, false),
+    ("turn a", "n", 64, true),
+    ("get 1 ", "/a", 40, false),
+];
+
+fn repeated(rt: &impl Abort, alloc: Global, front: &str, middle: &str, times: usize) -> Vec<u8> {
+    let mut line = Vec::new(alloc);
+    line.extend_from_slice(front.as_bytes())
+        .expect(rt, "memory");
+    for _ in 0..times {
+        line.extend_from_slice(middle.as_bytes())
+            .expect(rt, "memory");
+    }
+    line
 }
 
 #[test]
 fn the_longest_line_and_name(rt: HostRuntime) {
     let alloc = rt.alloc();
-    for (front, middle, times, fault) in [
-        ("update /a ", "x", 1_048_566, None),
-        ("update /a ", "x", 1_048_567, Some(LineFault::NoLine)),
-        ("turn a", "n", 63, None),
-        ("turn a", "n", 64, Some(LineFault::NoLine)),
-        ("get 1 ", "/a", 40, None),
-    ]
-    .iter()
-    .copied()
-    {
-        let mut line = Vec::new(alloc);
-        line.extend_from_slice(front.as_bytes())
-            .expect(&rt, "memory");
-        for _ in 0..times {
-            line.extend_from_slice(middle.as_bytes())
-                .expect(&rt, "memory");
-        }
-        assert_eq!(rt;
-            read_line(alloc, &line).err(),
-            fault,
+    for (front, middle, times, refused) in LONG.iter().copied() {
+        let line = repeated(&rt, alloc, front, middle, times);
+        assert!(rt;
+            is_refused(alloc, &line) == refused,
             "{front}{middle} x {times}"
         );
     }
 }
 
+/// A text, its first line, and what is behind that.
+const TEXTS: &[(&str, &str, &str)] = &[
+    ("at 1\nset 1\n", "at 1", "set 1\n"),
+    ("set 1\n", "set 1", ""),
+    ("set 1", "set 1", ""),
+    ("\n\na", "", "\na"),
+];
+
 #[test]
 fn a_text_goes_line_by_line(rt: HostRuntime) {
-    for (text, line, rest) in [
-        ("at 1\nset 1\n", "at 1", "set 1\n"),
-        ("set 1\n", "set 1", ""),
-        ("set 1", "set 1", ""),
-        ("\n\na", "", "\na"),
-    ]
-    .iter()
-    .copied()
-    {
-        assert_eq!(rt;
-            next_line(text.as_bytes()),
-            Some((line.as_bytes(), rest.as_bytes())),
-            "{text}"
-        );
+    for (text, line, rest) in TEXTS.iter().copied() {
+        let next = next_line(text.as_bytes());
+        assert!(rt; next == Some((line.as_bytes(), rest.as_bytes())), "{text}");
     }
-    assert_eq!(rt; next_line(b""), None);
+    assert!(rt; next_line(b"").is_none());
 }

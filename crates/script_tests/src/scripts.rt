@@ -25,9 +25,47 @@ pub fn run(rt: &impl Abort, alloc: Global, limits: Limits, script: &[u8]) -> Tra
     panic!(rt; "limits that a log may have")
 }
 
-/// Whether each line of the script was taken.
-pub fn is_whole(transcript: &Transcript) -> bool {
-    transcript.ending == ScriptEnd::Whole
+/// Whether the script prints this under these limits, and ends so.
+pub fn prints(
+    rt: &impl Abort,
+    alloc: Global,
+    limits: Limits,
+    script: &[u8],
+    printed: &str,
+    ending: ScriptEnd,
+) -> bool {
+    let transcript = run(rt, alloc, limits, script);
+    transcript.text.items() == printed.as_bytes() && transcript.ending == ending
+}
+
+/// Whether what the script prints under these limits begins with this.
+pub fn begins_with(
+    rt: &impl Abort,
+    alloc: Global,
+    limits: Limits,
+    script: &[u8],
+    printed: &str,
+) -> bool {
+    let transcript = run(rt, alloc, limits, script);
+    transcript.text.items().starts_with(printed.as_bytes())
+}
+
+/// These texts, one after the other.
+pub fn joined(rt: &impl Abort, alloc: Global, texts: &[&str]) -> String {
+    let mut all = String::new(alloc);
+    for text in texts.iter().copied() {
+        all.push_str(text).expect(rt, "memory");
+    }
+    all
+}
+
+/// How a script ends whose lines are all taken, or not.
+fn ending_of(whole: bool) -> ScriptEnd {
+    if whole {
+        ScriptEnd::Whole
+    } else {
+        ScriptEnd::Refused
+    }
 }
 
 const SCRIPTS: &[(&str, &str, bool)] = &[
@@ -124,36 +162,53 @@ const SCRIPTS: &[(&str, &str, bool)] = &[
 fn scripts_print_the_answers_of_one_history_and_its_log(rt: HostRuntime) -> Result<(), Fail> {
     let alloc = rt.alloc();
     for (script, printed, whole) in SCRIPTS.iter().copied() {
-        let transcript = run(&rt, alloc, LIMITS, script.as_bytes());
-        assert_eq!(rt; transcript.text.items(), printed.as_bytes(), "of {script}");
-        assert_eq!(rt; is_whole(&transcript), whole, "of {script}");
+        let ending = ending_of(whole);
+        assert!(rt;
+            prints(&rt, alloc, LIMITS, script.as_bytes(), printed, ending),
+            "of {script}"
+        );
     }
     Ok(())
+}
+
+const REPLACE: &str =
+    "at 1000\nupdate /interfaces/interface[name=eth0]/config {\"mtu\":1500,\"description\":\"a\"}\nset 1\nreplace /interfaces/interface[name=eth0] {\"name\":\"eth0\",\"openconfig-interfaces:config\":{\"mtu\":9000}}\n";
+
+/// What comes behind it, and what all prints.
+const REPLACED: &[(&str, &str, bool)] = &[
+    (
+        "update /interfaces/interface[name=eth0]/config/description \"b\"\nset 1\nget 1 /interfaces\n",
+        "ok 1000\nok 1001\nrow /interfaces/interface[name=eth0]/config/description \"b\"\nrow /interfaces/interface[name=eth0]/config/mtu 9000\nrow /interfaces/interface[name=eth0]/name \"eth0\"\nstate 1001\nlog\n1 1000 1 apply\n  update /interfaces/interface[name=eth0]/config\n    /interfaces/interface[name=eth0]/config/description \"a\"\n    /interfaces/interface[name=eth0]/config/mtu 1500\n    /interfaces/interface[name=eth0]/name \"eth0\"\n2 1001 1 apply\n  replace /interfaces/interface[name=eth0]\n    /interfaces/interface[name=eth0]/config/mtu 9000\n    /interfaces/interface[name=eth0]/name \"eth0\"\n  update /interfaces/interface[name=eth0]/config/description\n    /interfaces/interface[name=eth0]/config/description \"b\"\n    /interfaces/interface[name=eth0]/name \"eth0\"\n",
+        true,
+    ),
+    (
+        "set 1\nget 1 /interfaces\n!",
+        "ok 1000\nok 1001\nrow /interfaces/interface[name=eth0]/config/mtu 9000\nrow /interfaces/interface[name=eth0]/name \"eth0\"\nstate 1001\nscript line 7 refused\n",
+        false,
+    ),
+];
+
+/// Whether these lines behind the replace print this.
+fn replace_prints(rt: &impl Abort, alloc: Global, rest: &str, printed: &str, whole: bool) -> bool {
+    let script = joined(rt, alloc, &[REPLACE, rest]);
+    prints(
+        rt,
+        alloc,
+        LIMITS,
+        script.as_bytes(),
+        printed,
+        ending_of(whole),
+    )
 }
 
 #[test]
 fn a_replace_leaves_only_its_own_rows(rt: HostRuntime) -> Result<(), Fail> {
     let alloc = rt.alloc();
-    let first =
-        "at 1000\nupdate /interfaces/interface[name=eth0]/config {\"mtu\":1500,\"description\":\"a\"}\nset 1\nreplace /interfaces/interface[name=eth0] {\"name\":\"eth0\",\"openconfig-interfaces:config\":{\"mtu\":9000}}\n";
-    let table = [
-        (
-            "update /interfaces/interface[name=eth0]/config/description \"b\"\nset 1\nget 1 /interfaces\n",
-            "ok 1000\nok 1001\nrow /interfaces/interface[name=eth0]/config/description \"b\"\nrow /interfaces/interface[name=eth0]/config/mtu 9000\nrow /interfaces/interface[name=eth0]/name \"eth0\"\nstate 1001\nlog\n1 1000 1 apply\n  update /interfaces/interface[name=eth0]/config\n    /interfaces/interface[name=eth0]/config/description \"a\"\n    /interfaces/interface[name=eth0]/config/mtu 1500\n    /interfaces/interface[name=eth0]/name \"eth0\"\n2 1001 1 apply\n  replace /interfaces/interface[name=eth0]\n    /interfaces/interface[name=eth0]/config/mtu 9000\n    /interfaces/interface[name=eth0]/name \"eth0\"\n  update /interfaces/interface[name=eth0]/config/description\n    /interfaces/interface[name=eth0]/config/description \"b\"\n    /interfaces/interface[name=eth0]/name \"eth0\"\n",
-            true,
-        ),
-        (
-            "set 1\nget 1 /interfaces\n!",
-            "ok 1000\nok 1001\nrow /interfaces/interface[name=eth0]/config/mtu 9000\nrow /interfaces/interface[name=eth0]/name \"eth0\"\nstate 1001\nscript line 7 refused\n",
-            false,
-        ),
-    ];
-    for (rest, printed, whole) in table.iter().copied() {
-        let mut script = String::from_str(alloc, first).expect(&rt, "memory");
-        script.push_str(rest).expect(&rt, "memory");
-        let transcript = run(&rt, alloc, LIMITS, script.as_bytes());
-        assert_eq!(rt; transcript.text.items(), printed.as_bytes(), "of {rest}");
-        assert_eq!(rt; is_whole(&transcript), whole, "of {rest}");
+    for (rest, printed, whole) in REPLACED.iter().copied() {
+        assert!(rt;
+            replace_prints(&rt, alloc, rest, printed, whole),
+            "of {rest}"
+        );
     }
     Ok(())
 }
@@ -178,32 +233,50 @@ pub fn long_hostname(
     script
 }
 
+/// Limits of a short log.
+pub const SHORT: Limits = Limits {
+    entries: 2,
+    octets: 4_096,
+};
+
+/// Limits, the octets of a hostname, and what a Set of it prints with a line behind it that is none.
+const LIMITED: &[(Limits, usize, &str)] = &[
+    (LIMITS, 316_644, "ok 1\nscript line 3 refused\n"),
+    (LIMITS, 316_645, "refused 17 8\nscript line 3 refused\n"),
+    (SHORT, 3_971, "ok 1\nscript line 3 refused\n"),
+    (SHORT, 3_972, "refused 18 8\nscript line 3 refused\n"),
+];
+
+fn hostname_prints(
+    rt: &impl Abort,
+    alloc: Global,
+    limits: Limits,
+    count: usize,
+    printed: &str,
+) -> bool {
+    let script = long_hostname(rt, alloc, count, "set 1\n", "!");
+    prints(
+        rt,
+        alloc,
+        limits,
+        script.as_bytes(),
+        printed,
+        ScriptEnd::Refused,
+    )
+}
+
 #[test]
 fn a_tree_and_a_log_have_limits(rt: HostRuntime) -> Result<(), Fail> {
     let alloc = rt.alloc();
-    let short = Limits {
-        entries: 2,
-        octets: 4_096,
-    };
-    let table = [
-        (LIMITS, 316_644, "ok 1\nscript line 3 refused\n"),
-        (LIMITS, 316_645, "refused 17 8\nscript line 3 refused\n"),
-        (short, 3_971, "ok 1\nscript line 3 refused\n"),
-        (short, 3_972, "refused 18 8\nscript line 3 refused\n"),
-    ];
-    for (limits, count, printed) in table.iter().copied() {
-        let script = long_hostname(&rt, alloc, count, "set 1\n", "!");
-        let transcript = run(&rt, alloc, limits, script.as_bytes());
-        assert_eq!(rt;
-            transcript.text.items(),
-            printed.as_bytes(),
+    for (limits, count, printed) in LIMITED.iter().copied() {
+        assert!(rt;
+            hostname_prints(&rt, alloc, limits, count, printed),
             "{count} octets"
         );
     }
-    let transcript = run(&rt, alloc, short, b"set 1\nset 1\nset 1\n");
     let printed = "ok 1\nok 2\nrefused 18 8\nlog\n1 1 1 apply\n2 2 1 apply\n";
-    assert_eq!(rt; transcript.text.items(), printed.as_bytes());
-    assert_eq!(rt; is_whole(&transcript), true);
+    let three = b"set 1\nset 1\nset 1\n";
+    assert!(rt; prints(&rt, alloc, SHORT, three, printed, ScriptEnd::Whole));
     Ok(())
 }
 
@@ -216,59 +289,62 @@ fn push_operation(rt: &impl Abort, script: &mut Vec<u8>, octets: usize) {
     script.push(b'\n').expect(rt, "memory");
 }
 
+/// The octets of a line, and what it prints.
+const LINES: &[(usize, &str)] = &[(1_048_576, "log\n"), (1_048_577, "script line 1 refused\n")];
+
+fn line_prints(rt: &impl Abort, alloc: Global, octets: usize, printed: &str) -> bool {
+    let mut script = Vec::new(alloc);
+    push_operation(rt, &mut script, octets);
+    begins_with(rt, alloc, LIMITS, &script, printed)
+}
+
 #[test]
 fn a_line_has_1_048_576_octets_at_most(rt: HostRuntime) -> Result<(), Fail> {
     let alloc = rt.alloc();
-    let table = [(1_048_576, "log\n"), (1_048_577, "script line 1 refused\n")];
-    for (octets, printed) in table.iter().copied() {
-        let mut script = Vec::new(alloc);
-        push_operation(&rt, &mut script, octets);
-        let transcript = run(&rt, alloc, LIMITS, &script);
-        assert_eq!(rt;
-            transcript.text.items(),
-            printed.as_bytes(),
-            "{octets} octets"
-        );
+    for (octets, printed) in LINES.iter().copied() {
+        assert!(rt; line_prints(&rt, alloc, octets, printed), "{octets} octets");
     }
     Ok(())
+}
+
+/// The octets of a last line, and what is printed of 63 lines of 1,048,576 octets, their line feeds counted, and this one: as
+/// many, or one octet more.
+const LAST_LINES: &[(usize, &str)] = &[
+    (1_048_575, "log\n"),
+    (1_048_576, "script line 64 refused\n"),
+];
+
+fn lines_print(rt: &impl Abort, alloc: Global, last: usize, printed: &str) -> bool {
+    let mut script = Vec::new(alloc);
+    for _ in 0..63 {
+        push_operation(rt, &mut script, 1_048_575);
+    }
+    push_operation(rt, &mut script, last);
+    begins_with(rt, alloc, LIMITS, &script, printed)
 }
 
 #[test]
 fn a_script_has_67_108_864_octets_at_most(rt: HostRuntime) -> Result<(), Fail> {
     let alloc = rt.alloc();
-    let mut line = Vec::new(alloc);
-    push_operation(&rt, &mut line, 1_048_575);
-    // 63 lines of 1,048,576 octets, their line feeds counted, and one more with as many, or with one octet more.
-    for (last, printed) in [
-        (1_048_575, "log\n"),
-        (1_048_576, "script line 64 refused\n"),
-    ]
-    .iter()
-    .copied()
-    {
-        let mut script = Vec::new(alloc);
-        for _ in 0..63 {
-            script.extend_from_slice(&line)?;
-        }
-        push_operation(&rt, &mut script, last);
-        let transcript = run(&rt, alloc, LIMITS, &script);
-        assert_eq!(rt;
-            transcript.text.items(),
-            printed.as_bytes(),
-            "{last} octets"
-        );
+    for (last, printed) in LAST_LINES.iter().copied() {
+        assert!(rt; lines_print(&rt, alloc, last, printed), "{last} octets");
     }
     Ok(())
+}
+
+/// A script of so many lines that print nothing.
+fn many_lines(rt: &impl Abort, alloc: Global, count: u32) -> Vec<u8> {
+    let mut script = Vec::new(alloc);
+    for _ in 0..count {
+        script.extend_from_slice(b"at 1\n").expect(rt, "memory");
+    }
+    script
 }
 
 #[test]
 fn a_script_may_have_many_lines(rt: HostRuntime) -> Result<(), Fail> {
     let alloc = rt.alloc();
-    let mut script = Vec::new(alloc);
-    for _ in 0..70_000 {
-        script.extend_from_slice(b"at 1\n")?;
-    }
-    let transcript = run(&rt, alloc, LIMITS, &script);
-    assert_eq!(rt; transcript.text.items(), b"log\n".as_slice());
+    let script = many_lines(&rt, alloc, 70_000);
+    assert!(rt; prints(&rt, alloc, LIMITS, &script, "log\n", ScriptEnd::Whole));
     Ok(())
 }

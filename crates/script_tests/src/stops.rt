@@ -1,4 +1,4 @@
-use crate::scripts::{LIMITS, run};
+use crate::scripts::{LIMITS, joined, prints};
 use script_run::ScriptEnd;
 use std::alloc::Global;
 use std::process::Abort;
@@ -78,31 +78,38 @@ impl Row {
     }
 }
 
-/// The script of this row with this line between its two parts prints this, and each of its lines is taken.
-fn assert_printed(
+/// Whether the script of this row with this line between its two parts prints this, and each of its lines is taken.
+fn row_prints(
     rt: &impl Abort,
     alloc: Global,
     row: &Row,
     calls: &str,
     fill: &str,
     printed: &str,
-) {
-    let mut script = String::from_str(alloc, row.before).expect(rt, "memory");
-    script.push_str("stop ").expect(rt, "memory");
-    script.push_str(calls).expect(rt, "memory");
-    script.push_str(" ").expect(rt, "memory");
-    script.push_str(fill).expect(rt, "memory");
-    script.push_str(row.after).expect(rt, "memory");
-    let transcript = run(rt, alloc, LIMITS, script.as_bytes());
-    assert_eq!(rt; transcript.text.items(), printed.as_bytes(), "of {script}");
-    assert_eq!(rt; transcript.ending == ScriptEnd::Whole, true, "of {script}");
+) -> bool {
+    let script = joined(
+        rt,
+        alloc,
+        &[row.before, "stop ", calls, " ", fill, row.after],
+    );
+    prints(
+        rt,
+        alloc,
+        LIMITS,
+        script.as_bytes(),
+        printed,
+        ScriptEnd::Whole,
+    )
 }
 
 fn assert_row(rt: &impl Abort, alloc: Global, row: &Row) {
     for (calls, stop) in row.calls.iter().copied() {
         for filling in FILLS.iter() {
             let printed = row.printed(stop, filling);
-            assert_printed(rt, alloc, row, calls, filling.fill, printed);
+            assert!(rt;
+                row_prints(rt, alloc, row, calls, filling.fill, printed),
+                "stop {calls}"
+            );
         }
     }
 }
@@ -320,12 +327,13 @@ const WAITING: &[(&str, &str, bool)] = &[
 fn stops_and_failures_wait_for_their_calls(rt: HostRuntime) -> Result<(), Fail> {
     let alloc = rt.alloc();
     for (script, printed, whole) in WAITING.iter().copied() {
-        let transcript = run(&rt, alloc, LIMITS, script.as_bytes());
-        assert_eq!(rt; transcript.text.items(), printed.as_bytes(), "of {script}");
-        assert_eq!(rt; transcript.ending == ScriptEnd::Whole, whole, "of {script}");
-        assert_eq!(rt;
-            transcript.ending == ScriptEnd::DiskFault,
-            !whole,
+        let ending = if whole {
+            ScriptEnd::Whole
+        } else {
+            ScriptEnd::DiskFault
+        };
+        assert!(rt;
+            prints(&rt, alloc, LIMITS, script.as_bytes(), printed, ending),
             "of {script}"
         );
     }

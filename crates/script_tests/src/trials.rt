@@ -1,5 +1,7 @@
-use crate::scripts::{LIMITS, is_whole, long_hostname, run};
-use base_kinds::Limits;
+use crate::scripts::{LIMITS, SHORT, begins_with, joined, long_hostname, prints};
+use script_run::ScriptEnd;
+use std::alloc::Global;
+use std::process::Abort;
 use std::test::Fail;
 
 /// A trial of the hostname for a minute, from the reading 1000 on.
@@ -58,20 +60,32 @@ const BEHIND: &[(&str, &str, &str)] = &[
     ),
 ];
 
+/// Whether this behind the trial prints this and then this log.
+fn trial_prints(rt: &impl Abort, alloc: Global, behind: &str, printed: &str, logged: &str) -> bool {
+    let script = joined(rt, alloc, &[BEGUN, behind]);
+    let wanted = joined(
+        rt,
+        alloc,
+        &["ok 1000\n", printed, "log\n", BEGUN_LOG, logged],
+    );
+    prints(
+        rt,
+        alloc,
+        LIMITS,
+        script.as_bytes(),
+        &wanted,
+        ScriptEnd::Whole,
+    )
+}
+
 #[test]
 fn a_trial_is_confirmed_or_taken_back(rt: HostRuntime) -> Result<(), Fail> {
     let alloc = rt.alloc();
     for (behind, printed, logged) in BEHIND.iter().copied() {
-        let mut script = String::from_str(alloc, BEGUN).expect(&rt, "memory");
-        script.push_str(behind).expect(&rt, "memory");
-        let mut wanted = String::from_str(alloc, "ok 1000\n").expect(&rt, "memory");
-        wanted.push_str(printed).expect(&rt, "memory");
-        wanted.push_str("log\n").expect(&rt, "memory");
-        wanted.push_str(BEGUN_LOG).expect(&rt, "memory");
-        wanted.push_str(logged).expect(&rt, "memory");
-        let transcript = run(&rt, alloc, LIMITS, script.as_bytes());
-        assert_eq!(rt; transcript.text.items(), wanted.as_bytes(), "of {behind}");
-        assert_eq!(rt; is_whole(&transcript), true, "of {behind}");
+        assert!(rt;
+            trial_prints(&rt, alloc, behind, printed, logged),
+            "of {behind}"
+        );
     }
     Ok(())
 }
@@ -105,35 +119,33 @@ const ANSWERS: &[(&str, &str)] = &[
 fn trials_are_answered(rt: HostRuntime) -> Result<(), Fail> {
     let alloc = rt.alloc();
     for (script, printed) in ANSWERS.iter().copied() {
-        let transcript = run(&rt, alloc, LIMITS, script.as_bytes());
-        assert_eq!(rt;
-            transcript.text.items().starts_with(printed.as_bytes()),
-            true,
+        assert!(rt;
+            begins_with(&rt, alloc, LIMITS, script.as_bytes(), printed),
             "of {script}"
         );
     }
     Ok(())
 }
 
+/// The octets of a hostname, and what a trial of it prints first.
+const ROOM: &[(usize, &str)] = &[(3_944, "ok 1\n"), (3_945, "refused 18 8\n")];
+
+fn long_trial_prints(rt: &impl Abort, alloc: Global, count: usize, printed: &str) -> bool {
+    let script = long_hostname(rt, alloc, count, "trial 1 t 60\n", "!");
+    begins_with(rt, alloc, SHORT, script.as_bytes(), printed)
+}
+
 #[test]
 fn a_log_keeps_room_for_the_end_of_a_trial(rt: HostRuntime) -> Result<(), Fail> {
     let alloc = rt.alloc();
-    let short = Limits {
-        entries: 2,
-        octets: 4_096,
-    };
-    let table = [(3_944, "ok 1\n"), (3_945, "refused 18 8\n")];
-    for (count, printed) in table.iter().copied() {
-        let script = long_hostname(&rt, alloc, count, "trial 1 t 60\n", "!");
-        let transcript = run(&rt, alloc, short, script.as_bytes());
-        assert_eq!(rt;
-            transcript.text.items().starts_with(printed.as_bytes()),
-            true,
+    for (count, printed) in ROOM.iter().copied() {
+        assert!(rt;
+            long_trial_prints(&rt, alloc, count, printed),
             "{count} octets"
         );
     }
-    let transcript = run(&rt, alloc, short, b"set 1\ntrial 1 t 60\nset 1\n");
+    let script = b"set 1\ntrial 1 t 60\nset 1\n";
     let printed = "ok 1\nrefused 18 8\nok 2\nlog\n1 1 1 apply\n2 2 1 apply\n";
-    assert_eq!(rt; transcript.text.items(), printed.as_bytes());
+    assert!(rt; prints(&rt, alloc, SHORT, script, printed, ScriptEnd::Whole));
     Ok(())
 }
