@@ -213,45 +213,88 @@ fn drip_over<A: Abort>(
     (status, sink)
 }
 
+/// Whether the words print this over this input and this text of a file, where these writes fail, and end so.
+fn prints(
+    rt: &impl Abort,
+    alloc: Global,
+    words: &str,
+    schema: &str,
+    script: &str,
+    writes: &[u64],
+    printed: &str,
+    status: u8,
+) -> bool {
+    let (ended, output) = run_over(rt, alloc, words, schema, script.as_bytes(), writes);
+    output.octets() == printed.as_bytes() && ended == status
+}
+
+/// What the words print over an input that fails and this text of a file, where these writes fail, and the status with the
+/// faults of the files and of the input.
+fn fails_so(
+    rt: &impl Abort,
+    alloc: Global,
+    words: &str,
+    text: Option<&[u8]>,
+    writes: &[u64],
+    printed: &str,
+    end: (u8, u64, u64),
+) -> bool {
+    let (ended, output, texts, reads) = fails_over(rt, alloc, words, text, writes);
+    output.octets() == printed.as_bytes() && (ended, texts, reads) == end
+}
+
+/// Whether a script's run, octet by octet, writes this where these reads and writes fail, and ends so.
+fn drips(
+    rt: &impl Abort,
+    alloc: Global,
+    script: &str,
+    reads: &[u64],
+    writes: &[u64],
+    written: &[u8],
+    status: u8,
+) -> bool {
+    let (ended, output) = drip_over(rt, alloc, script.as_bytes(), reads, writes);
+    output.octets() == written && ended == status
+}
+
+/// Words, a script, what is printed, and the status.
+const SCRIPTS: &[(&str, &str, &str, u8)] = &[
+    ("script S", HOSTNAME, HOSTNAME_PRINTED, 0),
+    ("script S", "get 1 /\n", "refused 8 5\nlog\n", 0),
+    ("script S", "set 1\n\n", "ok 1\nscript line 2 refused\n", 9),
+    (
+        "script S",
+        "stop 0 old\nfail 1\nset 1\n",
+        "stopped\ndisk fault\n",
+        5,
+    ),
+    (
+        "script S 2 4096",
+        "set 1\nset 1\nset 1\n",
+        "ok 1\nok 2\nrefused 18 8\nlog\n1 1 1 apply\n2 2 1 apply\n",
+        0,
+    ),
+];
+
 #[test]
 fn a_script_runs_under_its_schema_and_limits(rt: HostRuntime) -> Result<(), Fail> {
     let alloc = rt.alloc();
-    let table = [
-        ("script S", HOSTNAME, HOSTNAME_PRINTED, 0),
-        ("script S", "get 1 /\n", "refused 8 5\nlog\n", 0),
-        ("script S", "set 1\n\n", "ok 1\nscript line 2 refused\n", 9),
-        (
-            "script S",
-            "stop 0 old\nfail 1\nset 1\n",
-            "stopped\ndisk fault\n",
-            5,
-        ),
-        (
-            "script S 2 4096",
-            "set 1\nset 1\nset 1\n",
-            "ok 1\nok 2\nrefused 18 8\nlog\n1 1 1 apply\n2 2 1 apply\n",
-            0,
-        ),
-    ];
-    for (words, script, printed, status) in table.iter().copied() {
-        let (ended, output) = run_over(&rt, alloc, words, SCHEMA, script.as_bytes(), &[]);
-        assert_eq!(rt; output.octets(), printed.as_bytes(), "of {script}");
-        assert_eq!(rt; ended, status, "of {script}");
+    for (words, script, printed, status) in SCRIPTS.iter().copied() {
+        assert!(rt;
+            prints(&rt, alloc, words, SCHEMA, script, &[], printed, status),
+            "of {script}"
+        );
     }
-    let (ended, output) = drip_over(&rt, alloc, HOSTNAME.as_bytes(), &[], &[]);
-    assert_eq!(rt;
-        output.octets(),
-        HOSTNAME_PRINTED.as_bytes(),
+    let printed = HOSTNAME_PRINTED.as_bytes();
+    assert!(rt;
+        drips(&rt, alloc, HOSTNAME, &[], &[], printed, 0),
         "octet by octet"
     );
-    assert_eq!(rt; ended, 0, "octet by octet");
-    let (ended, output) = run_over(&rt, alloc, "script S", "", b"get 1 /\n", &[]);
-    assert_eq!(rt;
-        output.octets(),
-        b"refused 8 5\nlog\n".as_slice(),
+    let none = "refused 8 5\nlog\n";
+    assert!(rt;
+        prints(&rt, alloc, "script S", "", "get 1 /\n", &[], none, 0),
         "no nodes"
     );
-    assert_eq!(rt; ended, 0, "no nodes");
     Ok(())
 }
 
@@ -278,6 +321,12 @@ const BAD_WORDS: &[&str] = &[
     "init J 2 4096 1",
     "check",
     "check a b",
+    "load 7",
+    "load 7 0",
+    "load 7 65537",
+    "load 07 1",
+    "load 18446744073709551616 1",
+    "load 7 1 1",
     "checks a",
     "--help S",
     "--version 1",
@@ -290,61 +339,75 @@ const BAD_WORDS: &[&str] = &[
 fn other_words_are_refused(rt: HostRuntime) -> Result<(), Fail> {
     let alloc = rt.alloc();
     for words in BAD_WORDS.iter().copied() {
-        let (ended, output) = run_over(&rt, alloc, words, SCHEMA, b"set 1\n", &[]);
-        assert_eq!(rt; output.octets(), b"bad words\n".as_slice(), "{words}");
-        assert_eq!(rt; ended, 2, "{words}");
+        assert!(rt;
+            prints(&rt, alloc, words, SCHEMA, "set 1\n", &[], "bad words\n", 2),
+            "{words}"
+        );
     }
     // An output that fails leaves the status.
-    let (ended, output) = run_over(&rt, alloc, "log", SCHEMA, b"set 1\n", &[1]);
-    assert_eq!(rt; output.octets(), b"".as_slice());
-    assert_eq!(rt; ended, 2);
+    assert!(rt; prints(&rt, alloc, "log", SCHEMA, "set 1\n", &[1], "", 2));
     Ok(())
 }
+
+/// A schema's text, what is printed of it, and the status.
+const SCHEMAS: &[(&str, &str, u8)] = &[
+    (SCHEMA, "schema ok 17\n", 0),
+    ("", "schema ok 0\n", 0),
+    (
+        "module m\nleaf /a/b string\n",
+        "schema line 2: no parent\n",
+        3,
+    ),
+];
 
 #[test]
 fn a_schema_is_checked(rt: HostRuntime) -> Result<(), Fail> {
     let alloc = rt.alloc();
-    let table = [
-        (SCHEMA, "schema ok 17\n", 0),
-        ("", "schema ok 0\n", 0),
-        (
-            "module m\nleaf /a/b string\n",
-            "schema line 2: no parent\n",
-            3,
-        ),
-    ];
-    for (text, printed, status) in table.iter().copied() {
-        let text_octets = Some(text.as_bytes());
-        let (ended, output, texts, reads) = fails_over(&rt, alloc, "check S", text_octets, &[]);
-        assert_eq!(rt; output.octets(), printed.as_bytes(), "of {text}");
-        assert_eq!(rt; (ended, texts, reads), (status, 0, 0), "of {text}");
-        let (ended, output, texts, reads) = fails_over(&rt, alloc, "check S", text_octets, &[1]);
-        assert_eq!(rt; output.octets(), b"".as_slice());
-        assert_eq!(rt; (ended, texts, reads), (7, 0, 0), "of {text}");
+    for (text, printed, status) in SCHEMAS.iter().copied() {
+        let octets = Some(text.as_bytes());
+        assert!(rt;
+            fails_so(&rt, alloc, "check S", octets, &[], printed, (status, 0, 0)),
+            "of {text}"
+        );
+        assert!(rt;
+            fails_so(&rt, alloc, "check S", octets, &[1], "", (7, 0, 0)),
+            "of {text}"
+        );
     }
-    let (ended, output, texts, reads) = fails_over(&rt, alloc, "check S", None, &[]);
-    assert_eq!(rt; output.octets(), b"input fault\n".as_slice());
-    assert_eq!(rt; (ended, texts, reads), (6, 1, 0));
+    assert!(rt; fails_so(&rt, alloc, "check S", None, &[], "input fault\n", (6, 1, 0)));
     Ok(())
 }
 
 #[test]
 fn a_script_is_read_only_under_a_schema(rt: HostRuntime) -> Result<(), Fail> {
     let alloc = rt.alloc();
-    let no_schema = Some(b"module m\nleaf /a/b string\n".as_slice());
-    let table = [
-        (None, "input fault\n", 6, 1, 0),
-        (no_schema, "schema line 2: no parent\n", 3, 0, 0),
-        (Some(SCHEMA.as_bytes()), "input fault\n", 6, 0, 1),
-    ];
-    for (text, printed, status, text_faults, read_faults) in table.iter().copied() {
-        let (ended, output, texts, reads) = fails_over(&rt, alloc, "script S", text, &[]);
-        assert_eq!(rt; output.octets(), printed.as_bytes());
-        assert_eq!(rt; (ended, texts, reads), (status, text_faults, read_faults));
-    }
-    let (ended, output, texts, reads) = fails_over(&rt, alloc, "script S", no_schema, &[1]);
-    assert_eq!(rt; output.octets(), b"".as_slice());
-    assert_eq!(rt; (ended, texts, reads), (7, 0, 0));
+    let none = Some(b"module m\nleaf /a/b string\n".as_slice());
+    let fault = "schema line 2: no parent\n";
+    let good = Some(SCHEMA.as_bytes());
+    assert!(rt;
+        fails_so(
+            &rt,
+            alloc,
+            "script S",
+            None,
+            &[],
+            "input fault\n",
+            (6, 1, 0)
+        )
+    );
+    assert!(rt; fails_so(&rt, alloc, "script S", none, &[], fault, (3, 0, 0)));
+    assert!(rt;
+        fails_so(
+            &rt,
+            alloc,
+            "script S",
+            good,
+            &[],
+            "input fault\n",
+            (6, 0, 1)
+        )
+    );
+    assert!(rt; fails_so(&rt, alloc, "script S", none, &[1], "", (7, 0, 0)));
     Ok(())
 }
 
@@ -353,9 +416,10 @@ fn an_input_that_fails_ends_with_6(rt: HostRuntime) -> Result<(), Fail> {
     let alloc = rt.alloc();
     // Octet by octet there is a read for each octet, and one at the end.
     for call in 1..=HOSTNAME.len() as u64 + 1 {
-        let (ended, output) = drip_over(&rt, alloc, HOSTNAME.as_bytes(), &[call], &[]);
-        assert_eq!(rt; output.octets(), b"input fault\n".as_slice(), "read {call}");
-        assert_eq!(rt; ended, 6, "read {call}");
+        assert!(rt;
+            drips(&rt, alloc, HOSTNAME, &[call], &[], b"input fault\n", 6),
+            "read {call}"
+        );
     }
     Ok(())
 }
@@ -365,9 +429,18 @@ fn an_output_that_fails_ends_with_7(rt: HostRuntime) -> Result<(), Fail> {
     let alloc = rt.alloc();
     let printed = HOSTNAME_PRINTED.as_bytes();
     for front in 0..printed.len() {
-        let (ended, output) = drip_over(&rt, alloc, HOSTNAME.as_bytes(), &[], &[front as u64 + 1]);
-        assert_eq!(rt; output.octets(), &printed[..front], "write {front}");
-        assert_eq!(rt; ended, 7, "write {front}");
+        assert!(rt;
+            drips(
+                &rt,
+                alloc,
+                HOSTNAME,
+                &[],
+                &[front as u64 + 1],
+                &printed[..front],
+                7
+            ),
+            "write {front}"
+        );
     }
     Ok(())
 }
@@ -376,35 +449,63 @@ fn an_output_that_fails_ends_with_7(rt: HostRuntime) -> Result<(), Fail> {
 fn an_input_that_gives_octets_and_then_fails_is_told_as_such(rt: HostRuntime) -> Result<(), Fail> {
     let alloc = rt.alloc();
     // A whole Set is read before the read that fails, and isn't answered.
-    let (ended, output) = drip_over(&rt, alloc, b"set 1\nset 1\n", &[7], &[]);
-    assert_eq!(rt; output.octets(), b"input fault\n".as_slice());
-    assert_eq!(rt; ended, 6);
+    assert!(rt; drips(&rt, alloc, "set 1\nset 1\n", &[7], &[], b"input fault\n", 6));
     Ok(())
 }
 
 const HELP: &str =
-    "check SCHEMA: print how many nodes the schema in the file SCHEMA has, or its first fault\ninit JOURNAL: write a journal without entries into the file JOURNAL, which must be empty or not there yet\ninit JOURNAL ENTRIES OCTETS: the same, for a log of at most ENTRIES entries and OCTETS octets\nlog JOURNAL: print the commit log in the journal in the file JOURNAL\nscript SCHEMA: run the script on standard input under the schema, and print its answers and its log\nscript SCHEMA ENTRIES OCTETS: the same, with a log of at most ENTRIES entries and OCTETS octets\nsession SCHEMA JOURNAL: serve one gNMI connection over standard input and output, on the journal in the file JOURNAL\n--help: print these lines\n--version: print the name and the version of the program\n";
+    "check SCHEMA: print how many nodes the schema in the file SCHEMA has, or its first fault\ninit JOURNAL: write a journal without entries into the file JOURNAL, which must be empty or not there yet\ninit JOURNAL ENTRIES OCTETS: the same, for a log of at most ENTRIES entries and OCTETS octets\nlog JOURNAL: print the commit log in the journal in the file JOURNAL\nscript SCHEMA: run the script on standard input under the schema, and print its answers and its log\nscript SCHEMA ENTRIES OCTETS: the same, with a log of at most ENTRIES entries and OCTETS octets\nsession SCHEMA JOURNAL: serve one gNMI connection over standard input and output, on the journal in the file JOURNAL\nload SEED COUNT: serve a client that makes COUNT generated Sets over memory, and print what came of them\n--help: print these lines\n--version: print the name and the version of the program\n";
 
 #[test]
 fn help_and_version_are_printed_and_nothing_is_read(rt: HostRuntime) {
     let alloc = rt.alloc();
-    for (words, printed) in [("--help", HELP), ("--version", "gnmid 0.1.0\n")] {
-        let (ended, output, texts, reads) = fails_over(&rt, alloc, words, None, &[]);
-        assert_eq!(rt; output.octets(), printed.as_bytes(), "{words}");
-        assert_eq!(rt; (ended, texts, reads), (0, 0, 0), "{words}");
-        let (ended, output, texts, reads) = fails_over(&rt, alloc, words, None, &[1]);
-        assert_eq!(rt; output.octets(), b"".as_slice(), "{words}");
-        assert_eq!(rt; (ended, texts, reads), (7, 0, 0), "{words}");
+    for (words, printed) in [("--help", HELP), ("--version", "gnmid 0.1.0\n")]
+        .iter()
+        .copied()
+    {
+        assert!(rt;
+            fails_so(&rt, alloc, words, None, &[], printed, (0, 0, 0)),
+            "{words}"
+        );
+        assert!(rt;
+            fails_so(&rt, alloc, words, None, &[1], "", (7, 0, 0)),
+            "{words}"
+        );
     }
 }
 
 #[test]
 fn a_file_is_asked_for_by_its_name(rt: HostRuntime) {
     let alloc = rt.alloc();
-    for words in ["check T", "script T", "check s"] {
-        let schema = Some(SCHEMA.as_bytes());
-        let (ended, output, texts, reads) = fails_over(&rt, alloc, words, schema, &[]);
-        assert_eq!(rt; output.octets(), b"input fault\n".as_slice(), "{words}");
-        assert_eq!(rt; (ended, texts, reads), (6, 1, 0), "{words}");
+    let schema = Some(SCHEMA.as_bytes());
+    for words in ["check T", "script T", "check s"].iter().copied() {
+        assert!(rt;
+            fails_so(&rt, alloc, words, schema, &[], "input fault\n", (6, 1, 0)),
+            "{words}"
+        );
+    }
+}
+
+/// Words of a load, and what they print.
+const LOADS: &[(&str, &str)] = &[
+    ("load 7 1", "sets 1 ok 1 entries 1 leaves 2 stamp 1000\n"),
+    (
+        "load 7 100",
+        "sets 100 ok 100 entries 100 leaves 92 stamp 1099\n",
+    ),
+];
+
+#[test]
+fn a_load_is_served_and_counted(rt: HostRuntime) {
+    let alloc = rt.alloc();
+    for (words, printed) in LOADS.iter().copied() {
+        assert!(rt;
+            fails_so(&rt, alloc, words, None, &[], printed, (0, 0, 0)),
+            "{words}"
+        );
+        assert!(rt;
+            fails_so(&rt, alloc, words, None, &[1], "", (7, 0, 0)),
+            "{words}"
+        );
     }
 }

@@ -5,3 +5,4 @@ pub mod MemoryRuns
 pub mod WordLaws
 pub mod GoodScripts
 pub mod Sessions
+pub mod Loads

@@ -6,7 +6,7 @@ use Rattle.base_kinds.specs.declared.entry.Limits.{Limits}
 use Rattle.session_core.specs.declared.how.How.{How}
 use Rattle.target_top.specs.declared.ending.Ending.{Ending}
 use Rattle.target_top.specs.Environment.{Environment, SeenDisk}
-use Rattle.target_top.specs.Commands.{Command, Check, Script, Init, Log, Session, Help, Version, AreLimits, IsName, IsNameWithLimits, IsScript, IsInit, IsCheck, IsLog, IsNoSession, Gives, GivesNone}
+use Rattle.target_top.specs.Commands.{Command, Check, Script, Init, Log, Session, Load, Help, Version, AreLimits, IsName, IsNameWithLimits, IsScript, IsInit, IsCheck, IsLog, IsNoLoad, IsNoSession, Gives, GivesNone}
 use Rattle.target_top.specs.Run.{Does}
 
 pub one_word : {W : Type 0} (text : W → List ℕ) (words : List W) (word : W) → 1 ≤ length words → length words < 2 → word ≡ get_or words 0 word → map text words ≡ text word ∷ []
@@ -124,14 +124,15 @@ same_form word words name other limits others (inr p) (inr q) =
     (second_of_four _ _ _ _ _ _ _ _ both, same_limits limits others entries octets)
 
 -- words that are of no form give no command
-pub gives_none : (words : List (List ℕ)) → ((name : List ℕ) (limits : Limits) → IsScript words name limits → ⊥) → ((name : List ℕ) (limits : Limits) → IsInit words name limits → ⊥) → ((name : List ℕ) → IsCheck words name → ⊥) → ((name : List ℕ) → IsLog words name → ⊥) → IsNoSession words → (words ≡ codes "--help" ∷ [] → ⊥) → (words ≡ codes "--version" ∷ [] → ⊥) → GivesNone words
-gives_none words no_script no_init no_check no_log no_session no_help no_version (Check name) is = no_check name is
-gives_none words no_script no_init no_check no_log no_session no_help no_version (Script name limits) is = no_script name limits is
-gives_none words no_script no_init no_check no_log no_session no_help no_version (Init name limits) is = no_init name limits is
-gives_none words no_script no_init no_check no_log no_session no_help no_version (Log name) is = no_log name is
-gives_none words no_script no_init no_check no_log no_session no_help no_version (Session schema journal) is = no_session schema journal is
-gives_none words no_script no_init no_check no_log no_session no_help no_version Help is = no_help is
-gives_none words no_script no_init no_check no_log no_session no_help no_version Version is = no_version is
+pub gives_none : (words : List (List ℕ)) → ((name : List ℕ) (limits : Limits) → IsScript words name limits → ⊥) → ((name : List ℕ) (limits : Limits) → IsInit words name limits → ⊥) → ((name : List ℕ) → IsCheck words name → ⊥) → ((name : List ℕ) → IsLog words name → ⊥) → IsNoSession words → IsNoLoad words → (words ≡ codes "--help" ∷ [] → ⊥) → (words ≡ codes "--version" ∷ [] → ⊥) → GivesNone words
+gives_none words no_script no_init no_check no_log no_session no_load no_help no_version (Check name) is = no_check name is
+gives_none words no_script no_init no_check no_log no_session no_load no_help no_version (Script name limits) is = no_script name limits is
+gives_none words no_script no_init no_check no_log no_session no_load no_help no_version (Init name limits) is = no_init name limits is
+gives_none words no_script no_init no_check no_log no_session no_load no_help no_version (Log name) is = no_log name is
+gives_none words no_script no_init no_check no_log no_session no_load no_help no_version (Session schema journal) is = no_session schema journal is
+gives_none words no_script no_init no_check no_log no_session no_load no_help no_version (Load seed count) is = no_load seed count is
+gives_none words no_script no_init no_check no_log no_session no_load no_help no_version Help is = no_help is
+gives_none words no_script no_init no_check no_log no_session no_load no_help no_version Version is = no_version is
 
 -- a number that tells the first words of the forms apart: how many octets it has and its first one, added up
 abbrev word_key : List (List ℕ) → ℕ
@@ -148,6 +149,7 @@ key (Script name limits) = 121
 key (Init name limits) = 109
 key (Log name) = 111
 key (Session schema journal) = 122
+key (Load seed count) = 112
 key Help = 51
 key Version = 54
 
@@ -157,6 +159,7 @@ has_key words (Script name limits) is = with_limits (codes "script") words name 
 has_key words (Init name limits) is = with_limits (codes "init") words name limits is
 has_key words (Log name) is = ap (λ ws. word_key ws) is
 has_key words (Session schema journal) is = ap (λ ws. word_key ws) is
+has_key words (Load seed count) is = ap (λ ws. word_key ws) is.words_are
 has_key words Help is = ap (λ ws. word_key ws) is
 has_key words Version is = ap (λ ws. word_key ws) is
 
@@ -176,6 +179,7 @@ one_command words (Check name) (Script other others) is also = absurd (apart 104
 one_command words (Check name) (Init other others) is also = absurd (apart 104 109 (omega arith) (one_key words (Check name) (Init other others) is also))
 one_command words (Check name) (Log other) is also = absurd (apart 104 111 (omega arith) (one_key words (Check name) (Log other) is also))
 one_command words (Check name) (Session schema journal) is also = absurd (apart 104 122 (omega arith) (one_key words (Check name) (Session schema journal) is also))
+one_command words (Check name) (Load seed count) is also = absurd (apart 104 112 (omega arith) (one_key words (Check name) (Load seed count) is also))
 one_command words (Check name) Help is also = absurd (apart' 104 51 (omega arith) (one_key words (Check name) Help is also))
 one_command words (Check name) Version is also = absurd (apart' 104 54 (omega arith) (one_key words (Check name) Version is also))
 one_command words (Script name limits) (Check other) is also = absurd (apart' 121 104 (omega arith) (one_key words (Script name limits) (Check other) is also))
@@ -185,6 +189,7 @@ one_command words (Script name limits) (Script other others) is also =
 one_command words (Script name limits) (Init other others) is also = absurd (apart' 121 109 (omega arith) (one_key words (Script name limits) (Init other others) is also))
 one_command words (Script name limits) (Log other) is also = absurd (apart' 121 111 (omega arith) (one_key words (Script name limits) (Log other) is also))
 one_command words (Script name limits) (Session schema journal) is also = absurd (apart 121 122 (omega arith) (one_key words (Script name limits) (Session schema journal) is also))
+one_command words (Script name limits) (Load seed count) is also = absurd (apart' 121 112 (omega arith) (one_key words (Script name limits) (Load seed count) is also))
 one_command words (Script name limits) Help is also = absurd (apart' 121 51 (omega arith) (one_key words (Script name limits) Help is also))
 one_command words (Script name limits) Version is also = absurd (apart' 121 54 (omega arith) (one_key words (Script name limits) Version is also))
 one_command words (Init name limits) (Check other) is also = absurd (apart' 109 104 (omega arith) (one_key words (Init name limits) (Check other) is also))
@@ -194,6 +199,7 @@ one_command words (Init name limits) (Init other others) is also =
     ap (λ n. Init n limits) same.0 ∙ ap (λ l. Init other l) same.1
 one_command words (Init name limits) (Log other) is also = absurd (apart 109 111 (omega arith) (one_key words (Init name limits) (Log other) is also))
 one_command words (Init name limits) (Session schema journal) is also = absurd (apart 109 122 (omega arith) (one_key words (Init name limits) (Session schema journal) is also))
+one_command words (Init name limits) (Load seed count) is also = absurd (apart 109 112 (omega arith) (one_key words (Init name limits) (Load seed count) is also))
 one_command words (Init name limits) Help is also = absurd (apart' 109 51 (omega arith) (one_key words (Init name limits) Help is also))
 one_command words (Init name limits) Version is also = absurd (apart' 109 54 (omega arith) (one_key words (Init name limits) Version is also))
 one_command words (Log name) (Check other) is also = absurd (apart' 111 104 (omega arith) (one_key words (Log name) (Check other) is also))
@@ -201,6 +207,7 @@ one_command words (Log name) (Script other others) is also = absurd (apart 111 1
 one_command words (Log name) (Init other others) is also = absurd (apart' 111 109 (omega arith) (one_key words (Log name) (Init other others) is also))
 one_command words (Log name) (Log other) is also = ap (λ n. Log n) (second_of_two _ _ _ _ (sym is ∙ also))
 one_command words (Log name) (Session schema journal) is also = absurd (apart 111 122 (omega arith) (one_key words (Log name) (Session schema journal) is also))
+one_command words (Log name) (Load seed count) is also = absurd (apart 111 112 (omega arith) (one_key words (Log name) (Load seed count) is also))
 one_command words (Log name) Help is also = absurd (apart' 111 51 (omega arith) (one_key words (Log name) Help is also))
 one_command words (Log name) Version is also = absurd (apart' 111 54 (omega arith) (one_key words (Log name) Version is also))
 one_command words (Session schema journal) (Check other) is also = absurd (apart' 122 104 (omega arith) (one_key words (Session schema journal) (Check other) is also))
@@ -210,13 +217,27 @@ one_command words (Session schema journal) (Log other) is also = absurd (apart' 
 one_command words (Session schema journal) (Session other others) is also =
     let both = sym is ∙ also in
     ap (λ n. Session n journal) (second_of_three _ _ _ _ _ _ both) ∙ ap (λ n. Session other n) (third_of_three _ _ _ _ _ _ both)
+one_command words (Session schema journal) (Load seed count) is also = absurd (apart' 122 112 (omega arith) (one_key words (Session schema journal) (Load seed count) is also))
 one_command words (Session schema journal) Help is also = absurd (apart' 122 51 (omega arith) (one_key words (Session schema journal) Help is also))
 one_command words (Session schema journal) Version is also = absurd (apart' 122 54 (omega arith) (one_key words (Session schema journal) Version is also))
+one_command words (Load seed count) (Check other) is also = absurd (apart' 112 104 (omega arith) (one_key words (Load seed count) (Check other) is also))
+one_command words (Load seed count) (Script other others) is also = absurd (apart 112 121 (omega arith) (one_key words (Load seed count) (Script other others) is also))
+one_command words (Load seed count) (Init other others) is also = absurd (apart' 112 109 (omega arith) (one_key words (Load seed count) (Init other others) is also))
+one_command words (Load seed count) (Log other) is also = absurd (apart' 112 111 (omega arith) (one_key words (Load seed count) (Log other) is also))
+one_command words (Load seed count) (Session schema journal) is also = absurd (apart 112 122 (omega arith) (one_key words (Load seed count) (Session schema journal) is also))
+one_command words (Load seed count) (Load other others) is also =
+    let both = sym is.words_are ∙ also.words_are in
+    let seeds = decimal_injective seed other (omega (arith, is.seed_fits)) (omega (arith, also.seed_fits)) (second_of_three _ _ _ _ _ _ both) in
+    let counts = decimal_injective count others (omega (arith, is.few)) (omega (arith, also.few)) (third_of_three _ _ _ _ _ _ both) in
+    ap (λ n. Load n count) seeds ∙ ap (λ n. Load other n) counts
+one_command words (Load seed count) Help is also = absurd (apart' 112 51 (omega arith) (one_key words (Load seed count) Help is also))
+one_command words (Load seed count) Version is also = absurd (apart' 112 54 (omega arith) (one_key words (Load seed count) Version is also))
 one_command words Help (Check other) is also = absurd (apart 51 104 (omega arith) (one_key words Help (Check other) is also))
 one_command words Help (Script other others) is also = absurd (apart 51 121 (omega arith) (one_key words Help (Script other others) is also))
 one_command words Help (Init other others) is also = absurd (apart 51 109 (omega arith) (one_key words Help (Init other others) is also))
 one_command words Help (Log other) is also = absurd (apart 51 111 (omega arith) (one_key words Help (Log other) is also))
 one_command words Help (Session schema journal) is also = absurd (apart 51 122 (omega arith) (one_key words Help (Session schema journal) is also))
+one_command words Help (Load seed count) is also = absurd (apart 51 112 (omega arith) (one_key words Help (Load seed count) is also))
 one_command words Help Help is also = refl
 one_command words Help Version is also = absurd (apart 51 54 (omega arith) (one_key words Help Version is also))
 one_command words Version (Check other) is also = absurd (apart 54 104 (omega arith) (one_key words Version (Check other) is also))
@@ -224,6 +245,7 @@ one_command words Version (Script other others) is also = absurd (apart 54 121 (
 one_command words Version (Init other others) is also = absurd (apart 54 109 (omega arith) (one_key words Version (Init other others) is also))
 one_command words Version (Log other) is also = absurd (apart 54 111 (omega arith) (one_key words Version (Log other) is also))
 one_command words Version (Session schema journal) is also = absurd (apart 54 122 (omega arith) (one_key words Version (Session schema journal) is also))
+one_command words Version (Load seed count) is also = absurd (apart 54 112 (omega arith) (one_key words Version (Load seed count) is also))
 one_command words Version Help is also = absurd (apart' 54 51 (omega arith) (one_key words Version Help is also))
 one_command words Version Version is also = refl
 

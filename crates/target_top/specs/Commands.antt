@@ -1,19 +1,20 @@
 -- The commands, and the words in which each is given: the arguments behind the program's name. The forms are this
 -- project's own (docs/PROFILE.md).
-use Rattle.std.specs.Prelude.{◌≡◌, ℕ, List, [], ◌∷◌, ◌⊎◌, map, codes, String, string_bytes}
+use Rattle.std.specs.Prelude.{◌≡◌, ℕ, ◌<◌, ◌≤◌, ◌^◌, List, [], ◌∷◌, ◌⊎◌, map, codes, String, string_bytes}
 use Rattle.std.specs.Fmt.{decimal}
 use Rattle.std.specs.Global.{Global}
 use Rattle.base_kinds.specs.declared.entry.Limits.{Limits}
 use Rattle.base_kinds.specs.Limits.{AreInRange, default_limits}
 
 -- `Check` and `Script` by the name of the schema's file, `Init` and `Log` by that of the journal's, `Session` by both; `Script`
--- and `Init` with the limits of the commit log
+-- and `Init` with the limits of the commit log; `Load` by a seed and how many Sets are made
 pub data Command : Type 0 where
   Check : List ℕ → Command
   Script : List ℕ → Limits → Command
   Init : List ℕ → Limits → Command
   Log : List ℕ → Command
   Session : List ℕ → List ℕ → Command
+  Load : ℕ → ℕ → Command
   Help : Command
   Version : Command
 
@@ -58,6 +59,17 @@ IsSession words schema journal = words ≡ codes "session" ∷ schema ∷ journa
 abbrev pub IsNoSession : List (List ℕ) → Type 0
 IsNoSession words = (schema journal : List ℕ) → IsSession words schema journal → ⊥
 
+-- `load`, a seed of 64 bits, and from 1 to 65,536 Sets
+pub record IsLoad (words : List (List ℕ)) (seed count : ℕ) : Type 0 where
+  pub words_are : words ≡ codes "load" ∷ decimal seed ∷ decimal count ∷ []
+  pub seed_fits : seed < 2 ^ 64
+  pub some : 1 ≤ count
+  pub few : count ≤ 65536
+
+-- the words are no load's
+abbrev pub IsNoLoad : List (List ℕ) → Type 0
+IsNoLoad words = (seed count : ℕ) → IsLoad words seed count → ⊥
+
 -- the words give this command
 abbrev pub Gives : List (List ℕ) → Command → Type 0
 Gives words (Check name) = IsCheck words name
@@ -65,6 +77,7 @@ Gives words (Script name limits) = IsScript words name limits
 Gives words (Init name limits) = IsInit words name limits
 Gives words (Log name) = IsLog words name
 Gives words (Session schema journal) = IsSession words schema journal
+Gives words (Load seed count) = IsLoad words seed count
 Gives words Help = words ≡ codes "--help" ∷ []
 Gives words Version = words ≡ codes "--version" ∷ []
 

@@ -5,6 +5,7 @@ pub mod Environment
 pub mod HelpRun
 pub mod InitRun
 pub mod JournalFile
+pub mod LoadRun
 pub mod LogRun
 pub mod Printing
 pub mod Run

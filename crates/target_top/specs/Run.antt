@@ -8,10 +8,11 @@ use Rattle.target_top.specs.declared.ending.Ending.TheVariants.{BadWords}
 use Rattle.target_top.specs.Ending.{exit_status}
 use Rattle.target_top.specs.Environment.{Environment, SeenDisk}
 use Rattle.target_top.specs.Printing.{SaysLast}
-use Rattle.target_top.specs.Commands.{Command, Check, Script, Init, Log, Session, Help, Version, Gives, GivesNone, IsNoSession}
+use Rattle.target_top.specs.Commands.{Command, Check, Script, Init, Log, Session, Load, Help, Version, Gives, GivesNone, IsNoSession}
 use Rattle.target_top.specs.CheckRun.{CheckRun}
 use Rattle.target_top.specs.HelpRun.{PrintsAlone, help_text, version_text}
 use Rattle.target_top.specs.InitRun.{InitRun}
+use Rattle.target_top.specs.LoadRun.{LoadRun}
 use Rattle.target_top.specs.LogRun.{LogRun}
 use Rattle.target_top.specs.ScriptRun.{ScriptRun}
 use Rattle.target_top.specs.SessionCommand.{SessionCommand}
@@ -32,6 +33,8 @@ Does (Init journal limits) before after returned how ending =
 Does (Log journal) before after returned how ending = LogRun journal before after returned ending
 Does (Session schema journal) before after returned how ending =
     SessionCommand schema journal before after returned how ending
+Does (Load seed count) before after returned how ending =
+    WithoutDisk (LoadRun seed count before after ending) returned
 Does Help before after returned how ending =
     WithoutDisk (PrintsAlone help_text before after ending) returned
 Does Version before after returned how ending =

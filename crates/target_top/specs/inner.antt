@@ -1,3 +1,4 @@
+pub mod Loads
 pub mod OpenedSchema
 pub mod ParsedCommand
 pub mod ServedBook

@@ -1,7 +1,7 @@
-ghost use Rattle.std.specs.Prelude.{◌≡◌, ◌<◌, ◌^◌, ◌↔◌, ◌∷◌, [], IsTrue, List, ℕ, IfSome, IfNone};
+ghost use Rattle.std.specs.Prelude.{◌≡◌, ◌<◌, ◌≤◌, ◌^◌, ◌↔◌, ◌∷◌, [], IsTrue, List, ℕ, IfSome, IfNone};
 ghost use Rattle.std.specs.Fmt.{decimal};
 ghost use Rattle.base_kinds.specs.declared.entry.Limits.{Limits as LogLimits};
-ghost use Rattle.target_top.specs.Commands.{AreLimits, IsName, IsNameWithLimits, octets_of_words};
+ghost use Rattle.target_top.specs.Commands.{AreLimits, IsLoad, IsName, IsNameWithLimits, octets_of_words};
 
 use base_kinds::{Limits, default_limits};
 use plain_texts::natural_of;
@@ -67,6 +67,18 @@ pub fn two_names_behind<'a>(words: &'a [String], word: &str) -> Option<(&'a str,
     }
 }
 
+/// The seed and the number of Sets, where the words are those of a load.
+pub fn seed_and_count(words: &[String]) -> Option<(u64, u32)>
+    ensures some { IfSome result (λ load. IsLoad (octets_of_words words.now) load.0 load.1) }
+    ensures none { IfNone result ((seed count : ℕ) →
+        IsLoad (octets_of_words words.now) seed count → ⊥) }
+{
+    let (seed, count) = two_names_behind(words, "load")?;
+    let seed = natural_of(seed.as_bytes())?;
+    let count = count_of(count)?;
+    Some((seed, count))
+}
+
 /// Whether there is one word, and it is this one.
 pub fn only_word(words: &[String], word: &str) -> bool
     ensures { IsTrue result ↔ (octets_of_words words.now ≡ word.now ∷ []) }
@@ -90,6 +102,23 @@ fn limits_of(entries: &str, octets: &str) -> Option<Limits>
         return Some(limits);
     }
     None
+}
+
+/// A number of Sets in decimal.
+fn count_of(word: &str) -> Option<u32>
+    ensures some { IfSome result (λ count. word.now ≡ decimal count) }
+    ensures in_range { IfSome result (λ count. (1 ≤ count) × (count ≤ 65536)) }
+    ensures none { IfNone result ((count : ℕ) → 1 ≤ count → count ≤ 65536
+        → word.now ≡ decimal count → ⊥) }
+{
+    let count = limit_of(word)?;
+    if count < 1 {
+        return None;
+    }
+    if count > 65_536 {
+        return None;
+    }
+    Some(count)
 }
 
 /// A number of 32 bits in decimal.

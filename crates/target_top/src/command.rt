@@ -2,7 +2,9 @@ ghost use Rattle.std.specs.Prelude.{IfSome, IfNone};
 ghost use Rattle.target_top.specs.Commands.{Gives, GivesNone, octets_of_words};
 ghost use Rattle.target_top.specs.inner.ParsedCommand.{command_parsed};
 
-use crate::arguments::{name_behind, name_with_limits, only_word, two_names_behind};
+use crate::arguments::{
+    name_behind, name_with_limits, only_word, seed_and_count, two_names_behind,
+};
 use base_kinds::Limits;
 
 /// What the words of a run ask for.
@@ -13,6 +15,7 @@ pub enum Command<'a> {
     Init { journal: &'a str, limits: Limits },
     Log { journal: &'a str },
     Session { schema: &'a str, journal: &'a str },
+    Load { seed: u64, count: u32 },
     Help,
     Version,
 }
@@ -37,6 +40,9 @@ pub fn command_of(words: &[String]) -> Option<Command<'_>>
     }
     if let Some((schema, journal)) = two_names_behind(words, "session") {
         return Some(Command::Session { schema, journal });
+    }
+    if let Some((seed, count)) = seed_and_count(words) {
+        return Some(Command::Load { seed, count });
     }
     if only_word(words, "--help") {
         return Some(Command::Help);

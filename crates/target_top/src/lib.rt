@@ -15,12 +15,14 @@ mod host;
 mod init_command;
 mod journal_file;
 mod laws;
+mod load_command;
 mod log_command;
 mod printing;
 mod program;
 mod schema_file;
 mod script_command;
 mod session_command;
+mod steady_clock;
 
 pub use ending::Ending;
 pub use files::{DiskFile, Files, MemFiles};

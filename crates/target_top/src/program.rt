@@ -11,6 +11,7 @@ use crate::files::Files;
 use crate::help::{help, version};
 use crate::host::{Host, Kit};
 use crate::init_command::init;
+use crate::load_command::load;
 use crate::log_command::log;
 use crate::printing::say_last;
 use crate::script_command::script;
@@ -82,6 +83,10 @@ fn obey<K: Kit>(alloc: Global, words: &[String], host: Host<K>) -> CommandEnd<K>
             CommandEnd::with_disk(host, end)
         }
         Some(Command::Session { schema, journal }) => session(alloc, schema, journal, host),
+        Some(Command::Load { seed, count }) => {
+            let ending = load(alloc, seed, count, &mut host);
+            CommandEnd::without_disk(host, ending)
+        }
         Some(Command::Help) => {
             let ending = help(&mut host);
             CommandEnd::without_disk(host, ending)

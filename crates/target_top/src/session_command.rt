@@ -47,11 +47,11 @@ impl<I: Source, O: Sink, C: Clock> Model for Streams<I, O, C> {
 
 /// What a session leaves of what it was handed, and how it ended.
 #[derive(Drop)]
-struct DiskSession<D, I: Source, O: Sink, C: Clock> {
-    disk: D,
-    streams: Streams<I, O, C>,
-    how: Option<How>,
-    ending: Ending,
+pub(crate) struct DiskSession<D, I: Source, O: Sink, C: Clock> {
+    pub(crate) disk: D,
+    pub(crate) streams: Streams<I, O, C>,
+    pub(crate) how: Option<How>,
+    pub(crate) ending: Ending,
 }
 
 /// Serves one connection over the input and the output, under the schema whose text is in the one file, on the book whose journal
@@ -129,7 +129,7 @@ fn schema_and_desk<F: Files>(
 }
 
 /// Opens the book of the journal on the disk, and serves the connection.
-fn on_disk<D: Disk + Drop, I: Source, O: Sink, C: Clock>(
+pub(crate) fn on_disk<D: Disk + Drop, I: Source, O: Sink, C: Clock>(
     alloc: Global,
     schema: Schema,
     desk: &Desk,

@@ -7,7 +7,7 @@ use Rattle.target_top.specs.declared.ending.Ending.TheVariants.{NoMemory}
 use Rattle.target_top.specs.Ending.{exit_status}
 use Rattle.target_top.specs.Environment.{Environment, SeenDisk, unread_files, texts_of}
 use Rattle.script_run.specs.laws.ScriptLaws.{HaveNoStops}
-use Rattle.target_top.specs.Commands.{IsNoSession}
+use Rattle.target_top.specs.Commands.{IsNoLoad, IsNoSession}
 use Rattle.target_top.specs.Run.{Run}
 use Rattle.target_top.specs.laws.RunLaws.{NothingFailed}
 use Rattle.target_top.specs.laws.WordLaws.{AreDecided}
@@ -57,13 +57,13 @@ pub record WroteAlike (one other : Output) (status status' : ℕ) : Type 0 where
   pub statuses : status ≡ status'
 
 -- Two runs with the same words over fresh and equal objects in memory, which both go well, write the same, where no line of the
--- input is one of a script that lets its disk stop. The words are no session's: what that answers stands on its clock and on the
--- memory that each call finds.
+-- input is one of a script that lets its disk stop. The words are no session's and no load's: what these answer stands on the
+-- clock and on the memory that each call finds.
 abbrev pub RunsAlike : Type 0
 RunsAlike =
     (words : List (List ℕ)) (memory : Memory) (a b c d : Environment)
     (returned returned' : Option SeenDisk) (how how' : Option How) (status status' : ℕ) →
-    AreDecided words → IsNoSession words → HaveNoStops memory.octets →
+    AreDecided words → IsNoSession words → IsNoLoad words → HaveNoStops memory.octets →
     IsFreshMemory memory a → IsFreshMemory memory c →
     Run words a b returned how status → Run words c d returned' how' status' →
     WentWell a b returned status → WentWell c d returned' status' →

@@ -1,5 +1,5 @@
 use Rattle.std.proofs.Common.{rules, None, option_map, ap, refl}
-use Rattle.target_top.specs.Commands.{Script, Init, Gives, octets_of_words}
+use Rattle.target_top.specs.Commands.{Script, Init, Load, Gives, octets_of_words}
 use Rattle.target_top.specs.Environment.{seen_disk}
 use Rattle.target_top.proofs.WordLists.{ends_so}
 use Rattle.target_top.proofs.program.obey.Goals as goal
@@ -21,3 +21,12 @@ returns-in-Some-Init-clause-done g c =
     let end = c.with_disk in
     let disk = ap (λ d. option_map (λ disk. seen_disk g.K.Files.Disk.Disk.told g.K.Files.Disk.Disk.faults disk) d) end.ensures.disk in
     ends_so words (Init given.journal.now given.limits) c.args.host c.init-end.new.host end.result.host _ _ None end.result.how c.init-end.result.ending end.result.ending end.ensures.host disk end.ensures.how end.ensures.ending is c.init-end.ensures
+
+pub returns-in-Some-Load-clause-done : goal.returns-in-Some-Load-clause-done
+returns-in-Some-Load-clause-done g c =
+    let words = octets_of_words c.args.words.now in
+    let given = c.in-Some-Load in
+    let is : Gives words (Load given.seed given.count) = search rules in
+    let end = c.without_disk-in-Some-Load in
+    let disk = ap (λ d. option_map (λ disk. seen_disk g.K.Files.Disk.Disk.told g.K.Files.Disk.Disk.faults disk) d) end.ensures.disk in
+    ends_so words (Load given.seed given.count) c.args.host c.load-ending.new.host end.result.host None _ None end.result.how c.load-ending.result end.result.ending end.ensures.host disk end.ensures.how end.ensures.ending is (c.load-ending.ensures, refl)
