@@ -3,3 +3,5 @@ pub mod Owning
 pub mod Finding
 pub mod Turning
 pub mod Meeting
+pub mod Sending
+pub mod Crossing
