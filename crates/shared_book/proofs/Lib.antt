@@ -5,3 +5,4 @@ pub mod Turning
 pub mod Meeting
 pub mod Sending
 pub mod Crossing
+pub mod Ending

@@ -1,3 +1,4 @@
 pub mod inner
 pub mod Items
+pub mod laws
 pub mod Visits

@@ -7,8 +7,10 @@
 
 mod held;
 mod item;
+mod laws;
 mod visit;
 
 pub use held::HeldBook;
 pub use item::{OpenedWith, SharedItem};
+pub use laws::met_ports_went_on;
 pub use visit::Visit;
