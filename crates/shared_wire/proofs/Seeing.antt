@@ -1,0 +1,63 @@
+-- How a port sees the wire, by what its turn found and added.
+use Rattle.std.proofs.Common.{◌≡◌, ℕ, Bool, false, List, [], ◌∷◌, ◌++◌, refl, sym, ap, ◌∙◌, subst, append-nil}
+use Rattle.h2_events.specs.declared.port.Ready.{Ready}
+use Rattle.h2_events.specs.declared.port.Ready.TheVariants as ready
+use Rattle.h2_events.specs.declared.port.Took.{Took}
+use Rattle.h2_events.specs.declared.port.Took.TheVariants as took
+use Rattle.h2_events.specs.declared.said.Said.{Said}
+use Rattle.h2_send.specs.Inputs.{Input, Speech}
+use Rattle.h2_send.specs.Port.{Progress, Asks, GoesOn, Offers, Takes, Tries, ready_in}
+use Rattle.h2_send.specs.declared.condition.Condition.{Condition}
+use Rattle.shared_wire.specs.Records.{WireRecord, Deed, Gave, GoesOut, Leaves, TookBy, AreRecords, ReadsOn, SaysOn, last_record, left_in}
+use Rattle.shared_wire.specs.Visits.{DoesInTurn, TakesTurn, VisitView}
+use Rattle.shared_wire.proofs.Following.{last_is, leaves_last}
+use Rattle.shared_wire.proofs.GoingOn.{goes_on_behind}
+
+goes : (seen others : List WireRecord) → AreRecords seen → AreRecords (seen ++ others) → GoesOn (left_in seen) (left_in (seen ++ others))
+goes [] others are all = absurd are
+goes (first ∷ seen) others are all = goes_on_behind first seen others all
+
+module _ (old new : VisitView) (found added : List WireRecord) (turn : TakesTurn old found added new) where
+  found_on : GoesOn (left_in old.seen) (left_in found)
+  found_on = subst (λ l. GoesOn (left_in old.seen) (left_in l)) (sym turn.begins.whole) (goes old.seen turn.begins.others turn.has_seen (subst AreRecords turn.begins.whole turn.records))
+
+  seen_is : new.seen ≡ found ++ added
+  seen_is = ap (λ (v : VisitView). v.seen) turn.new_is
+
+  seen_same : added ≡ [] → new.seen ≡ found
+  seen_same none = seen_is ∙ ap (λ l. found ++ l) none ∙ append-nil found
+
+  -- what was said went out, or closed the wire
+  takes_by : (answer : Took) (input : Input) (left : Progress) → GoesOut left.condition input (left_in found) left.output → left.inputs ≡ (left_in found).inputs ++ input ∷ [] → TookBy answer left.condition → Takes answer input (left_in found) left
+  takes_by took.Taken input left out grows is = (subst (λ s. GoesOut s input (left_in found) left.output) is out, grows, is)
+  takes_by took.WriteFault input left out grows is = (subst (λ s. GoesOut s input (left_in found) left.output) is out, grows, is)
+  takes_by took.NoMemory input left out grows is = (subst (λ s. GoesOut s input (left_in found) left.output) is out, grows, is)
+  takes_by took.Busy input left out grows never = absurd never
+  takes_by took.Gone input left out grows never = absurd never
+
+  takes : (answer : Took) (input : Input) (r : WireRecord) → added ≡ r ∷ [] → r.deed ≡ Gave input → TookBy answer r.left.condition → Takes answer input (left_in found) (left_in new.seen)
+  takes answer input r is deed tooks =
+      let leaves : Leaves (Gave input) (left_in found) r.left = subst (λ (d : Deed). Leaves d (left_in found) r.left) deed (leaves_last found r turn.records (subst (λ l. AreRecords (found ++ l)) is turn.records_on)) in
+      let last : left_in new.seen ≡ r.left = ap left_in (seen_is ∙ ap (λ l. found ++ l) is) ∙ ap (λ (x : WireRecord). x.left) (last_is found r) in
+      subst (Takes answer input (left_in found)) (sym last) (takes_by answer input r.left leaves.2 leaves.1 tooks)
+
+  tries : (stream : ℕ) (said : Said) (answer : Took) (d : Ready) → ready_in stream (left_in found) ≡ d → SaysOn stream said answer found added → Tries d answer (Speech stream said) (left_in found) (left_in new.seen)
+  tries stream said answer ready.Free is says = let (r, one, deed, tooks) = says.free is in takes answer (Speech stream said) r one deed tooks
+  tries stream said answer ready.Busy is says = let (none, busy) = says.busy is in (busy, ap left_in (seen_same none))
+  tries stream said answer ready.Gone is says = let (none, gone) = says.gone is in (gone, ap left_in (seen_same none))
+
+pub asks : (stream : ℕ) (answer : Ready) (old new : VisitView) → DoesInTurn (ReadsOn stream answer) old new → Asks false answer stream (left_in old.seen) (left_in new.seen)
+asks stream answer old new does =
+    let same : new.seen ≡ does.found = seen_same old new does.found does.added does.turn does.does.none in record {
+      goes_on = subst (λ l. GoesOn (left_in old.seen) (left_in l)) (sym same) (found_on old new does.found does.added does.turn);
+      alone = λ never. absurd cc;
+      answers = does.does.is ∙ ap (λ l. ready_in stream (left_in l)) (sym same);
+    }
+
+pub offers : (stream : ℕ) (said : Said) (answer : Took) (old new : VisitView) → DoesInTurn (SaysOn stream said answer) old new → Offers false answer stream said (left_in old.seen) (left_in new.seen)
+offers stream said answer old new does = record {
+  found = left_in does.found;
+  goes_on = found_on old new does.found does.added does.turn;
+  alone = λ never. absurd cc;
+  tries = tries old new does.found does.added does.turn stream said answer (ready_in stream (left_in does.found)) refl does.does;
+}

@@ -1,0 +1,15 @@
+use Rattle.std.proofs.Common.{◌∙◌, sym, subst}
+use Rattle.shared_wire.specs.Visits.{GivesBack, VisitView}
+use Rattle.shared_wire.proofs.Turning.{went_on_so, has_made, authors}
+use Rattle.shared_wire.proofs.visit.WireVisit.finish.Goals as goal
+
+pub returns : goal.returns
+returns g c =
+    let pass = c.self.inside.pass.seat in let e = c.last.ensures in let counts = c.self.inside.counts in
+    subst (λ (o : VisitView). GivesBack g.S.Sink.seen o c.give.result) c.self.view_is (record {
+      all = c.last.result.records;
+      stands = c.give.ensures.stands;
+      begins = went_on_so pass.table_id counts pass.me.0 e.0 c.last.result.records c.self.invariant.2 e.7 e.5 e.6 e.4 e.3 e.1 e.2 e.8;
+      has_made = has_made pass.table_id counts pass.me.0 e.0 c.last.result.records c.self.invariant.2 e.7 e.5 e.6 e.4 e.3 e.1 e.2 e.8;
+      differ = authors pass.table_id counts pass.me.0 e.0 c.last.result.records c.self.invariant.2 e.7 e.5 e.6 e.4 e.3 e.1 e.2 e.8;
+    })

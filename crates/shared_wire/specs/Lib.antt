@@ -1,0 +1,4 @@
+pub mod inner
+pub mod Records
+pub mod Visits
+pub mod worked

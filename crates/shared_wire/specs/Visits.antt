@@ -1,0 +1,165 @@
+-- What a port of a wire behind a lock shows, and what its calls do.
+use Rattle.std.specs.Prelude.{◌≡◌, ◌≢◌, ◌⊎◌, ℕ, ◌<◌, ◌≤◌, max, length, drop, List, [], ◌∷◌, ◌++◌, map, refl}
+use Rattle.std.specs.List.{AllByRecursion}
+use Rattle.std.specs.Coded.{Coded, code_by, coded×}
+use Rattle.edge_traits.specs.Output.{Output}
+use Rattle.atomic_table.specs.Seated.{TableId}
+use Rattle.h2_send.specs.Port.{PortView, Progress, unused_port}
+use Rattle.h2_send.specs.Conditions.{IsClosed}
+use Rattle.h2_send.specs.Wires.{WireView, progress_of}
+use Rattle.turn_lock.specs.Chronicles.{entries_by}
+use Rattle.turn_lock.specs.declared.view.Ended.{Ended}
+use Rattle.turn_lock.specs.declared.view.View.{View}
+use Rattle.shared_wire.specs.Records.{WireRecord, Deed, Began, record_author, AreRecords, IsOpen, left_in}
+
+-- a lock's name, as a list of numbers
+abbrev pub lock_name : TableId → List ℕ
+lock_name z =
+    z.words ∷ z.slots ∷ z.views_name ∷ z.atom ∷ z.block ∷ z.offset ∷ z.slot_names
+
+-- a port that was met by another, as it was then
+pub record VisitEnd : Type 0 where
+  pub author : ℕ
+  pub start : List WireRecord
+  pub made : List WireRecord
+
+pub record VisitView : Type 0 where
+  -- which wire it is of
+  pub lock : List ℕ
+  pub author : ℕ
+  -- the records that it had seen when it was made, and those that it has seen now
+  pub start : List WireRecord
+  pub seen : List WireRecord
+  -- its own records past the start
+  pub made : List WireRecord
+  -- the ports that ended by meeting it
+  pub met : List VisitEnd
+  -- so many numbers of authors at least are given out
+  pub known : ℕ
+  -- what went through it as a port of the wire
+  pub counts : PortView
+
+abbrev pub end_of : VisitView → VisitEnd
+end_of visit = record { author = visit.author; start = visit.start; made = visit.made }
+
+abbrev pub ended_visit : Ended WireRecord → VisitEnd
+ended_visit pass = record { author = pass.number; start = pass.start; made = pass.made }
+
+-- from what a pass of the lock knows
+abbrev pub visit_of : TableId → View WireRecord → PortView → VisitView
+visit_of table pass counts = record {
+  lock = lock_name table;
+  author = pass.turn.number;
+  start = pass.start;
+  seen = pass.seen;
+  made = pass.made;
+  met = map ended_visit pass.ended;
+  known = pass.known;
+  counts = counts;
+}
+
+-- past the records that the port had seen when it was made, these have of its author just those that it made
+abbrev pub HasJustMade : List WireRecord → VisitEnd → Type 0
+HasJustMade rs visit = entries_by record_author visit.author (drop (length visit.start) rs) ≡ visit.made
+
+-- no two of these ports have one author
+abbrev pub AuthorsDiffer : List VisitEnd → Type 0
+AuthorsDiffer [] = Unit {0}
+AuthorsDiffer (visit ∷ visits) =
+    AllByRecursion (λ other. other.author ≢ visit.author) visits × AuthorsDiffer visits
+
+-- these records begin with those, and have no more of this author
+pub record OthersWentOn (author : ℕ) (seen found : List WireRecord) : Type 0 where
+  pub others : List WireRecord
+  pub whole : found ≡ seen ++ others
+  pub none : entries_by record_author author others ≡ []
+
+-- the records with which a wire is put behind its lock
+abbrev pub first_records : Progress → List WireRecord
+first_records at = record { author = 0; deed = Began; left = at } ∷ []
+
+-- the first port of a wire
+abbrev pub IsFirstVisit : Progress → VisitView → Type 0
+IsFirstVisit at visit = visit ≡ record {
+  lock = visit.lock;
+  author = 1;
+  start = first_records at;
+  seen = first_records at;
+  made = [];
+  met = [];
+  known = 1;
+  counts = unused_port;
+}
+
+-- One turn: it finds records that begin with those seen, have all that this port and those that it met made, and no others of
+-- their authors. It adds these, which are this port's, and which it has then seen.
+pub record TakesTurn (old : VisitView) (found added : List WireRecord) (new : VisitView) : Type 0 where
+  pub own : 0 < old.author
+  pub has_seen : AreRecords old.seen
+  pub begins : OthersWentOn old.author old.seen found
+  pub has_made : AllByRecursion (HasJustMade found) (end_of old ∷ old.met)
+  pub records : AreRecords found
+  pub by : AllByRecursion (λ (r : WireRecord). r.author ≡ old.author) added
+  pub records_on : AreRecords (found ++ added)
+  pub new_is : new ≡ record old { seen = found ++ added; made = old.made ++ added }
+
+-- one turn, in which this is done by what it found and added
+pub record DoesInTurn (Does : List WireRecord → List WireRecord → Type 0) (old new : VisitView) : Type 0 where
+  pub found : List WireRecord
+  pub added : List WireRecord
+  pub turn : TakesTurn old found added new
+  pub does : Does found added
+
+-- A further port was made: it has seen what the other one has, has another author, whose number wasn't known to be given out,
+-- and is known to be from then on, and has counted nothing.
+pub record IsTwin (old new twin : VisitView) : Type 0 where
+  pub new_is : new ≡ record old { known = new.known }
+  pub other : twin.author ≢ old.author
+  pub later : old.known < twin.author
+  pub given_out : twin.author ≤ new.known
+  pub own : 0 < old.author
+  pub some : 0 < twin.author
+  pub twin_is : twin ≡ record {
+    lock = old.lock;
+    author = twin.author;
+    start = old.seen;
+    seen = old.seen;
+    made = [];
+    met = [];
+    known = twin.author;
+    counts = unused_port;
+  }
+
+-- so many numbers of authors there are
+abbrev pub most_authors : ℕ
+most_authors = 4294967295
+
+-- The other port has ended, and what it was is kept. What either has seen, this one has seen then. It has all that this port and
+-- those that it met made, who are all different authors.
+pub record Meets (old other new : VisitView) : Type 0 where
+  pub seen : (new.seen ≡ old.seen) ⊎ (new.seen ≡ other.seen)
+  pub has_own : OthersWentOn old.author old.seen new.seen
+  pub has_other : OthersWentOn other.author other.seen new.seen
+  pub has_made : AllByRecursion (HasJustMade new.seen) (end_of new ∷ new.met)
+  pub differ : AuthorsDiffer (end_of new ∷ new.met)
+  pub new_is : new ≡ record old {
+    seen = new.seen;
+    met = old.met ++ end_of other ∷ other.met;
+    known = max old.known other.known;
+  }
+
+-- how a wire stands behind its records
+pub record StandsBehind {S : Type 0} (seen : S → Output) (rs : List WireRecord) (wire : WireView S) : Type 0 where
+  pub records : AreRecords rs
+  pub output : seen wire.sink ≡ (left_in rs).output
+  pub is_open : IsOpen rs → progress_of seen wire ≡ left_in rs
+  pub closed : (IsOpen rs → ⊥) → IsClosed wire.condition
+
+-- The wire that the last port gives back, and its records, which begin with what the port has seen, and have all that the port
+-- made, and all that each port that it met made, and no others of their authors behind what these had seen at their start.
+pub record GivesBack {S : Type 0} (seen : S → Output) (visit : VisitView) (wire : WireView S) : Type 0 where
+  pub all : List WireRecord
+  pub stands : StandsBehind seen all wire
+  pub begins : OthersWentOn visit.author visit.seen all
+  pub has_made : AllByRecursion (HasJustMade all) (end_of visit ∷ visit.met)
+  pub differ : AuthorsDiffer (end_of visit ∷ visit.met)

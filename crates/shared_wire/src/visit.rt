@@ -1,0 +1,238 @@
+ghost use Rattle.std.specs.Prelude.{◌≡◌, ◌≤◌, [], IfOk, IfErr, IsErrOf};
+ghost use Rattle.h2_events.specs.Items.{said_by};
+ghost use Rattle.h2_events.specs.Ports.{FitsMessage};
+ghost use Rattle.h2_send.specs.Offers.{IsStatus};
+ghost use Rattle.h2_send.specs.Port.{asked, noted, ready_in};
+ghost use Rattle.h2_send.specs.Wires.{progress_of};
+ghost use Rattle.shared_wire.specs.Records.{ActsOn, EndsOn, ReadsOn, SaysOn, StatesOn};
+ghost use Rattle.shared_wire.specs.Visits.{DoesInTurn, GivesBack, IsFirstVisit, IsTwin, Meets, most_authors};
+
+use crate::counts::Counts;
+use crate::held::HeldWire;
+use crate::log::Recorded;
+use book_port::PassFault;
+use edge_traits::Sink;
+use h2_events::{Piece, Ready, RecvEvent, Took};
+use h2_send::{Condition, Wire, WireFaultOut, WirePort};
+use std::alloc::Global;
+use std::marker::Model;
+use std::sync::{Arc, Wait};
+use turn_lock::{Pass, TurnLock};
+
+/// A port of a wire that others reach too. Each call waits for its turn, takes one, and gives the wire back. Of each call that
+/// finds the wire open a record is kept, but for an offer on a stream that isn't free.
+#[derive(Drop)]
+pub struct WireVisit<S: Sink + Drop, R> {
+    rt: R,
+    lock: Arc<TurnLock<HeldWire<S>>, Global>,
+    pass: Pass<HeldWire<S>, Recorded>,
+    counts: Counts,
+}
+
+impl<S: Sink + Drop, R> Model for WireVisit<S, R> {
+    ghost use Rattle.std.specs.Prelude.{◌≡◌};
+    ghost use Rattle.std.specs.Coded.{codes};
+    ghost use Rattle.std.specs.Arc.{arc_value};
+    ghost use Rattle.turn_lock.specs.Passes.{IsOutside};
+    ghost use Rattle.shared_wire.specs.Visits.{VisitView, visit_of};
+    ghost use Rattle.shared_wire.specs.inner.Keeping.{KeepsWire};
+
+    ghost Value = { VisitView };
+
+    ghost coded = { Prim.hlevel codes };
+
+    ghost view = { λ visit. visit_of visit.pass.seat.table_id visit.pass.seat.me.0 visit.counts };
+
+    ghost invariant = { λ visit.
+        (visit.pass.seat.table_id ≡ (arc_value visit.lock).table.shared.table_id)
+        × IsOutside visit.pass.seat × KeepsWire visit.pass.seat.me.0 };
+}
+
+impl<S: Sink + Drop, R: Drop> WireVisit<S, R> {
+    /// A lock round a wire that is open, and the first port of it, whose author is 1. The wire is handed back for want of memory
+    /// alone.
+    pub fn make(rt: R, alloc: Global, wire: Wire<S>) -> Result<WireVisit<S, R>, Wire<S>>
+        requires is_open { wire.condition ≡ Condition.Open }
+        ensures ok { IfOk result (λ visit. IsFirstVisit (progress_of S.seen wire) visit) }
+        ensures err { IfErr result (λ back. back ≡ wire) }
+    {
+        let held = HeldWire::make(wire);
+        let Ok((lock, mut pass)) = TurnLock::open(alloc, &held) else {
+            return Err(held.give());
+        };
+        match Arc::new(alloc, lock) {
+            Ok(lock) => {
+                lock.leave(&mut pass, held);
+                Ok(WireVisit {
+                    rt,
+                    lock,
+                    pass,
+                    counts: Counts::none(),
+                })
+            }
+            Err(_) => Err(held.give()),
+        }
+    }
+
+    /// The number of its author.
+    pub fn author(&self) -> u32
+        ensures { result ≡ self.now.author }
+    {
+        self.lock.number(&self.pass)
+    }
+
+    /// The port was asked how a stream stands, and this was answered.
+    fn note_answer(&mut self, ready: Ready)
+        ensures { self.new ≡ record self.old { counts = asked ready self.old.counts } }
+    {
+        self.counts.note_answer(ready);
+    }
+
+    /// A piece was offered through the port, and this became of it.
+    fn note(&mut self, took: Took, given: &(u32, Piece))
+        ensures is { self.new ≡ record self.old { counts = noted took given.now self.old.counts } }
+        ensures later { self.old.counts.offers ≤ self.new.counts.offers }
+    {
+        self.counts.note(took, given);
+    }
+
+    /// Ends another port of the same wire. This one has then seen what either has.
+    pub fn meet(&mut self, other: WireVisit<S, R>)
+        requires { other.lock ≡ self.old.lock }
+        ensures { Meets self.old other self.new }
+    {
+        let WireVisit {
+            rt: _,
+            lock: _,
+            pass,
+            counts: _,
+        } = other;
+        self.lock.join(&mut self.pass, pass);
+    }
+}
+
+impl<S: Sink + Drop, R: Wait + Clone + Drop> WireVisit<S, R> {
+    /// A further port of the wire, for another thread. It has counted nothing.
+    ///
+    /// `Spent`: all 4,294,967,295 numbers of authors are given out, as the port knows from then on.
+    pub fn twin(&mut self) -> Result<WireVisit<S, R>, PassFault>
+        ensures ok { IfOk result (λ twin. IsTwin self.old self.new twin) }
+        ensures spent { IsErrOf result PassFault.Spent
+            → self.new ≡ record self.old { known = most_authors } }
+        ensures memory { IsErrOf result PassFault.NoMemory → self.new ≡ self.old }
+        ensures always { self.old.known ≡ most_authors → IfOk result (λ _. ⊥) }
+    {
+        let Ok(lock) = Arc::try_clone(&self.lock) else {
+            return Err(PassFault::NoMemory);
+        };
+        let Ok(rt) = self.rt.clone() else {
+            return Err(PassFault::NoMemory);
+        };
+        let Ok(pass) = self.lock.split(&self.rt, &mut self.pass) else {
+            return Err(PassFault::Spent);
+        };
+        let counts = Counts::none();
+        Ok(WireVisit {
+            rt,
+            lock,
+            pass,
+            counts,
+        })
+    }
+
+    /// Acts on an event, as `Wire::act` does, in one turn.
+    pub fn act(&mut self, alloc: Global, event: &RecvEvent) -> Result<(), WireFaultOut>
+        ensures { DoesInTurn (ActsOn event.now result) self.old self.new }
+    {
+        let author = self.lock.number(&self.pass);
+        let mut held = self.lock.enter(&self.rt, &mut self.pass);
+        let done = held.act(alloc, author, event);
+        self.lock.leave(&mut self.pass, held);
+        done
+    }
+
+    /// Answers a call with a status of HTTP, as `Wire::http` does, in one turn.
+    pub fn http(&mut self, alloc: Global, stream: u32, status: u16) -> Took
+        requires status { IsStatus status }
+        ensures { DoesInTurn (StatesOn stream status result) self.old self.new }
+    {
+        let author = self.lock.number(&self.pass);
+        let mut held = self.lock.enter(&self.rt, &mut self.pass);
+        let took = held.http(alloc, author, stream, status);
+        self.lock.leave(&mut self.pass, held);
+        took
+    }
+
+    /// Ends the connection, as `Wire::finish` does, in one turn.
+    pub fn close(&mut self, code: u32) -> Result<(), WireFaultOut>
+        ensures { DoesInTurn (EndsOn code result) self.old self.new }
+    {
+        let author = self.lock.number(&self.pass);
+        let mut held = self.lock.enter(&self.rt, &mut self.pass);
+        let done = held.close(author, code);
+        self.lock.leave(&mut self.pass, held);
+        done
+    }
+
+    /// Whether a stream takes a piece now.
+    pub fn readiness(&mut self, stream: u32) -> Ready
+        ensures { DoesInTurn (ReadsOn stream result) self.old self.new }
+    {
+        let held = self.lock.enter(&self.rt, &mut self.pass);
+        let ready = held.readiness(stream);
+        self.lock.leave(&mut self.pass, held);
+        ready
+    }
+
+    /// Says a piece on a stream that is free, as `Wire::say` does, in one turn.
+    pub fn say(&mut self, alloc: Global, stream: u32, piece: &Piece) -> Took
+        requires size { FitsMessage piece.now }
+        ensures { DoesInTurn (SaysOn stream (said_by piece.now) result) self.old self.new }
+    {
+        let author = self.lock.number(&self.pass);
+        let mut held = self.lock.enter(&self.rt, &mut self.pass);
+        let took = held.say(alloc, author, stream, piece);
+        self.lock.leave(&mut self.pass, held);
+        took
+    }
+
+    /// Waits for its turn, and gives the wire back for good. A port of the wire that comes later waits for ever, so whoever ends a
+    /// wire meets all other ports before.
+    pub fn finish(self) -> Wire<S>
+        ensures { GivesBack S.seen self result }
+    {
+        let WireVisit {
+            rt,
+            lock,
+            pass,
+            counts: _,
+        } = self;
+        lock.last(&rt, pass).give()
+    }
+}
+
+impl<S: Sink + Drop, R: Wait + Clone + Drop> WirePort for WireVisit<S, R> {
+    ghost use Rattle.std.specs.Prelude.{false};
+    ghost use Rattle.shared_wire.specs.Records.{left_in};
+
+    ghost progress = { λ visit. left_in visit.seen };
+
+    ghost is_alone = { λ visit. false };
+
+    ghost owns = { λ visit other. false };
+
+    ghost counts = { λ visit. visit.counts };
+
+    fn ready(&mut self, stream: u32) -> Ready {
+        let ready = self.readiness(stream);
+        self.note_answer(ready);
+        ready
+    }
+
+    fn offer(&mut self, alloc: Global, stream: u32, piece: Piece) -> Took {
+        let given = (stream, piece);
+        let took = self.say(alloc, stream, &given.1);
+        self.note(took, &given);
+        took
+    }
+}
