@@ -95,9 +95,12 @@ module _ (a b c : Progress) (g : GoesOn a b) (h : GoesOn b c) where
   ends_both is_open (inl mid) = ends_later is_open mid
   ends_both is_open (inr same) = ends_before is_open same
 
+  wrote_on : a.condition ≡ condition.Open → c.condition ≡ condition.Open → b.condition ≡ condition.Open → Wrote (octets_of (frames_by (line_of a) (g.others ++ h.others))) a.output c.output
+  wrote_on is_open then_ mid = wrote_both a.output b.output c.output (octets_of (frames_by (line_of a) g.others)) (octets_of (frames_by (line_after (line_of a) g.others) h.others)) (octets_of (frames_by (line_of a) (g.others ++ h.others))) (octets_more (line_of a) g.others h.others) (g.wrote is_open mid) (subst (λ l. Wrote (octets_of (frames_by l h.others)) b.output c.output) line_b (h.wrote mid then_))
+
   wrote_later : a.condition ≡ condition.Open → c.condition ≡ condition.Open → (b.condition ≡ condition.Open) ⊎ (c ≡ b) → Wrote (octets_of (frames_by (line_of a) (g.others ++ h.others))) a.output c.output
-  wrote_later is_open then_ (inl mid) = wrote_both a.output b.output c.output (octets_of (frames_by (line_of a) g.others)) (octets_of (frames_by (line_after (line_of a) g.others) h.others)) (octets_of (frames_by (line_of a) (g.others ++ h.others))) (octets_more (line_of a) g.others h.others) (g.wrote is_open mid) (subst (λ l. Wrote (octets_of (frames_by l h.others)) b.output c.output) line_b (h.wrote mid then_))
-  wrote_later is_open then_ (inr same) = wrote_later is_open then_ (inl (ap (λ p. p.condition) (sym same) ∙ then_))
+  wrote_later is_open then_ (inl mid) = wrote_on is_open then_ mid
+  wrote_later is_open then_ (inr same) = wrote_on is_open then_ (ap (λ p. p.condition) (sym same) ∙ then_)
 
   pub goes_further : GoesOn a c
   goes_further = record {

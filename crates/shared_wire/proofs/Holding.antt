@@ -1,20 +1,32 @@
 -- What a turn holds, behind one record more.
-use Rattle.std.proofs.Common.{◌≡◌, ◌⊎◌, inl, inr, ℕ, ◌+◌, ◌<◌, List, [], ◌∷◌, ◌++◌, length, refl, sym, ap, ◌∙◌, subst, arith, length-append, append-nil}
+use Rattle.std.proofs.Common.{◌≡◌, ◌⊎◌, inl, inr, ℕ, ◌+◌, ◌<◌, List, [], ◌∷◌, ◌++◌, Bool, false, length, Result, Ok, Err, refl, sym, ap, ◌∙◌, subst, arith, length-append, append-nil}
 use Rattle.edge_traits.specs.Output.{Output}
-use Rattle.h2_send.specs.Conditions.{answer_of, IsClosed}
+use Rattle.h2_events.specs.declared.port.Ready.{Ready}
+use Rattle.h2_events.specs.declared.port.Ready.TheVariants as ready
+use Rattle.h2_events.specs.declared.port.Took.{Took}
+use Rattle.h2_events.specs.declared.port.Took.TheVariants as took
+use Rattle.h2_send.specs.Conditions.{answer_of, condition_after, IsClosed}
 use Rattle.h2_send.specs.Lines.{first_line}
 use Rattle.h2_send.specs.Orders.{line_after}
-use Rattle.h2_send.specs.Port.{Progress}
-use Rattle.h2_send.specs.Wires.{WireView, IsFolded, progress_of}
+use Rattle.h2_events.specs.declared.said.Said.{Said}
+use Rattle.h2_send.specs.Port.{Progress, ready_in}
+use Rattle.h2_send.specs.Wires.{WireView, Does, IsFolded, finished, progress_of}
+use Rattle.h2_send.specs.declared.given.Given.{Given}
+use Rattle.h2_send.specs.declared.fault.WireFaultOut.{WireFaultOut}
+use Rattle.h2_send.specs.declared.fault.WireFaultOut.TheVariants as fault
 use Rattle.h2_send.specs.declared.condition.Condition.{Condition}
 use Rattle.h2_send.specs.declared.condition.Condition.TheVariants as condition
 use Rattle.h2_send.proofs.Closing.{open_line}
-use Rattle.shared_wire.specs.Records.{Deed, Starved, WireRecord, Leaves, Adds, AddsSo, AddsWhereOpen, AreRecords, IsOpen, fault_behind, fault_in, last_record, left_in}
+use Rattle.shared_wire.specs.Records.{Deed, Starved, WireRecord, Leaves, Adds, AddsWhereOpen, AnswersEnd, AnswersPiece, SaysOn, AreRecords, IsOpen, fault_behind, fault_in, last_record, left_in}
 use Rattle.shared_wire.specs.Visits.{StandsBehind}
 use Rattle.shared_wire.specs.inner.Holding.{HoldsOpen, Holds, most_records}
+use Rattle.shared_wire.specs.inner.Telling.{Loses, acted_so, condition_by, deed_of, left_by, starved_left, starved_record, stated_so}
+use Rattle.shared_wire.specs.declared.log.Noted.{Noted}
+use Rattle.shared_wire.specs.declared.log.Noted.TheVariants as noted
 use Rattle.shared_wire.proofs.Following.{last_is, records_more}
+use Rattle.shared_wire.proofs.Leaving.{told, ends_silently}
 
-closed_not_open : (state : Condition) → IsClosed state → state ≡ condition.Open → ⊥
+pub closed_not_open : (state : Condition) → IsClosed state → state ≡ condition.Open → ⊥
 closed_not_open state closed is = subst IsClosed is closed
 
 -- how it stands behind one record more, which tells of the wire as it is left
@@ -43,7 +55,7 @@ module _ {S : Type 0} (seen : S → Output) (v : WireView S) (rs : List WireReco
   pub holds_on : (state : Condition) (count : ℕ) → length rs ≡ count → progress_of seen v ≡ r.left → v.condition ≡ state → (state ≡ condition.Open) ⊎ IsClosed state → ((s : Condition) → fault_behind r.deed s ≡ answer_of s) → IsFolded v.condition v.line v.inputs → (state ≡ condition.Open → count + 1 < most_records) → Holds seen state v all (count + 1)
   holds_on state count long is stands either plain folded room = record {
     counted = counted count long;
-    stands = stands_behind (ap (λ (p : Progress). p.output) is) (λ _. is) (λ no. closed_then either no);
+    stands = stands_behind (ap (λ (p : Progress). p.output) is) (λ _. is) (λ shut. closed_then either shut);
     answers = sym (ap (λ (x : WireRecord). fault_behind x.deed x.left.condition) last ∙ plain r.left.condition ∙ ap answer_of left_state);
     is_open = λ then_. record {
       is_open = ap (λ (x : WireRecord). x.left.condition) last ∙ left_state ∙ then_;
@@ -51,24 +63,24 @@ module _ {S : Type 0} (seen : S → Output) (v : WireView S) (rs : List WireReco
       line = open_line v.condition v.line v.inputs (stands ∙ then_) folded;
       room = room then_;
     };
-    closed = λ no yes. no (sym left_state ∙ ap (λ (x : WireRecord). x.left.condition) (sym last) ∙ yes);
+    closed = λ shut is. shut (sym left_state ∙ ap (λ (x : WireRecord). x.left.condition) (sym last) ∙ is);
   }
     where
       left_state : r.left.condition ≡ state
       left_state = ap (λ (p : Progress). p.condition) (sym is) ∙ stands
 
       closed_then : (state ≡ condition.Open) ⊎ IsClosed state → (r.left.condition ≡ condition.Open → ⊥) → IsClosed v.condition
-      closed_then (inl yes) no = absurd (no (left_state ∙ yes))
-      closed_then (inr closed) no = subst IsClosed (sym stands) closed
+      closed_then (inl opened) shut = absurd (shut (left_state ∙ opened))
+      closed_then (inr closed) shut = subst IsClosed (sym stands) closed
 
   -- there was room for this record alone, and the wire is closed
   pub holds_starved : (count : ℕ) → length rs ≡ count → seen v.sink ≡ r.left.output → IsClosed v.condition → IsClosed r.left.condition → fault_behind r.deed r.left.condition ≡ answer_of condition.NoMemory → Holds seen condition.NoMemory v all (count + 1)
   holds_starved count long output closed left_closed answers = record {
     counted = counted count long;
-    stands = stands_behind output (λ is. absurd (closed_not_open r.left.condition left_closed is)) (λ no. closed);
+    stands = stands_behind output (λ is. absurd (closed_not_open r.left.condition left_closed is)) (λ shut. closed);
     answers = sym (ap (λ (x : WireRecord). fault_behind x.deed x.left.condition) last ∙ answers);
     is_open = λ never. absurd cc;
-    closed = λ no yes. closed_not_open r.left.condition left_closed (ap (λ (x : WireRecord). x.left.condition) (sym last) ∙ yes);
+    closed = λ shut is. closed_not_open r.left.condition left_closed (ap (λ (x : WireRecord). x.left.condition) (sym last) ∙ is);
   }
 
 -- ---- what is added
@@ -79,18 +91,154 @@ adds_none author rs are = record { whole = sym (append-nil rs); by = tt; records
 pub adds_one : (author : ℕ) (rs : List WireRecord) (r : WireRecord) → r.author ≡ author → AreRecords rs → IsOpen rs → Leaves r.deed (left_in rs) r.left → Adds author rs (r ∷ []) (rs ++ r ∷ [])
 adds_one author rs r is are is_open leaves = record { whole = refl; by = (is, tt); records = records_more rs r are is_open leaves }
 
--- no record of a call that found the wire closed
-pub none_closed : (author : ℕ) (rs : List WireRecord) (Tells : WireRecord → Type 0) (Closed : Type 0) → AreRecords rs → (IsOpen rs → ⊥) → Closed → AddsSo author (λ found added. AddsWhereOpen found added Tells Closed) rs rs
-none_closed author rs Tells Closed are shut closed = record {
-  added = [];
-  adds = adds_none author rs are;
-  does = record { is_open = λ is. absurd (shut is); closed = λ _. (refl, closed) };
-}
+pub open_of : (state : Condition) → ((state ≡ condition.Open → ⊥) → ⊥) → state ≡ condition.Open
+open_of condition.New never = absurd (never (λ is. absurd cc))
+open_of condition.Open never = refl
+open_of condition.Finished never = absurd (never (λ is. absurd cc))
+open_of condition.WriteFault never = absurd (never (λ is. absurd cc))
+open_of condition.NoMemory never = absurd (never (λ is. absurd cc))
 
--- one of a call that found it open
-pub one_open : (author : ℕ) (rs new : List WireRecord) (r : WireRecord) (Tells : WireRecord → Type 0) (Closed : Type 0) → IsOpen rs → Adds author rs (r ∷ []) new → Tells r → AddsSo author (λ found added. AddsWhereOpen found added Tells Closed) rs new
-one_open author rs new r Tells Closed is_open adds tells = record {
-  added = r ∷ [];
-  adds = adds;
-  does = record { is_open = λ _. (r, refl, tells); closed = λ shut. absurd (shut is_open) };
+-- ---- one call on a wire that a turn found open
+
+module _ {S : Type 0} (seen : S → Output) (author : ℕ) (w v : WireView S) (state : Condition) (log new : List WireRecord) (count : ℕ) (h : Holds seen state w log count) (is_open : state ≡ condition.Open) (entry deed : Noted) (is : entry ≡ deed) (new_is : new ≡ log ++ told seen author entry v ∷ []) (leaves : Leaves (deed_of deed) (progress_of seen w) (left_by deed (progress_of seen v))) where
+  abbrev pub its_record : WireRecord
+  its_record = told seen author deed v
+
+  all_is : new ≡ log ++ its_record ∷ []
+  all_is = new_is ∙ ap (λ d. log ++ told seen author d v ∷ []) is
+
+  leaves_here : Leaves its_record.deed (left_in log) its_record.left
+  leaves_here = subst (λ at. Leaves its_record.deed at its_record.left) (h.stands.is_open (h.is_open is_open).is_open) leaves
+
+  pub noted_adds : Adds author log (its_record ∷ []) new
+  noted_adds = subst (Adds author log (its_record ∷ [])) (sym all_is) (adds_one author log its_record refl h.stands.records (h.is_open is_open).is_open leaves_here)
+
+  pub noted_holds : (next : Condition) → left_by deed (progress_of seen v) ≡ progress_of seen v → v.condition ≡ next → (next ≡ condition.Open) ⊎ IsClosed next → ((s : Condition) → fault_behind (deed_of deed) s ≡ answer_of s) → IsFolded v.condition v.line v.inputs → (next ≡ condition.Open → count + 1 < most_records) → Holds seen next v new (count + 1)
+  noted_holds next kept stands either plain folded room =
+      subst (λ l. Holds seen next v l (count + 1)) (sym all_is)
+      (holds_on seen v log its_record h.stands.records (h.is_open is_open).is_open leaves_here next count h.counted (sym kept) stands either plain folded room)
+
+-- ---- a call for which there was no room but the last
+
+module _ {S : Type 0} (seen : S → Output) (author : ℕ) (w v : WireView S) (state : Condition) (log new : List WireRecord) (count : ℕ) (h : Holds seen state w log count) (is_open : IsOpen log) (deed : Noted) (loses : Loses deed (left_in log)) (new_is : new ≡ log ++ told seen author deed v ∷ []) where
+  pub was_open : state ≡ condition.Open
+  was_open = open_of state (λ shut. h.closed shut is_open)
+
+  abbrev at : Progress
+  at = left_in log
+
+  abbrev pub lost : WireRecord
+  lost = starved_record author deed at
+
+  starved_is : (d : Noted) → Loses d at → progress_of seen v ≡ record at { condition = condition.Finished } → left_by d (progress_of seen v) ≡ starved_left d at
+  starved_is noted.Began never ends = absurd never
+  starved_is (noted.Gave given) never ends = absurd never
+  starved_is (noted.Lost given) accepted ends = ap (λ p. left_by (noted.Lost given) p) ends
+  starved_is (noted.Refused given) never ends = absurd never
+  starved_is (noted.Ended code) never ends = absurd never
+  starved_is noted.Starved any ends = ends
+
+  starved_leaves : (d : Noted) → Loses d at → Leaves (deed_of d) at (starved_left d at)
+  starved_leaves noted.Began never = absurd never
+  starved_leaves (noted.Gave given) never = absurd never
+  starved_leaves (noted.Lost given) accepted = (accepted, refl, refl)
+  starved_leaves (noted.Refused given) never = absurd never
+  starved_leaves (noted.Ended code) never = absurd never
+  starved_leaves noted.Starved any = refl
+
+  starved_closed : (d : Noted) → Loses d at → IsClosed (starved_left d at).condition × (fault_behind (deed_of d) (starved_left d at).condition ≡ answer_of condition.NoMemory) × (at.output ≡ (starved_left d at).output)
+  starved_closed noted.Began never = absurd never
+  starved_closed (noted.Gave given) never = absurd never
+  starved_closed (noted.Lost given) accepted = (tt, refl, refl)
+  starved_closed (noted.Refused given) never = absurd never
+  starved_closed (noted.Ended code) never = absurd never
+  starved_closed noted.Starved any = (tt, refl, refl)
+
+  module _ (result : Result (Unit {0}) WireFaultOut) (does : Does seen false condition.Finished [] (finished 0 w.line) result w v) where
+    ends : progress_of seen v ≡ record at { condition = condition.Finished }
+    ends = ends_silently seen author w v (h.is_open was_open).line result does ∙ ap (λ p. let q : Progress = record p { condition = condition.Finished } in q) (h.stands.is_open is_open)
+
+    all_lost : new ≡ log ++ lost ∷ []
+    all_lost = new_is ∙ ap (λ l. log ++ (let r : WireRecord = record { author = author; deed = deed_of deed; left = l } in r) ∷ []) (starved_is deed loses ends)
+
+    pub starved_adds : Adds author log (lost ∷ []) new
+    starved_adds = subst (Adds author log (lost ∷ [])) (sym all_lost) (adds_one author log lost refl h.stands.records is_open (starved_leaves deed loses))
+
+    pub starved_holds : Holds seen condition.NoMemory v new (count + 1)
+    starved_holds =
+        let shut = starved_closed deed loses in
+        subst (λ l. Holds seen condition.NoMemory v l (count + 1)) (sym all_lost)
+        (holds_starved seen v log lost h.stands.records is_open (starved_leaves deed loses) count h.counted
+        (ap (λ (p : Progress). p.output) ends ∙ shut.2) (subst IsClosed (sym (ap (λ (p : Progress). p.condition) ends)) tt) shut.0 shut.1)
+
+-- ---- what is noted
+
+pub either_after : (next : Condition) → IsClosed next → (result : Result (Unit {0}) WireFaultOut) → (condition_after next result ≡ condition.Open) ⊎ IsClosed (condition_after next result)
+either_after next closed (Ok tt) = inr closed
+either_after next closed (Err fault.WriteFault) = inr tt
+either_after next closed (Err fault.NoMemory) = inr tt
+either_after next closed (Err fault.Overflow) = inl refl
+
+pub either_open : (result : Result (Unit {0}) WireFaultOut) → (condition_after condition.Open result ≡ condition.Open) ⊎ IsClosed (condition_after condition.Open result)
+either_open (Ok tt) = inl refl
+either_open (Err fault.WriteFault) = inr tt
+either_open (Err fault.NoMemory) = inr tt
+either_open (Err fault.Overflow) = inl refl
+
+pub either_by : (answer : Took) → (condition_by answer ≡ condition.Open) ⊎ IsClosed (condition_by answer)
+either_by took.Taken = inl refl
+either_by took.Busy = inl refl
+either_by took.Gone = inl refl
+either_by took.WriteFault = inr tt
+either_by took.NoMemory = inr tt
+
+pub acted_kept : (given : Given) (result : Result (Unit {0}) WireFaultOut) (p : Progress) → left_by (acted_so given result) p ≡ p
+acted_kept given (Ok tt) p = refl
+acted_kept given (Err fault.WriteFault) p = refl
+acted_kept given (Err fault.NoMemory) p = refl
+acted_kept given (Err fault.Overflow) p = refl
+
+pub acted_plain : (given : Given) (result : Result (Unit {0}) WireFaultOut) (s : Condition) → fault_behind (deed_of (acted_so given result)) s ≡ answer_of s
+acted_plain given (Ok tt) s = refl
+acted_plain given (Err fault.WriteFault) s = refl
+acted_plain given (Err fault.NoMemory) s = refl
+acted_plain given (Err fault.Overflow) s = refl
+
+pub stated_kept : (given : Given) (answer : Took) (p : Progress) → left_by (stated_so given answer) p ≡ p
+stated_kept given took.Taken p = refl
+stated_kept given took.Busy p = refl
+stated_kept given took.Gone p = refl
+stated_kept given took.WriteFault p = refl
+stated_kept given took.NoMemory p = refl
+
+pub stated_plain : (given : Given) (answer : Took) (s : Condition) → fault_behind (deed_of (stated_so given answer)) s ≡ answer_of s
+stated_plain given took.Taken s = refl
+stated_plain given took.Busy s = refl
+stated_plain given took.Gone s = refl
+stated_plain given took.WriteFault s = refl
+stated_plain given took.NoMemory s = refl
+
+-- a connection that was ended is closed
+pub closed_after : (code : ℕ) (result : Result (Unit {0}) WireFaultOut) (r : WireRecord) → AnswersEnd code result r → IsClosed (condition_after condition.Finished result)
+closed_after code (Ok tt) r answers = tt
+closed_after code (Err fault.WriteFault) r answers = tt
+closed_after code (Err fault.NoMemory) r never = absurd never
+closed_after code (Err fault.Overflow) r never = absurd never
+
+-- a stream that is free neither keeps octets back nor is gone
+free_not_busy : {P : Type 0} → ready.Free ≡ ready.Busy → P
+free_not_busy is = absurd cc
+
+free_not_gone : {P : Type 0} → ready.Free ≡ ready.Gone → P
+free_not_gone is = absurd cc
+
+-- what is said of the one record that a call adds
+pub tells_open : (found : List WireRecord) (r : WireRecord) (Tells : WireRecord → Type 0) (Closed : Type 0) → IsOpen found → Tells r → AddsWhereOpen found (r ∷ []) Tells Closed
+tells_open found r Tells Closed is_open tells = record { is_open = λ _. (r, refl, tells); closed = λ shut. absurd (shut is_open) }
+
+pub tells_free : (stream : ℕ) (said : Said) (answer : Took) (found : List WireRecord) (r : WireRecord) → ready_in stream (left_in found) ≡ ready.Free → AnswersPiece stream said answer r → SaysOn stream said answer found (r ∷ [])
+tells_free stream said answer found r free tells = record {
+  free = λ _. (r, refl, tells);
+  busy = λ is. free_not_busy (sym free ∙ is);
+  gone = λ is. free_not_gone (sym free ∙ is);
 }

@@ -42,7 +42,7 @@ module _ (old new : VisitView) (found added : List WireRecord) (turn : TakesTurn
       subst (Takes answer input (left_in found)) (sym last) (takes_by answer input r.left leaves.2 leaves.1 tooks)
 
   tries : (stream : ℕ) (said : Said) (answer : Took) (d : Ready) → ready_in stream (left_in found) ≡ d → SaysOn stream said answer found added → Tries d answer (Speech stream said) (left_in found) (left_in new.seen)
-  tries stream said answer ready.Free is says = let (r, one, deed, tooks) = says.free is in takes answer (Speech stream said) r one deed tooks
+  tries stream said answer ready.Free is says = let (r, one, tells) = says.free is in takes answer (Speech stream said) r one tells.0 tells.1
   tries stream said answer ready.Busy is says = let (none, busy) = says.busy is in (busy, ap left_in (seen_same none))
   tries stream said answer ready.Gone is says = let (none, gone) = says.gone is in (gone, ap left_in (seen_same none))
 

@@ -1,5 +1,5 @@
 -- A wire as a turn has it in hand.
-use Rattle.std.specs.Prelude.{◌≡◌, ℕ, ◌<◌, ◌-◌, ◌^◌, List, length, refl}
+use Rattle.std.specs.Prelude.{◌≡◌, ℕ, ◌<◌, List, length, refl}
 use Rattle.std.specs.Coded.{Coded, code_by, coded×}
 use Rattle.edge_traits.specs.Output.{Output}
 use Rattle.h2_send.specs.Conditions.{answer_of}
@@ -23,7 +23,7 @@ module _ {S : Type 0} where
 
 -- so many records there is room for
 abbrev pub most_records : ℕ
-most_records = 2 ^ 64 - 1
+most_records = 18446744073709551615
 
 -- While the wire is open there is room for one record at least, with which it can be closed.
 pub record HoldsOpen {S : Type 0} (wire : WireView S) (rs : List WireRecord) (count : ℕ) : Type 0 where

@@ -1,5 +1,5 @@
 -- Records, worked out.
-use Rattle.std.specs.Prelude.{◌≡◌, refl, ℕ, List, [], ◌∷◌, ◌++◌, Err, inl}
+use Rattle.std.specs.Prelude.{◌≡◌, refl, ℕ, List, [], ◌∷◌, ◌++◌, Err}
 use Rattle.edge_traits.specs.Output.{Output}
 use Rattle.h2_windows.specs.Control.{ping_ack, goaway}
 use Rattle.h2_windows.specs.Written.{octets_of}
@@ -9,7 +9,7 @@ use Rattle.h2_send.specs.Port.{Progress}
 use Rattle.h2_send.specs.declared.condition.Condition.{Condition}
 use Rattle.h2_send.specs.declared.condition.Condition.TheVariants as condition
 use Rattle.h2_send.specs.declared.fault.WireFaultOut.TheVariants as fault
-use Rattle.shared_wire.specs.Records.{Deed, Began, Gave, Ended, Starved, WireRecord, AreRecords, left_in, fault_in}
+use Rattle.shared_wire.specs.Records.{Deed, Began, Gave, Refused, Ended, Starved, WireRecord, AreRecords, left_in, fault_in}
 
 abbrev wire : List Input → Condition → List ℕ → ℕ → Progress
 wire inputs state taken faults = record {
@@ -29,7 +29,7 @@ pinged = by 2 (Gave (Event (event.Ping 7))) (wire (Event (event.Ping 7) ∷ []) 
 
 -- a PING is answered through one port, and the connection ended through another
 abbrev ended : WireRecord
-ended = by 1 (Ended 2) (wire (Event (event.Ping 7) ∷ []) condition.Finished (octets_of (ping_ack 7 ∷ goaway 0 2 ∷ [])) 0)
+ended = by 1 (Ended 2) (wire (Event (event.Ping 7) ∷ []) condition.Finished (octets_of (ping_ack 7 ∷ []) ++ octets_of (goaway 0 2 ∷ [])) 0)
 
 pub two_authors : AreRecords (first ∷ pinged ∷ ended ∷ [])
 two_authors = (refl, refl, (refl, (refl, refl, refl), (refl, (refl, refl), tt)))
@@ -37,12 +37,9 @@ two_authors = (refl, refl, (refl, (refl, refl, refl), (refl, (refl, refl), tt)))
 pub is_finished : (left_in (first ∷ pinged ∷ ended ∷ [])).condition ≡ condition.Finished
 is_finished = refl
 
--- a write fails behind three octets
-pub failed : AreRecords (first ∷ by 2 (Gave (Event (event.Ping 7))) (wire (Event (event.Ping 7) ∷ []) condition.WriteFault (0 ∷ 0 ∷ 8 ∷ []) 1) ∷ [])
-failed = (refl, refl, (refl, (refl, refl, (3, arith_3, refl)), tt))
-  where
-    arith_3 : _
-    arith_3 = omega Rattle.std.proofs.Common.arith
+-- an event that would make the connection's window too large is refused, and another goes on
+pub refused : AreRecords (first ∷ by 1 (Refused (Event (event.Window 0 2147483647))) first.left ∷ pinged ∷ [])
+refused = (refl, refl, (refl, (refl, refl), (refl, (refl, refl, refl), tt)))
 
 -- there was no room but for one record more
 pub starved : fault_in (first ∷ by 2 Starved (wire [] condition.Finished [] 0) ∷ []) ≡ Err fault.NoMemory

@@ -1,14 +1,8 @@
-use Rattle.std.proofs.Common.{sym, ◌∙◌, subst}
+use Rattle.std.proofs.Common.{◌∙◌, subst}
 use Rattle.shared_wire.specs.Records.{ActsOn}
 use Rattle.shared_wire.specs.Visits.{DoesInTurn, VisitView, visit_of}
-use Rattle.shared_wire.proofs.Meeting.{turned_kept}
-use Rattle.shared_wire.proofs.Turning.{extends_by, does_in_turn}
+use Rattle.shared_wire.proofs.Turning.{does_in_turn}
 use Rattle.shared_wire.proofs.visit.WireVisit.act.Goals as goal
-
-pub leave-requires-clause-extends : goal.leave-requires-clause-extends
-leave-requires-clause-extends g c =
-    let a = c.act-done.ensures.does in let pass = c.enter-held.new.pass.seat.me.0 in
-    extends_by c.number-author.result pass.turn.number c.enter-held.result.records c.act-done.new.self.records pass.seen a.added (c.number-author.ensures.0 ∙ sym c.enter-held.ensures.pass.0.2) c.enter-held.ensures.seen.0 a.adds
 
 pub returns : goal.returns
 returns g c =
@@ -18,10 +12,3 @@ returns g c =
     (does_in_turn (ActsOn c.args.event.now c.act-done.result) table c.leave.new.pass.seat.table_id c.self.inside.counts before found_by after c.enter-held.result.records c.act-done.new.self.records c.number-author.result
     c.self.invariant.2 same.2 same.3 same.4 same.5 same.6 e.pass.2 e.seen.0 e.seen.1 e.owner a.records c.number-author.ensures.0 a.does
     then_.2 then_.4 then_.5 then_.6 (then_.0 ∙ same.0) c.leave.ensures.seen c.leave.ensures.made)
-
-pub invariant_of-self : goal.invariant_of-self
-invariant_of-self g c = let same = c.enter-held.ensures.pass.0 in let then_ = c.leave.ensures.pass.0 in (
-  then_.0 ∙ same.0 ∙ c.self.invariant.0,
-  c.leave.ensures.pass.1,
-  turned_kept c.self.inside.pass.seat.me.0 c.leave.new.pass.seat.me.0 c.self.invariant.2 (then_.2 ∙ same.2) (then_.3 ∙ same.3) (then_.6 ∙ same.6) c.leave.ensures.owner,
-)

@@ -1,11 +1,10 @@
-use Rattle.std.proofs.Common.{◌≡◌, sym, ap, ◌∙◌, subst}
+use Rattle.std.proofs.Common.{◌≡◌, sym, ap, subst}
 use Rattle.atomic_table.specs.Seated.{TableId}
 use Rattle.turn_lock.specs.Passes.{OwnsItsEntries, joined_view}
 use Rattle.turn_lock.specs.declared.view.View.{View}
 use Rattle.shared_wire.specs.Records.{WireRecord, record_author}
 use Rattle.shared_wire.specs.Visits.{VisitView, Meets, visit_of}
-use Rattle.shared_wire.specs.inner.Keeping.{KeepsWire}
-use Rattle.shared_wire.proofs.Meeting.{meets, joined_kept}
+use Rattle.shared_wire.proofs.Meeting.{meets}
 use Rattle.shared_wire.proofs.visit.WireVisit.meet.Goals as goal
 
 pub returns : goal.returns
@@ -19,10 +18,3 @@ returns g c =
     let then_ : Meets (visit_of table v counts) (visit_of c.other.inside.pass.seat.table_id u others) (visit_of c.join.new.pass.seat.table_id new counts) =
     subst (λ (z : TableId × View WireRecord). Meets (visit_of table v counts) (visit_of c.other.inside.pass.seat.table_id u others) (visit_of z.0 z.1 counts)) (λ i. (sym c.join.ensures.same.0 i, sym is i)) met in
     subst (λ (o : VisitView × VisitView). Meets o.0 o.1 (visit_of c.join.new.pass.seat.table_id new counts)) (λ i. (c.self.view_is i, c.other.view_is i)) then_
-
-pub invariant_of-self : goal.invariant_of-self
-invariant_of-self g c = let me = c.join.ensures.met in let is = ap (λ m. m.0) me in let o = c.self.invariant.1 in (
-  c.join.ensures.same.0 ∙ c.self.invariant.0,
-  (ap (λ v. v.live) is ∙ o.0, ap (λ v. v.turn.ticket) is ∙ o.1, ap (λ v. v.turn.own) is ∙ o.2, ap (λ v. v.turn.found) is ∙ o.3, ap (λ m. m.1) me),
-  subst KeepsWire (sym is) (joined_kept c.self.inside.pass.seat.me.0 c.other.inside.pass.seat.me.0 c.self.invariant.2 (subst (OwnsItsEntries record_author) is c.join.ensures.owner)),
-)

@@ -2,7 +2,6 @@ use Rattle.std.proofs.Common.{[], refl, sym, ◌∙◌, subst}
 use Rattle.shared_wire.specs.Records.{AddsSo, ReadsOn}
 use Rattle.shared_wire.specs.Visits.{DoesInTurn, VisitView, visit_of}
 use Rattle.shared_wire.proofs.Holding.{adds_none}
-use Rattle.shared_wire.proofs.Meeting.{turned_kept}
 use Rattle.shared_wire.proofs.Turning.{extends, does_in_turn}
 use Rattle.shared_wire.proofs.visit.WireVisit.readiness.Goals as goal
 
@@ -20,10 +19,3 @@ returns g c =
     (does_in_turn (ReadsOn c.args.stream c.readiness-ready.result) table c.leave.new.pass.seat.table_id c.self.inside.counts before found_by after found found before.turn.number
     c.self.invariant.2 same.2 same.3 same.4 same.5 same.6 e.pass.2 e.seen.0 e.seen.1 e.owner records refl adds
     then_.2 then_.4 then_.5 then_.6 (then_.0 ∙ same.0) c.leave.ensures.seen c.leave.ensures.made)
-
-pub invariant_of-self : goal.invariant_of-self
-invariant_of-self g c = let same = c.enter-held.ensures.pass.0 in let then_ = c.leave.ensures.pass.0 in (
-  then_.0 ∙ same.0 ∙ c.self.invariant.0,
-  c.leave.ensures.pass.1,
-  turned_kept c.self.inside.pass.seat.me.0 c.leave.new.pass.seat.me.0 c.self.invariant.2 (then_.2 ∙ same.2) (then_.3 ∙ same.3) (then_.6 ∙ same.6) c.leave.ensures.owner,
-)
