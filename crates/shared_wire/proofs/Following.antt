@@ -1,5 +1,5 @@
 -- Records that stand behind others.
-use Rattle.std.proofs.Common.{◌≡◌, ◌<◌, List, [], ◌∷◌, ◌++◌, length, refl, sym, ap, ◌∙◌, subst, arith}
+use Rattle.std.proofs.Common.{◌≡◌, ◌<◌, List, [], ◌∷◌, ◌++◌, length, refl, arith}
 use Rattle.h2_send.specs.declared.condition.Condition.TheVariants as condition
 use Rattle.shared_wire.specs.Records.{WireRecord, Leaves, Follow, AreRecords, IsOpen, last_behind, last_record, left_in}
 

@@ -1,5 +1,5 @@
 -- How a wire goes on by its records, as its ports see it.
-use Rattle.std.proofs.Common.{◌≡◌, ◌⊎◌, inl, inr, ℕ, ◌≤◌, ◌<◌, List, [], ◌∷◌, ◌++◌, length, map, refl, sym, ap, ◌∙◌, subst, arith, append_assoc, append-nil, length-append}
+use Rattle.std.proofs.Common.{◌≡◌, ◌⊎◌, inl, inr, ℕ, ◌≤◌, List, [], ◌∷◌, ◌++◌, length, map, refl, sym, ap, ◌∙◌, subst, arith, append_assoc, append-nil, length-append}
 use Rattle.std.proofs.lemmas.List.Concat.{flat_map-append}
 use Rattle.edge_traits.specs.Output.{Output, Wrote, FailedWithin}
 use Rattle.h2_frame.specs.Frames.{Frame}
@@ -8,11 +8,11 @@ use Rattle.h2_windows.proofs.Fronts.{wrote_both, wrote_nothing, failed_behind}
 use Rattle.h2_events.specs.Items.{Item, written}
 use Rattle.h2_events.specs.Items as item
 use Rattle.h2_events.proofs.Orders.{written-append}
-use Rattle.h2_send.specs.Accepting.{IsAccepted, AreAccepted}
+use Rattle.h2_send.specs.Accepting.{AreAccepted}
 use Rattle.h2_send.specs.Acting.{handled}
 use Rattle.h2_send.specs.Conditions.{IsClosed}
 use Rattle.h2_send.specs.Farewells.{farewell}
-use Rattle.h2_send.specs.Inputs.{Input, item_of}
+use Rattle.h2_send.specs.Inputs.{Input}
 use Rattle.h2_send.specs.Lines.{Line, first_line}
 use Rattle.h2_send.specs.Orders.{line_after, order_after}
 use Rattle.h2_send.specs.Port.{Progress, Ends, GoesOn, line_of}

@@ -1,13 +1,10 @@
 -- What a turn holds, behind one record more.
-use Rattle.std.proofs.Common.{◌≡◌, ◌⊎◌, inl, inr, ℕ, ◌+◌, ◌<◌, List, [], ◌∷◌, ◌++◌, Bool, false, length, Result, Ok, Err, refl, sym, ap, ◌∙◌, subst, arith, length-append, append-nil}
+use Rattle.std.proofs.Common.{◌≡◌, ◌⊎◌, inl, inr, ℕ, ◌+◌, ◌<◌, List, [], ◌∷◌, ◌++◌, false, length, Result, Ok, Err, refl, sym, ap, ◌∙◌, subst, arith, length-append, append-nil}
 use Rattle.edge_traits.specs.Output.{Output}
-use Rattle.h2_events.specs.declared.port.Ready.{Ready}
 use Rattle.h2_events.specs.declared.port.Ready.TheVariants as ready
 use Rattle.h2_events.specs.declared.port.Took.{Took}
 use Rattle.h2_events.specs.declared.port.Took.TheVariants as took
 use Rattle.h2_send.specs.Conditions.{answer_of, condition_after, IsClosed}
-use Rattle.h2_send.specs.Lines.{first_line}
-use Rattle.h2_send.specs.Orders.{line_after}
 use Rattle.h2_events.specs.declared.said.Said.{Said}
 use Rattle.h2_send.specs.Port.{Progress, ready_in}
 use Rattle.h2_send.specs.Wires.{WireView, Does, IsFolded, finished, progress_of}
@@ -17,9 +14,9 @@ use Rattle.h2_send.specs.declared.fault.WireFaultOut.TheVariants as fault
 use Rattle.h2_send.specs.declared.condition.Condition.{Condition}
 use Rattle.h2_send.specs.declared.condition.Condition.TheVariants as condition
 use Rattle.h2_send.proofs.Closing.{open_line}
-use Rattle.shared_wire.specs.Records.{Deed, Starved, WireRecord, Leaves, Adds, AddsWhereOpen, AnswersEnd, AnswersPiece, SaysOn, AreRecords, IsOpen, fault_behind, fault_in, last_record, left_in}
+use Rattle.shared_wire.specs.Records.{WireRecord, Leaves, Adds, AddsWhereOpen, AnswersEnd, AnswersPiece, SaysOn, AreRecords, IsOpen, fault_behind, last_record, left_in}
 use Rattle.shared_wire.specs.Visits.{StandsBehind}
-use Rattle.shared_wire.specs.inner.Holding.{HoldsOpen, Holds, most_records}
+use Rattle.shared_wire.specs.inner.Holding.{Holds, most_records}
 use Rattle.shared_wire.specs.inner.Telling.{Loses, acted_so, condition_by, deed_of, left_by, starved_left, starved_record, stated_so}
 use Rattle.shared_wire.specs.declared.log.Noted.{Noted}
 use Rattle.shared_wire.specs.declared.log.Noted.TheVariants as noted

@@ -1,5 +1,5 @@
 -- What a call on an open wire leaves, as its record.
-use Rattle.std.proofs.Common.{◌≡◌, ◌⊎◌, inl, inr, ℕ, Bool, true, false, List, [], ◌∷◌, ◌++◌, Result, Ok, Err, refl, sym, ap, ◌∙◌, subst, arith, append-nil}
+use Rattle.std.proofs.Common.{◌≡◌, inl, inr, ℕ, Bool, true, false, [], ◌∷◌, Result, Ok, Err, refl, sym, ap, ◌∙◌, subst, arith, append-nil}
 use Rattle.edge_traits.specs.Output.{Output, Wrote, FailedWithin}
 use Rattle.h2_windows.specs.Written.{octets_of}
 use Rattle.h2_events.specs.declared.event.RecvEvent.{RecvEvent}
@@ -16,15 +16,14 @@ use Rattle.h2_send.specs.Inputs.{Input, Event, Speech, input_of}
 use Rattle.h2_send.specs.Lines.{Line, first_line, overflows}
 use Rattle.h2_send.specs.Offers.{IsStatus, has_begun}
 use Rattle.h2_send.specs.Orders.{line_after}
-use Rattle.h2_send.specs.Port.{Progress, line_of, ready_in}
+use Rattle.h2_send.specs.Port.{Progress, ready_in}
 use Rattle.h2_send.specs.Wires.{WireView, Does, Says, finished, progress_of}
 use Rattle.h2_send.specs.declared.given.Given.{Given}
-use Rattle.h2_send.specs.declared.condition.Condition.{Condition}
 use Rattle.h2_send.specs.declared.condition.Condition.TheVariants as condition
 use Rattle.h2_send.specs.declared.fault.WireFaultOut.{WireFaultOut}
 use Rattle.h2_send.specs.declared.fault.WireFaultOut.TheVariants as fault
 use Rattle.h2_send.proofs.Holding.{ready_free}
-use Rattle.shared_wire.specs.Records.{Deed, Gave, Refused, Ended, WireRecord, GoesOut, EndsOut, Leaves, IsRefused, TookBy, AnswersEvent, AnswersStatus, AnswersEnd, AnswersPiece}
+use Rattle.shared_wire.specs.Records.{Gave, Refused, Ended, WireRecord, GoesOut, EndsOut, Leaves, IsRefused, TookBy, AnswersEvent, AnswersStatus, AnswersEnd}
 use Rattle.shared_wire.specs.inner.Telling.{deed_of, left_by, acted_so, stated_so, condition_by}
 use Rattle.shared_wire.specs.declared.log.Noted.{Noted}
 use Rattle.shared_wire.specs.declared.log.Noted.TheVariants as noted

@@ -1,5 +1,5 @@
 -- How a port sees the wire, by what its turn found and added.
-use Rattle.std.proofs.Common.{◌≡◌, ℕ, Bool, false, List, [], ◌∷◌, ◌++◌, refl, sym, ap, ◌∙◌, subst, append-nil}
+use Rattle.std.proofs.Common.{◌≡◌, ℕ, false, List, [], ◌∷◌, ◌++◌, refl, sym, ap, ◌∙◌, subst, append-nil}
 use Rattle.h2_events.specs.declared.port.Ready.{Ready}
 use Rattle.h2_events.specs.declared.port.Ready.TheVariants as ready
 use Rattle.h2_events.specs.declared.port.Took.{Took}
@@ -7,8 +7,7 @@ use Rattle.h2_events.specs.declared.port.Took.TheVariants as took
 use Rattle.h2_events.specs.declared.said.Said.{Said}
 use Rattle.h2_send.specs.Inputs.{Input, Speech}
 use Rattle.h2_send.specs.Port.{Progress, Asks, GoesOn, Offers, Takes, Tries, ready_in}
-use Rattle.h2_send.specs.declared.condition.Condition.{Condition}
-use Rattle.shared_wire.specs.Records.{WireRecord, Deed, Gave, GoesOut, Leaves, TookBy, AreRecords, ReadsOn, SaysOn, last_record, left_in}
+use Rattle.shared_wire.specs.Records.{WireRecord, Deed, Gave, GoesOut, Leaves, TookBy, AreRecords, ReadsOn, SaysOn, left_in}
 use Rattle.shared_wire.specs.Visits.{DoesInTurn, TakesTurn, VisitView}
 use Rattle.shared_wire.proofs.Following.{last_is, leaves_last}
 use Rattle.shared_wire.proofs.GoingOn.{goes_on_behind}

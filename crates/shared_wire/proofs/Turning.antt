@@ -1,5 +1,5 @@
 -- One turn at the lock, as what its port shows.
-use Rattle.std.proofs.Common.{◌≡◌, inl, ℕ, ◌<◌, List, [], ◌∷◌, ◌++◌, length, map, refl, sym, ap, ◌∙◌, subst, arith}
+use Rattle.std.proofs.Common.{◌≡◌, inl, ℕ, ◌<◌, List, [], ◌∷◌, ◌++◌, length, map, sym, ap, ◌∙◌, subst, arith}
 use Rattle.std.proofs.Math.Seq.{drop-append_seam}
 use Rattle.std.specs.List.{AllByRecursion}
 use mathlib.Core.List.{IsPrefix}
@@ -11,7 +11,7 @@ use Rattle.turn_lock.specs.declared.view.View.{View}
 use Rattle.turn_lock.specs.declared.view.Ended.{Ended}
 use Rattle.turn_lock.proofs.Prefixes.{prefix_length}
 use Rattle.shared_wire.specs.Records.{WireRecord, record_author, AreRecords, Adds, AddsSo}
-use Rattle.shared_wire.specs.Visits.{HasJustMade, OthersWentOn, AuthorsDiffer, DoesInTurn, TakesTurn, VisitView, ended_visit, end_of, lock_name, visit_of}
+use Rattle.shared_wire.specs.Visits.{HasJustMade, OthersWentOn, AuthorsDiffer, DoesInTurn, TakesTurn, ended_visit, end_of, lock_name, visit_of}
 use Rattle.shared_wire.specs.inner.Keeping.{KeepsWire}
 use Rattle.shared_wire.proofs.Following.{records_front}
 use Rattle.shared_wire.proofs.Owning.{all_by, authors_differ, each_met, same_owner, shows_made, went_on}

@@ -1,6 +1,6 @@
 -- What is recorded of a wire behind a lock: each call that found it open, in the order of their turns, with whose it was, what it
 -- did, and how it left the wire. So where a record stands behind another the two tell what went out between them.
-use Rattle.std.specs.Prelude.{◌≡◌, ◌⊎◌, ℕ, ◌≤◌, ◌<◌, true, List, [], ◌∷◌, ◌++◌, Result, Ok, Err}
+use Rattle.std.specs.Prelude.{◌≡◌, ◌⊎◌, ℕ, true, List, [], ◌∷◌, ◌++◌, Result, Ok, Err}
 use Rattle.std.specs.List.{AllByRecursion}
 use Rattle.edge_traits.specs.Output.{Output, Wrote, FailedWithin, unwritten_output}
 use Rattle.h2_windows.specs.Written.{octets_of}
@@ -16,7 +16,7 @@ use Rattle.h2_send.specs.Acting.{handled}
 use Rattle.h2_send.specs.Conditions.{answer_of}
 use Rattle.h2_send.specs.Farewells.{farewell}
 use Rattle.h2_send.specs.Inputs.{Input, Event, Speech}
-use Rattle.h2_send.specs.Lines.{Line, overflows}
+use Rattle.h2_send.specs.Lines.{overflows}
 use Rattle.h2_send.specs.Offers.{has_begun}
 use Rattle.h2_send.specs.Port.{Progress, line_of, ready_in}
 use Rattle.h2_send.specs.declared.condition.Condition.{Condition}
@@ -183,7 +183,6 @@ pub record AddsSo (author : ℕ) (Does : List WireRecord → List WireRecord →
 abbrev pub ActsOn : RecvEvent → Result (Unit {0}) WireFaultOut → List WireRecord → List WireRecord → Type 0
 ActsOn event answer found added =
     AddsWhereOpen found added (AnswersEvent event answer) (answer ≡ fault_in found)
-
 
 -- a call is answered with a status of HTTP
 abbrev pub StatesOn : ℕ → ℕ → Took → List WireRecord → List WireRecord → Type 0

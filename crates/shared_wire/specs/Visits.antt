@@ -1,7 +1,6 @@
 -- What a port of a wire behind a lock shows, and what its calls do.
-use Rattle.std.specs.Prelude.{◌≡◌, ◌≢◌, ◌⊎◌, ℕ, ◌<◌, ◌≤◌, max, length, drop, List, [], ◌∷◌, ◌++◌, map, refl}
+use Rattle.std.specs.Prelude.{◌≡◌, ◌≢◌, ◌⊎◌, ℕ, ◌<◌, ◌≤◌, max, length, drop, List, [], ◌∷◌, ◌++◌, map}
 use Rattle.std.specs.List.{AllByRecursion}
-use Rattle.std.specs.Coded.{Coded, code_by, coded×}
 use Rattle.edge_traits.specs.Output.{Output}
 use Rattle.atomic_table.specs.Seated.{TableId}
 use Rattle.h2_send.specs.Port.{PortView, Progress, unused_port}
@@ -10,7 +9,7 @@ use Rattle.h2_send.specs.Wires.{WireView, progress_of}
 use Rattle.turn_lock.specs.Chronicles.{entries_by}
 use Rattle.turn_lock.specs.declared.view.Ended.{Ended}
 use Rattle.turn_lock.specs.declared.view.View.{View}
-use Rattle.shared_wire.specs.Records.{WireRecord, Deed, Began, record_author, AreRecords, IsOpen, left_in}
+use Rattle.shared_wire.specs.Records.{WireRecord, Began, record_author, AreRecords, IsOpen, left_in}
 
 -- a lock's name, as a list of numbers
 abbrev pub lock_name : TableId → List ℕ

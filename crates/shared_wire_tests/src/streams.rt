@@ -134,10 +134,10 @@ fn two_threads_say_all_on_two_streams_in_order(rt: HostRuntime) -> Result<(), Fa
     Ok(())
 }
 
-/// What two ports find of a wire whose third write fails, behind an offer of the first: what became of that, how the other stream
+/// What two ports find of a wire whose fourth write fails, which is that of the first message: what became of its offer by one, how the other stream
 /// stands for the second, and whether an event is acted on.
 fn closed_by_one<R: Wait + Clone + Drop>(rt: &R, alloc: Global) -> Option<(Took, Ready, bool)> {
-    let mut one = first_visit(rt, alloc, "3")?;
+    let mut one = first_visit(rt, alloc, "4")?;
     let _opened = open_streams(alloc, &mut one, 100);
     let mut other = another(&mut one)?;
     let took = one.offer(alloc, 1, piece(alloc, 1, 0)?);

@@ -72,6 +72,13 @@ impl Starter for MemStarter {
     ) -> Result<Running<J>, F>
     where
         J::Done: Send + Drop + 'static
+        requires runs { F.pre work }
+        requires gives { (done : J.Done) → F.post work done → J.gives of.value done }
+        ensures ok { IfOk result (λ running. running ≡ of.value) }
+        ensures quiet { OnOk result (self.new.faults ≡ self.old.faults) }
+        ensures back { IfErr result (λ back. back ≡ work) }
+        ensures failed { OnErr result (Rose self.old.faults self.new.faults) }
+        ensures left { OnErr result (self.old.left ≡ 0) }
     {
         if self.left == 0 {
             self.faults.rise();

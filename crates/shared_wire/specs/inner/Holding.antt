@@ -5,10 +5,10 @@ use Rattle.edge_traits.specs.Output.{Output}
 use Rattle.h2_send.specs.Conditions.{answer_of}
 use Rattle.h2_send.specs.Orders.{line_after}
 use Rattle.h2_send.specs.Lines.{first_line}
-use Rattle.h2_send.specs.Wires.{WireView, progress_of}
+use Rattle.h2_send.specs.Wires.{WireView}
 use Rattle.h2_send.specs.declared.condition.Condition.{Condition}
 use Rattle.h2_send.specs.declared.condition.Condition.TheVariants as condition
-use Rattle.shared_wire.specs.Records.{WireRecord, IsOpen, fault_in, left_in}
+use Rattle.shared_wire.specs.Records.{WireRecord, IsOpen, fault_in}
 use Rattle.shared_wire.specs.Visits.{StandsBehind}
 
 pub record HeldView (S : Type 0) : Type 0 where

@@ -1,6 +1,5 @@
 -- Records, worked out.
 use Rattle.std.specs.Prelude.{◌≡◌, refl, ℕ, List, [], ◌∷◌, ◌++◌, Err}
-use Rattle.edge_traits.specs.Output.{Output}
 use Rattle.h2_windows.specs.Control.{ping_ack, goaway}
 use Rattle.h2_windows.specs.Written.{octets_of}
 use Rattle.h2_events.specs.declared.event.RecvEvent.TheVariants as event

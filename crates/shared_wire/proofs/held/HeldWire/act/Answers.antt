@@ -1,4 +1,4 @@
-use Rattle.std.proofs.Common.{rules, ◌≡◌, ◌⊎◌, [], ◌∷◌, refl, sym, ap, ◌∙◌, subst, arith}
+use Rattle.std.proofs.Common.{rules, ◌≡◌, ◌⊎◌, [], ◌∷◌, sym, ap, ◌∙◌, subst, arith}
 use Rattle.h2_send.specs.Conditions.{IsClosed}
 use Rattle.h2_send.specs.Inputs.{Event}
 use Rattle.h2_send.specs.Lines.{is_new_stream}

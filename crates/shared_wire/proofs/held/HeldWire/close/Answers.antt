@@ -1,6 +1,5 @@
-use Rattle.std.proofs.Common.{rules, ◌≡◌, ◌⊎◌, inr, [], ◌∷◌, refl, sym, ◌∙◌, subst}
+use Rattle.std.proofs.Common.{rules, ◌≡◌, inr, [], ◌∷◌, refl, sym, ◌∙◌, subst}
 use Rattle.h2_send.specs.Conditions.{IsClosed}
-use Rattle.h2_send.specs.declared.condition.Condition.{Condition}
 use Rattle.h2_send.specs.declared.condition.Condition.TheVariants as condition
 use Rattle.shared_wire.specs.Records.{EndsOn, AddsSo, AnswersEnd, fault_in}
 use Rattle.shared_wire.specs.inner.Holding.{HeldView}

@@ -1,4 +1,4 @@
-use Rattle.std.proofs.Common.{◌∙◌, sym, subst}
+use Rattle.std.proofs.Common.{subst}
 use Rattle.shared_wire.specs.Visits.{GivesBack, VisitView}
 use Rattle.shared_wire.proofs.Turning.{went_on_so, has_made, authors}
 use Rattle.shared_wire.proofs.visit.WireVisit.finish.Goals as goal

@@ -1,4 +1,4 @@
-use Rattle.std.proofs.Common.{[], refl, sym, ◌∙◌, subst}
+use Rattle.std.proofs.Common.{[], refl, ◌∙◌, subst}
 use Rattle.shared_wire.specs.Records.{AddsSo, ReadsOn}
 use Rattle.shared_wire.specs.Visits.{DoesInTurn, VisitView, visit_of}
 use Rattle.shared_wire.proofs.Holding.{adds_none}
