@@ -6,7 +6,7 @@ use Rattle.h2_events.specs.declared.port.Took.{Took}
 use Rattle.h2_events.specs.declared.port.Took.TheVariants as took
 use Rattle.h2_events.specs.declared.said.Said.{Said}
 use Rattle.h2_send.specs.Inputs.{Input, Speech}
-use Rattle.h2_send.specs.Port.{Progress, Asks, GoesOn, Offers, Takes, Tries, ready_in}
+use Rattle.h2_send.specs.Port.{PortView, Progress, Asks, GoesOn, Offers, Takes, Tries, ready_in}
 use Rattle.shared_wire.specs.Records.{WireRecord, Deed, Gave, GoesOut, Leaves, TookBy, AreRecords, ReadsOn, SaysOn, left_in}
 use Rattle.shared_wire.specs.Visits.{DoesInTurn, TakesTurn, VisitView}
 use Rattle.shared_wire.proofs.Following.{last_is, leaves_last}
@@ -60,3 +60,9 @@ offers stream said answer old new does = record {
   alone = λ never. absurd cc;
   tries = tries old new does.found does.added does.turn stream said answer (ready_in stream (left_in does.found)) refl does.does;
 }
+
+-- what a port counts is no part of its turn
+pub counts_were : (Does : List WireRecord → List WireRecord → Type 0) (old mid new : VisitView) (counts : PortView) → new ≡ record mid { counts = counts } → DoesInTurn Does old mid → DoesInTurn Does old (record new { counts = old.counts })
+counts_were Does old mid new counts is does =
+    let kept : record new { counts = old.counts } ≡ mid = (λ i. record (is i) { counts = old.counts }) ∙ (λ i. record mid { counts = ap (λ (v : VisitView). v.counts) (sym does.turn.new_is) i }) in
+    subst (DoesInTurn Does old) (sym kept) does

@@ -1,10 +1,10 @@
-ghost use Rattle.std.specs.Prelude.{◌≡◌, ◌≤◌, [], IfOk, IfErr, IsErrOf};
+ghost use Rattle.std.specs.Prelude.{◌≡◌, ◌≤◌, false, IfOk, IfErr, IsErrOf};
 ghost use Rattle.h2_events.specs.Items.{said_by};
 ghost use Rattle.h2_events.specs.Ports.{FitsMessage};
 ghost use Rattle.h2_send.specs.Offers.{IsStatus};
-ghost use Rattle.h2_send.specs.Port.{asked, noted, ready_in};
+ghost use Rattle.h2_send.specs.Port.{Asks, Offers, asked, noted};
 ghost use Rattle.h2_send.specs.Wires.{progress_of};
-ghost use Rattle.shared_wire.specs.Records.{ActsOn, EndsOn, ReadsOn, SaysOn, StatesOn};
+ghost use Rattle.shared_wire.specs.Records.{ActsOn, EndsOn, ReadsOn, SaysOn, StatesOn, left_in};
 ghost use Rattle.shared_wire.specs.Visits.{DoesInTurn, GivesBack, IsFirstVisit, IsTwin, Meets, most_authors};
 
 use crate::counts::Counts;
@@ -223,13 +223,26 @@ impl<S: Sink + Drop, R: Wait + Clone + Drop> WirePort for WireVisit<S, R> {
 
     ghost counts = { λ visit. visit.counts };
 
-    fn ready(&mut self, stream: u32) -> Ready {
+    fn ready(&mut self, stream: u32) -> Ready
+        ensures asks { Asks false result stream (left_in self.old.seen) (left_in self.new.seen) }
+        ensures counts { self.new.counts ≡ asked result self.old.counts }
+        ensures turn { DoesInTurn (ReadsOn stream result) self.old
+            (record self.new { counts = self.old.counts }) }
+    {
         let ready = self.readiness(stream);
         self.note_answer(ready);
         ready
     }
 
-    fn offer(&mut self, alloc: Global, stream: u32, piece: Piece) -> Took {
+    fn offer(&mut self, alloc: Global, stream: u32, piece: Piece) -> Took
+        requires size { FitsMessage piece }
+        ensures offers { Offers false result stream (said_by piece)
+            (left_in self.old.seen) (left_in self.new.seen) }
+        ensures counts { self.new.counts ≡ noted result (stream, piece) self.old.counts }
+        ensures later { self.old.counts.offers ≤ self.new.counts.offers }
+        ensures turn { DoesInTurn (SaysOn stream (said_by piece) result) self.old
+            (record self.new { counts = self.old.counts }) }
+    {
         let given = (stream, piece);
         let took = self.say(alloc, stream, &given.1);
         self.note(took, &given);

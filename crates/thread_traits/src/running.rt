@@ -9,11 +9,11 @@ use std::thread::{Promise, PromisedHandle, Threads};
 /// What a thread promises that does a job: its result is one of the job's.
 #[derive(Drop)]
 pub struct Promised<J> {
-    pub job: Snapshot<J>,
+    pub job: Snapshot<Snapshot<J>>,
 }
 
 impl<J: Job> Promise<J::Done> for Promised<J> {
-    ghost kept_by = { λ promised done. J.gives promised.job.value done };
+    ghost kept_by = { λ promised done. J.gives promised.job.value.value done };
 }
 
 /// Work that was started, in a thread of its own, or that was done at once. Contracts see its job.
@@ -32,7 +32,7 @@ impl<J: Job> Model for Running<J> {
     ghost view = { λ running. running.job.value };
 
     ghost invariant = { λ running. MatchResult running.started
-        (λ thread. thread.promise.job.value ≡ running.job.value)
+        (λ thread. thread.promise.job.value.value ≡ running.job.value)
         (λ done. J.gives running.job.value done) };
 }
 
@@ -42,7 +42,7 @@ impl<J: Job> Running<J> {
         job: Snapshot<J>,
         thread: PromisedHandle<J::Done, Promised<J>>,
     ) -> Running<J>
-        requires { thread.promise.job.value ≡ job.value }
+        requires { thread.promise.job.value.value ≡ job.value }
         ensures { result ≡ job.value }
     {
         Running {

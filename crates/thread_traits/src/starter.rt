@@ -16,13 +16,13 @@ pub trait Starter: Sized {
 
     /// Starts the work of a job, whose results are the job's. Where it can't it gives the work back, and has counted it; the caller
     /// can do it then.
-    fn start<J: Job, F: FnOnce() -> J::Done + Send + 'static>(
+    fn start<J: Job, F: FnOnce() -> J::Done + Send>(
         &mut self,
         of: Snapshot<J>,
         work: F,
     ) -> Result<Running<J>, F>
     where
-        J::Done: Send + Drop + 'static
+        J::Done: Send + Drop
         requires runs { F.pre work }
         requires gives { (done : J.Done) → F.post work done → J.gives of.value done }
         ensures ok { IfOk result (λ running. running ≡ of.value) }
@@ -65,13 +65,13 @@ impl MemStarter {
 impl Starter for MemStarter {
     ghost faults = { λ s. s.faults };
 
-    fn start<J: Job, F: FnOnce() -> J::Done + Send + 'static>(
+    fn start<J: Job, F: FnOnce() -> J::Done + Send>(
         &mut self,
         of: Snapshot<J>,
         work: F,
     ) -> Result<Running<J>, F>
     where
-        J::Done: Send + Drop + 'static
+        J::Done: Send + Drop
         requires runs { F.pre work }
         requires gives { (done : J.Done) → F.post work done → J.gives of.value done }
         ensures ok { IfOk result (λ running. running ≡ of.value) }
