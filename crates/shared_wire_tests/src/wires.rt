@@ -13,7 +13,7 @@ use std::sync::Wait;
 
 pub(crate) type TestVisit<R> = WireVisit<MemSink, R>;
 
-/// A wire that was greeted, whose sink fails in this call of `write`; in none, where that is 0.
+/// A wire that was greeted, whose sink fails in the call of `write` with this number, if any has it.
 fn open_wire(alloc: Global, fails: &str) -> Option<Wire<MemSink>>
     ensures { IfSome result (λ wire. wire.condition ≡ Condition.Open) }
 {
@@ -81,10 +81,11 @@ fn data_on(alloc: Global, octets: &[u8], stream: u8) -> Bytes {
         let Some((length, kind, on)) = head_of(left) else {
             break;
         };
+        let end = length.saturating_add(9);
         if kind == 0 && on == stream {
-            let _ = data.extend_from_slice(left.get(9..9 + length).unwrap_or(&[]));
+            let _ = data.extend_from_slice(left.get(9..end).unwrap_or(&[]));
         }
-        left = left.get(9 + length..).unwrap_or(&[]);
+        left = left.get(end..).unwrap_or(&[]);
     }
     data
 }
