@@ -40,6 +40,13 @@ impl Desk {
         Desk { schema }
     }
 
+    /// The schema under which it answers.
+    pub fn schema(&self) -> &Schema
+        ensures { result.now ≡ self.now }
+    {
+        &self.schema
+    }
+
     /// The answer to the message of a call of this method, at this reading of the clock in nanoseconds since 1970: at most one turn
     /// of the port, whose book has the desk's schema. What is answered is `task_of`, with the refusals of each method in their
     /// order (gNMI 3.2 to 3.4). What a Set's reply takes is taken, and its length judged, before the turn; what a Get's takes,

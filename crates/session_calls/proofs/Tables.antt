@@ -13,7 +13,7 @@ use Rattle.session_calls.specs.declared.request.Asked.{Asked}
 use Rattle.session_calls.specs.declared.open_call.OpenCall.{OpenCall}
 use Rattle.session_calls.specs.declared.open_call.Step.{Step}
 use Rattle.session_calls.specs.declared.open_call.Step.TheVariants as steps
-use Rattle.session_calls.specs.Calls.{Call, stream_of, call_after, asked, asked_by}
+use Rattle.session_calls.specs.Calls.{Call, stream_of, call_after, asked_by}
 use Rattle.session_calls.specs.Requests.{is_on, unless_asked, still_open, open_after, open_call, request_of, request_on, request_with, requests_after, requests}
 use Rattle.session_calls.specs.inner.Tables.{KeepsCall, KeepsAll, IsStep}
 

@@ -52,23 +52,50 @@ refusal_of faults.Compressed = refusals.Compressed
 refusal_of faults.TooLarge = refusals.TooLarge
 refusal_of faults.NoMemory = refusals.NoMemory
 
--- A unary call has just one message.
+-- A unary call has just one message, and a Subscribe call begins with its first one, whatever follows (gNMI 3.5.1.1).
 abbrev pub one_message : Method → List (List ℕ) → List ℕ → Asked
 one_message method (message ∷ []) [] = asks.Call method message
 one_message method _ _ = asks.Refused refusals.BadMessage
 
--- A fault is answered as soon as it stands, and else the message when the peer has ended the stream.
-abbrev pub asked_in : Method → Cut → Option SplitFault → Bool → Option Asked
-asked_in method messages (Some fault) ended = Some (asks.Refused (refusal_of fault))
-asked_in method messages None true = Some (one_message method messages.messages messages.rest)
-asked_in method messages None false = None
+abbrev pub first_message : List (List ℕ) → Refusal → Asked
+first_message [] refusal = asks.Refused refusal
+first_message (message ∷ messages) refusal = asks.Subscribe message
 
--- Subscriptions aren't served.
+-- what a call asks for with these messages and the octets behind them, once all of it that matters was heard
+abbrev pub whole_call : Method → List (List ℕ) → List ℕ → Asked
+whole_call methods.Capabilities messages rest = one_message methods.Capabilities messages rest
+whole_call methods.Get messages rest = one_message methods.Get messages rest
+whole_call methods.Set messages rest = one_message methods.Set messages rest
+whole_call methods.Subscribe messages rest = first_message messages refusals.BadSubscribe
+
+-- and what with a fault behind these messages
+abbrev pub faulty_call : Method → List (List ℕ) → Refusal → Asked
+faulty_call methods.Capabilities messages refusal = asks.Refused refusal
+faulty_call methods.Get messages refusal = asks.Refused refusal
+faulty_call methods.Set messages refusal = asks.Refused refusal
+faulty_call methods.Subscribe messages refusal = first_message messages refusal
+
+abbrev pub has_message : List (List ℕ) → Bool
+has_message [] = false
+has_message (message ∷ messages) = true
+
+-- All that matters was heard when the peer has ended the stream, and of a Subscribe call with its first message.
+abbrev pub is_whole : Method → List (List ℕ) → Bool → Bool
+is_whole methods.Capabilities messages ended = ended
+is_whole methods.Get messages ended = ended
+is_whole methods.Set messages ended = ended
+is_whole methods.Subscribe messages ended = ended || has_message messages
+
+-- A fault is answered as soon as it stands, and a message when the call is whole.
+abbrev pub asked_in : Method → Cut → Option SplitFault → Bool → Option Asked
+asked_in method messages (Some fault) ended =
+    Some (faulty_call method messages.messages (refusal_of fault))
+asked_in method messages None ended =
+    if is_whole method messages.messages ended
+    then Some (whole_call method messages.messages messages.rest) else None
+
 abbrev pub asked_of : Method → Cut → Bool → Option Asked
-asked_of methods.Capabilities messages ended = asked_in methods.Capabilities messages messages.fault ended
-asked_of methods.Get messages ended = asked_in methods.Get messages messages.fault ended
-asked_of methods.Set messages ended = asked_in methods.Set messages messages.fault ended
-asked_of methods.Subscribe messages ended = Some (asks.Refused refusals.Unsupported)
+asked_of method messages ended = asked_in method messages messages.fault ended
 
 abbrev pub asked_at : CallHead → List ℕ → Bool → Option Asked
 asked_at (heads.Call method) octets ended = asked_of method (cut octets) ended

@@ -1,5 +1,5 @@
 ghost use Rattle.std.specs.Prelude.{◌≡◌, ℕ, List, [], length, take, IfOk, Some, Option, option_map};
-ghost use Rattle.session_calls.specs.Calls.{Call, with_piece, call_after, one_message};
+ghost use Rattle.session_calls.specs.Calls.{Call, with_piece, call_after, is_whole, one_message, first_message, whole_call, faulty_call};
 ghost use Rattle.session_calls.specs.inner.Tables.{Keeps, KeepsCall, IsStep};
 
 use crate::request::Asked;
@@ -66,10 +66,9 @@ fn opened(alloc: Global, headers: &Headers, ended: bool) -> Step
         (Some (record { headers = Some headers.now; octets = []; ended = ended })) }
 {
     match head_of(headers) {
-        CallHead::Call(Method::Subscribe) => { Step::Asked(Asked::Refused(Refusal::Unsupported)) }
         CallHead::Call(method) => {
             if ended {
-                Step::Asked(Asked::Refused(Refusal::BadMessage))
+                Step::Asked(whole_call(method, Messages::empty(alloc), 0))
             } else {
                 Step::Open(OpenCall {
                     method,
@@ -110,12 +109,16 @@ impl OpenCall {
             mut messages,
         } = self;
         match splitter.feed(alloc, octets, &mut messages) {
-            Err(SplitFault::Compressed) => { Ok(Step::Asked(Asked::Refused(Refusal::Compressed))) }
-            Err(SplitFault::TooLarge) => Ok(Step::Asked(Asked::Refused(Refusal::TooLarge))),
+            Err(SplitFault::Compressed) => {
+                Ok(Step::Asked(faulty_call(method, messages, Refusal::Compressed)))
+            }
+            Err(SplitFault::TooLarge) => {
+                Ok(Step::Asked(faulty_call(method, messages, Refusal::TooLarge)))
+            }
             Err(SplitFault::NoMemory) => Err(NoMemory),
             Ok(()) => {
-                if ended {
-                    Ok(Step::Asked(one_message(method, messages, splitter.held())))
+                if is_whole(method, messages.items(), ended) {
+                    Ok(Step::Asked(whole_call(method, messages, splitter.held())))
                 } else {
                     let messages = first_two(messages);
                     Ok(Step::Open(OpenCall {
@@ -138,6 +141,18 @@ fn first_two(messages: Messages) -> Messages
     Messages::from_vec(messages)
 }
 
+/// Whether all of a call was heard that matters.
+fn is_whole(method: Method, messages: &[Bytes], ended: bool) -> bool
+    ensures { result ≡ is_whole method messages.now ended }
+{
+    match method {
+        Method::Capabilities => ended,
+        Method::Get => ended,
+        Method::Set => ended,
+        Method::Subscribe => ended || !messages.is_empty(),
+    }
+}
+
 /// What a unary call asks for that the peer has ended, with so many octets behind its messages.
 fn one_message(method: Method, messages: Messages, held: usize) -> Asked
     ensures { (rest : List ℕ) → length rest ≡ held → result ≡ one_message method messages rest }
@@ -146,5 +161,39 @@ fn one_message(method: Method, messages: Messages, held: usize) -> Asked
     match messages.pop() {
         Some(message) if held == 0 && messages.is_empty() => Asked::Call(method, message),
         _ => Asked::Refused(Refusal::BadMessage),
+    }
+}
+
+/// What a Subscribe call asks for: its first message, and where it has none it is refused with this.
+fn first_message(messages: Messages, refusal: Refusal) -> Asked
+    ensures { result ≡ first_message messages refusal }
+{
+    match messages.into_vec().into_iter().next() {
+        Some(message) => Asked::Subscribe(message),
+        None => Asked::Refused(refusal),
+    }
+}
+
+/// What a call asks for of which all was heard that matters, with so many octets behind its messages.
+fn whole_call(method: Method, messages: Messages, held: usize) -> Asked
+    ensures { (rest : List ℕ) → length rest ≡ held → result ≡ whole_call method messages rest }
+{
+    match method {
+        Method::Capabilities => one_message(method, messages, held),
+        Method::Get => one_message(method, messages, held),
+        Method::Set => one_message(method, messages, held),
+        Method::Subscribe => first_message(messages, Refusal::BadSubscribe),
+    }
+}
+
+/// What a call asks for that has a fault behind its messages.
+fn faulty_call(method: Method, messages: Messages, refusal: Refusal) -> Asked
+    ensures { result ≡ faulty_call method messages refusal }
+{
+    match method {
+        Method::Capabilities => Asked::Refused(refusal),
+        Method::Get => Asked::Refused(refusal),
+        Method::Set => Asked::Refused(refusal),
+        Method::Subscribe => first_message(messages, refusal),
     }
 }

@@ -5,8 +5,10 @@ use grpc_core::Method;
 /// What a call asks for, once all of it that matters was heard.
 #[derive(Debug, Drop)]
 pub enum Asked {
-    /// A method, and the message for it.
+    /// A unary method, and the message for it.
     Call(Method, Bytes),
+    /// The first message of a Subscribe call.
+    Subscribe(Bytes),
     /// No call of gRPC: it is answered with this HTTP status alone.
     Http(u16),
     Refused(Refusal),

@@ -15,8 +15,10 @@ use Rattle.book_port.specs.Opened.{Opened}
 use Rattle.book_port.specs.Ports.{PortView, TakesTurn, TakesOne, TakesTurns, marks_after, HasFaultCause}
 use Rattle.book_port.proofs.Following.{own_are_made}
 use Rattle.rpc_desk.specs.Answers.{Moves}
-use Rattle.session_core.specs.Answers.{Answer, IsAnswerTo, AreAnswered, told, turn_of, turns_of, fault_in, faults_of}
+use Rattle.subscribe_calls.specs.Calls.{new_call}
+use Rattle.session_core.specs.Answers.{Answer, IsAnswerTo, AreAnswered, told, told_all, turn_of, turns_of, fault_in, faults_of}
 use Rattle.session_core.specs.laws.RunLaws.{IsAllowed}
+use Rattle.session_core.proofs.Subscribing.{IsPlainOrOnce, subscribed_so, once_marks}
 
 -- ---- a turn of the desk is one of the port
 
@@ -71,9 +73,15 @@ untouched : (old next new : PortView) (turn : Option Turn) (turns : List Turn) �
 untouched old next new turn turns none same taken =
     subst (λ (t : Option Turn). TakesTurns old (turn_of t ++ turns) new) (sym none) (subst (λ (p : PortView). TakesTurns p turns new) same taken)
 
+subscribed_taken : (schema : List SchemaNode) (answer : Answer) (turns : List Turn) (old next new : PortView) → IsPlainOrOnce schema answer old next → TakesTurns next turns new → TakesTurns old (turn_of answer.turn ++ turns) new
+subscribed_taken schema answer turns old next new (inl (said, is)) taken = untouched old next new answer.turn turns is.unturned is.untouched taken
+subscribed_taken schema answer turns old next new (inr (plan, is)) taken =
+    subst (λ (t : Option Turn). TakesTurns old (turn_of t ++ turns) new) (sym is.turned) (next, inr (is.turns.look, is.turns.looks.taken), taken)
+
 one_taken : (schema : List SchemaNode) (asked : Asked) (answer : Answer) (turns : List Turn) (old next new : PortView) → IsAnswerTo schema asked answer old next → TakesTurns next turns new → TakesTurns old (turn_of answer.turn ++ turns) new
 one_taken schema (asks.Call method body) answer turns old next new is taken =
     subst (λ (t : Option Turn). TakesTurns old (turn_of t ++ turns) new) (sym is.turned) (moved old next new is.now is.answered.turn is.result turns is.answered.moves taken)
+one_taken schema (asks.Subscribe body) answer turns old next new is taken = subscribed_taken schema answer turns old next new (subscribed_so schema body answer old next is) taken
 one_taken schema (asks.Http status) answer turns old next new is taken = untouched old next new answer.turn turns is.unturned is.untouched taken
 one_taken schema (asks.Refused refusal) answer turns old next new is taken = untouched old next new answer.turn turns is.unturned is.untouched taken
 
@@ -124,10 +132,18 @@ untouched_marks : (old next : PortView) (turn : Option Turn) (said : List Said) 
 untouched_marks old next turn said none same =
     ap (λ (p : PortView). p.marks) same ∙ subst (λ (t : Option Turn). old.marks ≡ old.marks + fault_in t said) (sym none) (omega arith)
 
+subscribed_marked : (schema : List SchemaNode) (answer : Answer) (old next : PortView) → IsPlainOrOnce schema answer old next → next.marks ≡ old.marks + fault_in answer.turn answer.said
+subscribed_marked schema answer old next (inl (said, is)) = untouched_marks old next answer.turn answer.said is.unturned is.untouched
+subscribed_marked schema answer old next (inr (plan, is)) =
+    ap (λ (p : PortView). p.marks) is.turns.looks.taken.new_is
+    ∙ once_marks schema old.marks is.now is.turns.looks.turn (new_call plan) is.call is.turns.look is.result is.turns.answers
+    ∙ ap (λ (t : Option Turn). old.marks + fault_in t (told_all is.result)) (sym is.turned) ∙ ap (λ (s : List Said). old.marks + fault_in answer.turn s) (sym is.told)
+
 one_marked : (schema : List SchemaNode) (asked : Asked) (answer : Answer) (old next : PortView) → IsAnswerTo schema asked answer old next → next.marks ≡ old.marks + fault_in answer.turn answer.said
 one_marked schema (asks.Call method body) answer old next is =
     moved_marks old next is.now is.answered.turn is.result is.answered.moves
     ∙ ap (λ (t : Option Turn). old.marks + fault_in t (told is.result)) (sym is.turned) ∙ ap (λ (s : List Said). old.marks + fault_in answer.turn s) (sym is.told)
+one_marked schema (asks.Subscribe body) answer old next is = subscribed_marked schema answer old next (subscribed_so schema body answer old next is)
 one_marked schema (asks.Http status) answer old next is = untouched_marks old next answer.turn answer.said is.unturned is.untouched
 one_marked schema (asks.Refused refusal) answer old next is = untouched_marks old next answer.turn answer.said is.unturned is.untouched
 

@@ -13,3 +13,5 @@ pub mod Replies
 pub mod History
 pub mod Streams
 pub mod Opened
+pub mod Subscribing
+pub mod OnceRuns

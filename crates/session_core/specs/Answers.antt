@@ -1,6 +1,8 @@
 -- What requests are answered, one after the other, and what each answer does at the port of a book.
-use Rattle.std.specs.Prelude.{◌≡◌, ℕ, ◌+◌, ◌==◌, List, [], ◌∷◌, ◌++◌, Bool, true, false, Option, Some, None, Result, Ok, Err, if◌then◌else◌}
-use Rattle.base_kinds.specs.declared.refusal.Refusal.TheVariants.{DiskFault}
+use Rattle.std.specs.Prelude.{◌≡◌, ◌⊎◌, ℕ, ◌+◌, ◌==◌, List, [], ◌∷◌, ◌++◌, Bool, true, false, Option, Some, None, Result, Ok, Err, map, if◌then◌else◌}
+use Rattle.base_kinds.specs.declared.refusal.Refusal.TheVariants.{Unsupported, DiskFault, NoMemory}
+use Rattle.base_kinds.specs.declared.request.ListMode.{ListMode}
+use Rattle.base_kinds.specs.declared.request.ListMode.TheVariants as modes
 use Rattle.book_port.specs.Follows.{Turn}
 use Rattle.base_kinds.specs.declared.refusal.Refusal.{Refusal}
 use Rattle.base_kinds.specs.Schema.{SchemaNode}
@@ -13,6 +15,12 @@ use Rattle.session_calls.specs.declared.request.Request.{Request}
 use Rattle.book_port.specs.Ports.{PortView}
 use Rattle.rpc_desk.specs.Answers.{IsAnsweredBy}
 use Rattle.rpc_desk.specs.Services.{task_of}
+use Rattle.rpc_desk.specs.Subscribes.{subscribe_step}
+use Rattle.rpc_desk.specs.declared.subscribe_steps.SubscribeStep.{SubscribeStep}
+use Rattle.rpc_desk.specs.declared.subscribe_steps.SubscribeStep.TheVariants.{Begin, Poll}
+use Rattle.sub_plan.specs.declared.plan.Plan.{Plan}
+use Rattle.subscribe_calls.specs.Calls.{CallView, new_call}
+use Rattle.subscribe_calls.specs.Turns.{TurnsOnce}
 
 -- a request, the readings of the clock and the turn of the book that were taken for it, and what is said to it on its stream
 pub record Answer : Type 0 where
@@ -43,9 +51,49 @@ pub record IsPlain (said : List Said) (answer : Answer) (old new : PortView) : T
   pub unturned : answer.turn ≡ None
   pub untouched : new ≡ old
 
+-- ---- a Subscribe call (gNMI 3.5.1.5)
+
+-- the messages of the call and its end, or the refusal that ends it
+abbrev pub told_all : Result (List (List ℕ)) Refusal → List Said
+told_all (Ok messages) = map Message messages ++ Finish None ∷ []
+told_all (Err refusal) = Finish (Some refusal) ∷ []
+
+-- A ONCE call takes one turn of the port, at one reading of the clock, and says what a call of its plan says first.
+pub record IsOnce (schema : List SchemaNode) (plan : Plan) (answer : Answer)
+    (old new : PortView) : Type 0 where
+  pub now : ℕ
+  pub result : Result (List (List ℕ)) Refusal
+  pub call : CallView
+  pub turns : TurnsOnce schema now (new_call plan) old result call new
+  pub read : answer.readings ≡ now ∷ []
+  pub turned : answer.turn ≡ Some turns.looks.turn
+  pub told : answer.said ≡ told_all result
+
+-- Calls of the modes STREAM and POLL aren't served.
+abbrev pub IsBegun : List SchemaNode → Plan → ListMode → Answer → PortView → PortView → Type 0
+IsBegun schema plan modes.Once answer old new = IsOnce schema plan answer old new
+IsBegun schema plan modes.Stream answer old new = IsPlain (told (Err Unsupported)) answer old new
+IsBegun schema plan modes.Poll answer old new = IsPlain (told (Err Unsupported)) answer old new
+IsBegun schema plan modes.Other answer old new = IsPlain (told (Err Unsupported)) answer old new
+
+-- what is answered to what the first message of the call asks of it
+abbrev pub IsStepped : List SchemaNode → Result SubscribeStep Refusal → Answer → PortView → PortView → Type 0
+IsStepped schema (Ok (Begin plan)) answer old new = IsBegun schema plan plan.mode answer old new
+IsStepped schema (Ok Poll) answer old new = ⊥
+IsStepped schema (Err refusal) answer old new = IsPlain (told (Err refusal)) answer old new
+
+-- Memory may be wanting for that before a turn is taken.
+abbrev pub IsSubscribed : List SchemaNode → List ℕ → Answer → PortView → PortView → Type 0
+IsSubscribed schema body answer old new =
+    IsStepped schema (subscribe_step None body) answer old new
+    ⊎ IsPlain (told (Err NoMemory)) answer old new
+
+-- ---- anything that is asked
+
 abbrev pub IsAnswerTo : List SchemaNode → Asked → Answer → PortView → PortView → Type 0
 IsAnswerTo schema (asks.Call method body) answer old new =
     IsReply schema method body answer old new
+IsAnswerTo schema (asks.Subscribe body) answer old new = IsSubscribed schema body answer old new
 IsAnswerTo schema (asks.Http status) answer old new = IsPlain (Status status ∷ []) answer old new
 IsAnswerTo schema (asks.Refused refusal) answer old new =
     IsPlain (Finish (Some refusal) ∷ []) answer old new

@@ -1,5 +1,5 @@
 //! Laws of the definitions, which hold for every caller.
-ghost use Rattle.session_core.specs.laws.RunLaws.{TurnsAreTaken, TurnsFollow, TurnsFollowAlone, HistoriesAreAllowed, OwnEntriesStand, EarlierEntriesStand, FindsAreKept, FaultsAreMarked, StreamsAreAnswered, DataAreAFront};
+ghost use Rattle.session_core.specs.laws.RunLaws.{TurnsAreTaken, TurnsFollow, TurnsFollowAlone, HistoriesAreAllowed, OwnEntriesStand, EarlierEntriesStand, FindsAreKept, FaultsAreMarked, StreamsAreAnswered, DataAreAFront, OnceCallsSayStates};
 
 /// The answers of a connection are those of one history.
 pub fn answers_are_of_one_history()
@@ -25,4 +25,9 @@ pub fn turns_are_kept()
 pub fn streams_are_answered()
     ensures frames { StreamsAreAnswered }
     ensures data { DataAreAFront }
+{}
+
+/// What a Subscribe call of mode ONCE says is a run of a stream with one turn, at a state of that history.
+pub fn once_calls_say_states()
+    ensures { OnceCallsSayStates }
 {}

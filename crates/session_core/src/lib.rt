@@ -15,7 +15,8 @@ mod waiting;
 
 pub use how::How;
 pub use laws::{
-    answers_are_of_one_history, own_entries_stand, streams_are_answered, turns_are_kept,
+    answers_are_of_one_history, once_calls_say_states, own_entries_stand, streams_are_answered,
+    turns_are_kept,
 };
 pub use session::{SessionEnd, serve_alone};
 pub use waiting::{Waiting, Waitings};

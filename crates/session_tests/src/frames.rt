@@ -74,7 +74,7 @@ const ROWS: &[Row] = &[
 ];
 
 /// Whether a connection ended so, and wrote just these octets behind its beginning.
-fn came_to(served: &Outcome, how: How, written: &[u8]) -> bool {
+pub(crate) fn came_to(served: &Outcome, how: How, written: &[u8]) -> bool {
     match served.written.items().strip_prefix(BEGUN) {
         Some(behind) => served.how == how && behind == written,
         None => false,
@@ -82,7 +82,7 @@ fn came_to(served: &Outcome, how: How, written: &[u8]) -> bool {
 }
 
 /// What a connection comes to that goes on so.
-fn behind(rt: &impl Abort, alloc: Global, octets: &[u8]) -> Outcome {
+pub(crate) fn behind(rt: &impl Abort, alloc: Global, octets: &[u8]) -> Outcome {
     let mut all = BEGIN.to_vec(alloc).expect(rt, "memory");
     all.extend_from_slice(octets).expect(rt, "memory");
     served(rt, alloc, all.as_slice(), 1000)

@@ -13,3 +13,5 @@ mod frames;
 mod one_connection;
 #[cfg(test)]
 mod served;
+#[cfg(test)]
+mod subscribe;

@@ -1,11 +1,9 @@
 -- What a table of open calls keeps of the events so far.
-use Rattle.std.specs.Prelude.{◌≡◌, ℕ, ⊤, List, take, Bool, true, false, Option, Some, None}
+use Rattle.std.specs.Prelude.{◌≡◌, ℕ, ⊤, List, take, false, Option, Some, None}
 use Rattle.std.specs.BTreeMap.{BTreeMap, get}
 use Rattle.std.specs.Ordering.{nat_cmp}
 use Rattle.hpack_block.specs.declared.header.Header.{Header}
 use Rattle.h2_events.specs.declared.event.RecvEvent.{RecvEvent}
-use Rattle.grpc_core.specs.declared.method.Method.{Method}
-use Rattle.grpc_core.specs.declared.method.Method.TheVariants.{Capabilities, Get, Set, Subscribe}
 use Rattle.grpc_core.specs.declared.head.CallHead.TheVariants as heads
 use Rattle.grpc_core.specs.Messages.{Splits}
 use Rattle.grpc_core.specs.Heads.{head_of}
@@ -15,18 +13,11 @@ use Rattle.session_calls.specs.declared.open_call.Step.TheVariants as steps
 use Rattle.session_calls.specs.Calls.{Call, asked, asked_by}
 use Rattle.session_calls.specs.Requests.{open_call}
 
-abbrev pub is_unary : Method → Bool
-is_unary Capabilities = true
-is_unary Get = true
-is_unary Set = true
-is_unary Subscribe = false
-
 -- Of a call it keeps the method, the octets of the message that isn't whole, and two messages at most.
 pub record Keeps (kept : OpenCall) (call : Call) : Type 0 where
   pub headers : List Header
   pub headers_are : call.headers ≡ Some headers
   pub head : head_of headers ≡ heads.Call kept.method
-  pub unary : is_unary kept.method ≡ true
   pub going_on : call.ended ≡ false
   pub messages : List (List ℕ)
   pub splits : Splits call.octets messages kept.splitter.rest None

@@ -3,7 +3,6 @@ use Rattle.std.specs.Prelude.{◌≡◌, refl, ℕ, List, [], ◌∷◌, true, f
 use Rattle.base_kinds.specs.declared.refusal.Refusal.TheVariants as refusals
 use Rattle.hpack_block.specs.declared.header.Header.{Header}
 use Rattle.hpack_block.specs.StaticTable.{pair}
-use Rattle.h2_events.specs.declared.event.RecvEvent.{RecvEvent}
 use Rattle.h2_events.specs.declared.event.RecvEvent.TheVariants.{Call, TooLong, Piece, Trailers, Reset, Ping}
 use Rattle.grpc_core.specs.declared.method.Method.TheVariants as methods
 use Rattle.session_calls.specs.declared.request.Asked.{Asked}
@@ -58,8 +57,32 @@ compressed = refl
 pub reset : requests (Call 1 set false ∷ Reset 1 ∷ Piece 1 (0 ∷ 0 ∷ 0 ∷ 0 ∷ 0 ∷ []) 5 true ∷ []) ≡ []
 reset = refl
 
-pub subscribe : requests (Call 1 (headers_to (codes "/gnmi.gNMI/Subscribe")) false ∷ []) ≡ asks_for 1 (asks.Refused refusals.Unsupported)
-subscribe = refl
+abbrev subscribe : List Header
+subscribe = headers_to (codes "/gnmi.gNMI/Subscribe")
+
+-- A Subscribe call asks with its first message, before the peer ends the stream, and whatever stands behind it.
+pub first_message :
+    requests (Call 1 subscribe false ∷ Piece 1 (0 ∷ 0 ∷ 0 ∷ 0 ∷ 1 ∷ 7 ∷ []) 6 false ∷ Piece 1 (0 ∷ 0 ∷ 0 ∷ 0 ∷ 0 ∷ []) 5 true ∷ [])
+    ≡ asks_for 1 (asks.Subscribe (7 ∷ []))
+first_message = refl
+
+pub fault_behind_it :
+    requests (Call 1 subscribe false ∷ Piece 1 (0 ∷ 0 ∷ 0 ∷ 0 ∷ 1 ∷ 7 ∷ 1 ∷ 0 ∷ 0 ∷ 0 ∷ 9 ∷ []) 11 false ∷ [])
+    ≡ asks_for 1 (asks.Subscribe (7 ∷ []))
+fault_behind_it = refl
+
+pub fault_before_it :
+    requests (Call 1 subscribe false ∷ Piece 1 (1 ∷ 0 ∷ 0 ∷ 0 ∷ 9 ∷ []) 5 false ∷ Piece 1 (0 ∷ 0 ∷ 0 ∷ 0 ∷ 0 ∷ []) 5 true ∷ [])
+    ≡ asks_for 1 (asks.Refused refusals.Compressed)
+fault_before_it = refl
+
+pub ended_within_it :
+    requests (Call 1 subscribe false ∷ Piece 1 (0 ∷ 0 ∷ 0 ∷ 0 ∷ 1 ∷ []) 5 true ∷ [])
+    ≡ asks_for 1 (asks.Refused refusals.BadSubscribe)
+ended_within_it = refl
+
+pub ended_before_it : requests (Call 1 subscribe true ∷ []) ≡ asks_for 1 (asks.Refused refusals.BadSubscribe)
+ended_before_it = refl
 
 pub no_such_method : requests (Call 1 (headers_to (codes "/x")) false ∷ []) ≡ asks_for 1 (asks.Refused refusals.NoMethod)
 no_such_method = refl

@@ -27,7 +27,7 @@ use Rattle.session_core.specs.declared.incoming.Next.TheVariants as nexts
 use Rattle.session_core.specs.declared.answering.Reply.{Reply}
 use Rattle.session_core.specs.declared.answering.Reply.TheVariants as replies
 use Rattle.h2_events.specs.declared.said.Said.TheVariants.{Status}
-use Rattle.session_core.specs.Answers.{Answer, told, IsAnswer}
+use Rattle.session_core.specs.Answers.{Answer, told, told_all, IsAnswer}
 use Rattle.session_calls.specs.declared.request.Request.{Request}
 use Rattle.book_port.specs.Follows.{Turn}
 use Rattle.session_core.specs.Reading.{IsGiven, IsMadeOf}
@@ -109,6 +109,7 @@ told_of stream said recv = if is_last said then state_ended stream recv else rec
 
 abbrev pub said_in : Reply → List Said
 said_in (replies.Of result) = told result
+said_in (replies.Once result) = told_all result
 said_in (replies.Http status) = Status status ∷ []
 
 -- what is answered to a request

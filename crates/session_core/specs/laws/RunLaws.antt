@@ -1,7 +1,18 @@
 -- What follows of every connection: its answers are those of one history, which has its accepted Sets, each once, in order.
-use Rattle.std.specs.Prelude.{◌≡◌, ℕ, ◌+◌, List, ◌∷◌, ◌++◌, map, IsTrue}
+use Rattle.std.specs.Prelude.{◌≡◌, ◌⊎◌, ℕ, ◌+◌, List, [], ◌∷◌, ◌++◌, length, map, IsTrue, Some, None, Ok, Err}
 use Rattle.std.specs.List.{AllByRecursion}
+use Rattle.base_kinds.specs.declared.entry.Entry.{Entry}
+use Rattle.base_kinds.specs.declared.refusal.Refusal.TheVariants.{DiskFault, NoMemory}
+use Rattle.base_kinds.specs.declared.request.ListMode.TheVariants.{Once}
 use Rattle.base_kinds.specs.Schema.{SchemaNode}
+use Rattle.gnmi_kinds.specs.declared.reply.SubReply.{SubReply}
+use Rattle.sub_plan.specs.declared.plan.Plan.{Plan}
+use Rattle.stream_laws.specs.Runs.{IsStreamRun}
+use Rattle.stream_laws.specs.Follows.{first_moment}
+use Rattle.subscribe_calls.specs.Calls.{replies_octets}
+use Rattle.rpc_desk.specs.Subscribes.{subscribe_step}
+use Rattle.rpc_desk.specs.declared.subscribe_steps.SubscribeStep.TheVariants.{Begin}
+use Rattle.session_calls.specs.declared.request.Asked.TheVariants.{Subscribe}
 use Rattle.book_port.specs.Chronicles.{entries_by}
 use Rattle.book_port.specs.Follows.{Turn, Follows, FollowsAlone, made_by}
 use Rattle.book_port.specs.Opened.{Opened, IsRun}
@@ -11,7 +22,7 @@ use Rattle.h2_send.specs.Messages.{octets_said, data_on}
 use Rattle.h2_send.specs.Orders.{order_of}
 use Rattle.h2_send.specs.StreamFrames.{IsAnswer, frames_on}
 use Rattle.session_core.specs.declared.how.How.{How}
-use Rattle.session_core.specs.Answers.{turns_of, faults_of}
+use Rattle.session_core.specs.Answers.{Answer, told, told_all, turns_of, faults_of}
 use Rattle.session_core.specs.Runs.{Outside, SessionRun}
 
 -- something that holds of the turns of every run
@@ -75,3 +86,35 @@ DataAreAFront = (schema : List SchemaNode) (old new : Outside) (how : How)
     → (run : SessionRun schema old how new) (stream : ℕ)
     → (end : List ℕ) × (octets_said (said_on stream (order_of run.inputs))
     ≡ data_on stream (written (order_of run.inputs)) ++ end)
+
+-- ---- Subscribe calls of mode ONCE (gNMI 3.5.1.5.1)
+
+-- the answer is that to a call of mode ONCE with this plan
+pub record AsksOnce (plan : Plan) (answer : Answer) : Type 0 where
+  pub body : List ℕ
+  pub asked : answer.request.asked ≡ Subscribe body
+  pub begins : subscribe_step None body ≡ Ok (Begin plan)
+  pub once : plan.mode ≡ Once
+
+-- What it says are the messages of a run of the plan's stream over this history with one turn, which is made where the answer's
+-- turn left the history, and the end of the call.
+pub record SaysState (schema : List SchemaNode) (plan : Plan) (h : List Entry) (answer : Answer)
+    : Type 0 where
+  pub turn : Turn
+  pub taken : answer.turn ≡ Some turn
+  pub messages : List SubReply
+  pub run : IsStreamRun plan (first_moment turn.reading (length turn.left)) [] messages h
+  pub told : answer.said ≡ told_all (Ok (replies_octets schema plan messages))
+
+-- that, or the call is refused for a fault of the disk, or for want of memory
+abbrev pub SaysStateOrEnds : List SchemaNode → Plan → List Entry → Answer → Type 0
+SaysStateOrEnds schema plan h answer =
+    SaysState schema plan h answer
+    ⊎ (answer.said ≡ told (Err DiskFault)) ⊎ (answer.said ≡ told (Err NoMemory))
+
+-- so it is for each of them, over the history that was seen last
+abbrev pub OnceCallsSayStates : Type 0
+OnceCallsSayStates = (schema : List SchemaNode) (old new : Outside) (how : How)
+    → (run : SessionRun schema old how new)
+    → AllByRecursion (λ answer. (plan : Plan) → AsksOnce plan answer
+    → SaysStateOrEnds schema plan new.port.seen answer) run.served.answers

@@ -1,15 +1,15 @@
 -- Small connections, evaluated.
-use Rattle.std.specs.Prelude.{◌≡◌, refl, List, [], ◌∷◌, ◌++◌, true, false, codes, Some, None}
+use Rattle.std.specs.Prelude.{◌≡◌, refl, List, [], ◌∷◌, ◌++◌, true, false, codes, Some, None, Ok, Err}
 use Rattle.std.proofs.Common.{inl}
 use Rattle.std.specs.List.{flat_map}
-use Rattle.base_kinds.specs.declared.refusal.Refusal.TheVariants.{BadMessage}
+use Rattle.base_kinds.specs.declared.refusal.Refusal.TheVariants.{BadMessage, DiskFault}
 use Rattle.hpack_block.specs.declared.header.Header.{Header}
 use Rattle.hpack_block.specs.StaticTable.{pair, static_table}
 use Rattle.hpack_block.specs.Written.{block_of}
 use Rattle.std.specs.Fmt.{digits}
 use Rattle.h2_frame.specs.Frames.{Frame, frame_of, spelling}
 use Rattle.h2_events.specs.declared.event.RecvEvent.TheVariants as events
-use Rattle.h2_events.specs.declared.said.Said.TheVariants.{Finish, Status}
+use Rattle.h2_events.specs.declared.said.Said.TheVariants.{Message, Finish, Status}
 use Rattle.h2_events.specs.Items.{as_read}
 use Rattle.h2_calls.specs.Calls.{Moment, read, ended, events_of, reads_of}
 use Rattle.h2_send.specs.Inputs.{Input, Event, Speech}
@@ -17,7 +17,7 @@ use Rattle.h2_send.specs.Orders.{order_of}
 use Rattle.h2_send.specs.Outputs.{frames_of}
 use Rattle.session_calls.specs.declared.request.Asked.TheVariants as asks
 use Rattle.session_calls.specs.Requests.{requests}
-use Rattle.session_core.specs.Answers.{Answer, requests_of}
+use Rattle.session_core.specs.Answers.{Answer, requests_of, told_all, tells_fault}
 use Rattle.session_core.specs.Saying.{IsSaid}
 
 -- A frame of which nothing is looked at here but what it means.
@@ -75,3 +75,17 @@ pub written :
     ++ (0 ∷ 12 ∷ codes "grpc-message") ++ (11 ∷ codes "bad message")
 unfolding block_of static_table digits
 written = refl
+
+-- ---- a ONCE call: its messages in their order and then the end, or the refusal that ends it
+
+pub once_told : told_all (Ok ((1 ∷ []) ∷ (2 ∷ []) ∷ [])) ≡ Message (1 ∷ []) ∷ Message (2 ∷ []) ∷ Finish None ∷ []
+once_told = refl
+
+pub once_refused : told_all (Err DiskFault) ≡ Finish (Some DiskFault) ∷ []
+once_refused = refl
+
+pub fault_told : tells_fault (told_all (Err DiskFault)) ≡ true
+fault_told = refl
+
+pub no_fault_told : tells_fault (told_all (Ok [])) ≡ false
+no_fault_told = refl

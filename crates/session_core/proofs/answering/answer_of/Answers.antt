@@ -1,7 +1,10 @@
-use Rattle.std.proofs.Common.{List, refl, subst}
+use Rattle.std.proofs.Common.{List, refl, sym, ap, ◌∙◌, subst}
 use Rattle.base_kinds.specs.Schema.{SchemaNode}
 use Rattle.rpc_desk.specs.Answers.{IsAnsweredBy}
 use Rattle.rpc_desk.specs.Services.{task_of}
+use Rattle.session_calls.specs.declared.request.Asked.{Asked}
+use Rattle.session_calls.specs.declared.request.Asked.TheVariants as asks
+use Rattle.session_core.specs.inner.Steps.{IsReplied}
 use Rattle.session_core.proofs.Replies.{called, sent_away, turned_down}
 use Rattle.session_core.proofs.answering.answer_of.Goals as goal
 
@@ -19,3 +22,8 @@ returns-in-Http-clause-replied g c =
 pub returns-in-Refused-clause-replied : goal.returns-in-Refused-clause-replied
 returns-in-Refused-clause-replied g c =
     turned_down c.args.desk.now c.args.asked (g.P.BookPort.port c.args.book.now) (g.P.BookPort.port c.args.book.now) (g.C.Clock.readings c.args.clock.now) (g.C.Clock.readings c.args.clock.now) c.in-Refused.refusal c.in-Refused.is refl refl
+
+pub returns-in-Subscribe-clause-replied : goal.returns-in-Subscribe-clause-replied
+returns-in-Subscribe-clause-replied g c =
+    subst (λ (a : Asked). IsReplied c.args.desk.now a c.answer_subscribe.result (g.P.BookPort.port c.args.book.now) (g.P.BookPort.port c.answer_subscribe.new.book) (g.C.Clock.readings c.args.clock.now) (g.C.Clock.readings c.answer_subscribe.new.clock))
+    (ap asks.Subscribe c.items-in-Subscribe.ensures ∙ sym c.in-Subscribe.is) c.answer_subscribe.ensures.replied
