@@ -15,6 +15,7 @@ pub enum Next<I, O> {
 /// Where connections come in.
 pub trait Door {
     type Reader: Source;
+
     type Writer: Sink;
 
     /// The connections that it gave, those to come, where it tells them, and how often it failed.

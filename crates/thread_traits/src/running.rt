@@ -38,10 +38,7 @@ impl<J: Job> Model for Running<J> {
 
 impl<J: Job> Running<J> {
     /// A thread does the job.
-    pub fn in_thread(
-        job: Snapshot<J>,
-        thread: PromisedHandle<J::Done, Promised<J>>,
-    ) -> Running<J>
+    pub fn in_thread(job: Snapshot<J>, thread: PromisedHandle<J::Done, Promised<J>>) -> Running<J>
         requires { thread.promise.job.value.value ≡ job.value }
         ensures { result ≡ job.value }
     {

@@ -22,7 +22,7 @@ pub trait Starter: Sized {
         work: F,
     ) -> Result<Running<J>, F>
     where
-        J::Done: Send + Drop
+        J::Done: Send + Drop,
         requires runs { F.pre work }
         requires gives { (done : J.Done) → F.post work done → J.gives of.value done }
         ensures ok { IfOk result (λ running. running ≡ of.value) }
@@ -71,7 +71,7 @@ impl Starter for MemStarter {
         work: F,
     ) -> Result<Running<J>, F>
     where
-        J::Done: Send + Drop
+        J::Done: Send + Drop,
         requires runs { F.pre work }
         requires gives { (done : J.Done) → F.post work done → J.gives of.value done }
         ensures ok { IfOk result (λ running. running ≡ of.value) }
