@@ -113,7 +113,7 @@ const ROWS: &[Row] = &[
 /// A DATA frame on stream 1 with these octets, fewer than 256.
 fn put_data(octets: &mut Vec<u8>, flags: u8, data: &[u8]) -> Result<(), Fail> {
     octets.extend_from_slice(b"\0\0")?;
-    octets.push(data.len() as u8)?;
+    octets.push((data.len() % 256) as u8)?;
     octets.push(0)?;
     octets.push(flags)?;
     octets.extend_from_slice(b"\0\0\0\x01")?;
@@ -125,7 +125,7 @@ fn put_data(octets: &mut Vec<u8>, flags: u8, data: &[u8]) -> Result<(), Fail> {
 fn put_answer(octets: &mut Vec<u8>, length: usize, answer: &[&[u8]]) -> Result<(), Fail> {
     if length > 0 {
         octets.extend_from_slice(b"\0\0\x04\x08\0\0\0\0\0\0\0\0")?;
-        octets.push(length as u8)?;
+        octets.push((length % 256) as u8)?;
     }
     for frame in answer {
         octets.extend_from_slice(frame)?;
