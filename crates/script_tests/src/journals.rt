@@ -127,7 +127,7 @@ fn ends_with_5(
     given: bool,
 ) -> bool {
     let (ended, output, disk) = run_over(rt, alloc, words, octets, passes);
-    output.octets() == b"disk fault\n" && ended == 5 && disk.is_some() == given
+    output.octets() == b"disk fault\n".as_slice() && ended == 5 && disk.is_some() == given
 }
 
 #[test]
