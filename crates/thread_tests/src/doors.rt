@@ -1,0 +1,53 @@
+//! Connections in memory.
+ghost use Rattle.std.specs.Prelude.{IfSome};
+ghost use Rattle.edge_traits.specs.Memory.{input_of};
+ghost use Rattle.thread_traits.specs.Doors.{IsFresh};
+
+use base_lists::{Bytes, Texts};
+use edge_traits::{MemSink, MemSource, Source};
+use std::alloc::Global;
+use std::collections::VecDeque;
+use std::test::Fail;
+use thread_traits::{Door, MemDoor, Next};
+
+/// A connection on which this octet comes.
+fn link(alloc: Global, octet: u8) -> Option<(MemSource, MemSink)>
+    ensures { IfSome result (λ link. IsFresh input_of (λ s. s.seen) link) }
+{
+    let octets = Bytes::of(alloc, &[octet]).ok()?;
+    let source = MemSource::make(octets, Texts::empty(alloc));
+    Some((source, MemSink::make(alloc, Texts::empty(alloc))))
+}
+
+/// A door with two of them.
+fn door(alloc: Global) -> Option<MemDoor> {
+    let mut links = VecDeque::new(alloc);
+    links.push_back(link(alloc, 1)?).ok()?;
+    links.push_back(link(alloc, 2)?).ok()?;
+    Some(MemDoor::make(links))
+}
+
+/// The octet that comes on the next connection, or none at the end.
+fn next_octet(door: &mut MemDoor) -> Option<u8> {
+    match door.next() {
+        Next::Link(mut reader, _writer) => {
+            let mut buffer = [0];
+            match reader.read(&mut buffer) {
+                Ok(_) => Some(buffer[0]),
+                Err(_) => None,
+            }
+        }
+        Next::End => None,
+        Next::Failed => None,
+    }
+}
+
+#[test]
+fn a_door_in_memory_gives_its_connections_and_then_ends(rt: HostRuntime) -> Result<(), Fail> {
+    let mut door = door(rt.alloc()).ok_or("no door")?;
+    assert!(rt; door.listen("").is_ok());
+    assert!(rt; next_octet(&mut door) == Some(1));
+    assert!(rt; next_octet(&mut door) == Some(2));
+    assert!(rt; next_octet(&mut door) == None);
+    Ok(())
+}

@@ -1,0 +1,61 @@
+//! Jobs that are started in a thread of their own, done at once, or given back.
+use base_lists::Bytes;
+use std::alloc::Global;
+use std::test::Fail;
+use std::thread::Threads;
+use thread_traits::{Job, MemStarter, Running, Starter};
+
+/// Counts octets.
+#[derive(Drop)]
+struct Counting {
+    octets: Bytes,
+}
+
+impl Job for Counting {
+    type Done = usize;
+
+    ghost use Rattle.std.specs.Prelude.{◌≡◌, length};
+
+    ghost gives = { λ job count. count ≡ length job.octets };
+
+    fn run(self) -> usize {
+        self.octets.len()
+    }
+}
+
+fn seven_octets(alloc: Global) -> Option<Counting> {
+    let octets = Bytes::of(alloc, b"counted").ok()?;
+    Some(Counting { octets })
+}
+
+/// The octets that a thread of its own counts.
+fn counted_in_thread<R: Threads>(rt: &R, alloc: Global) -> Option<usize> {
+    let running = Running::in_thread(rt, alloc, seven_octets(alloc)?).ok()?;
+    Some(running.finish(rt))
+}
+
+/// The octets that are counted by a starter, or by the caller where it gives the job back, and whether it did.
+fn counted_by<R: Threads>(
+    rt: &R,
+    alloc: Global,
+    starter: &mut MemStarter,
+) -> Option<(usize, bool)> {
+    match starter.start(seven_octets(alloc)?) {
+        Ok(running) => Some((running.finish(rt), false)),
+        Err(job) => Some((job.run(), true)),
+    }
+}
+
+#[test]
+fn a_thread_gives_its_result(rt: HostRuntime) -> Result<(), Fail> {
+    assert!(rt; counted_in_thread(&rt, rt.alloc()) == Some(7));
+    Ok(())
+}
+
+#[test]
+fn a_starter_in_memory_does_as_many_jobs_as_it_is_to(rt: HostRuntime) -> Result<(), Fail> {
+    let mut starter = MemStarter::make(1);
+    assert!(rt; counted_by(&rt, rt.alloc(), &mut starter) == Some((7, false)));
+    assert!(rt; counted_by(&rt, rt.alloc(), &mut starter) == Some((7, true)));
+    Ok(())
+}
