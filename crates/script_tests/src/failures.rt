@@ -8,7 +8,7 @@ use std::test::Fail;
 type Row = (&'static str, &'static str, u64, u64, &'static str);
 
 /// Whether the script prints it that has this number of calls between its two parts, and each of its lines is taken.
-fn row_prints(rt: &impl Abort, alloc: Global, row: &Row, calls: &str) -> bool {
+fn row_prints(rt: &impl Abort, alloc: Global, row: &Row, calls: &'static str) -> bool {
     let (before, after, _, _, printed) = *row;
     let script = joined(rt, alloc, &[before, "fail ", calls, after]);
     prints(
@@ -23,7 +23,7 @@ fn row_prints(rt: &impl Abort, alloc: Global, row: &Row, calls: &str) -> bool {
 
 fn assert_each(rt: &impl Abort, alloc: Global, rows: &[Row]) {
     for row in rows {
-        for (number, calls) in CALLS.iter().enumerate() {
+        for (number, calls) in CALLS.iter().copied().enumerate() {
             let number = number as u64;
             if row.2 <= number && number <= row.3 {
                 assert!(rt; row_prints(rt, alloc, row, calls), "fail {calls}");

@@ -83,9 +83,9 @@ fn row_prints(
     rt: &impl Abort,
     alloc: Global,
     row: &Row,
-    calls: &str,
-    fill: &str,
-    printed: &str,
+    calls: &'static str,
+    fill: &'static str,
+    printed: &'static str,
 ) -> bool {
     let script = joined(
         rt,
