@@ -1,0 +1,154 @@
+ghost use Rattle.std.specs.Prelude.{◌≡◌, IfSome};
+
+use crate::wires::{TestVisit, first_visit, has_messages, open_streams, piece};
+use edge_traits::MemSink;
+use h2_events::{Ready, RecvEvent, Took};
+use h2_send::WirePort;
+use std::alloc::Global;
+use std::process::Abort;
+use std::sync::Wait;
+use std::test::Fail;
+use std::thread;
+use std::thread::{Threads, join};
+
+/// So many messages are said on each stream.
+const MESSAGES: u8 = 40;
+
+/// So often 3 octets are granted on each stream: in all as many as the messages have, with the five before each.
+const GRANTS: u32 = 107;
+
+/// Offers a message, which stays the next one where it isn't taken.
+fn offer_next<R: Wait + Clone + Drop>(
+    alloc: Global,
+    visit: &mut TestVisit<R>,
+    stream: u8,
+    number: u8,
+) -> u8
+    ensures { visit.new.lock ≡ visit.old.lock }
+{
+    let Some(next) = piece(alloc, stream, number) else {
+        return number;
+    };
+    match visit.offer(alloc, stream as u32, next) {
+        Took::Taken => number.saturating_add(1),
+        _ => number,
+    }
+}
+
+/// Offers all messages on a stream, each where it is free. Answers how many were taken.
+fn offer_all<R: Wait + Clone + Drop>(
+    rt: &R,
+    alloc: Global,
+    mut visit: TestVisit<R>,
+    stream: u8,
+) -> (TestVisit<R>, u8)
+    ensures { result.0.lock ≡ visit.lock }
+{
+    let mut next = 0;
+    for _ in rt.forever() {
+        if next >= MESSAGES {
+            return (visit, next);
+        }
+        match visit.ready(stream as u32) {
+            Ready::Free => next = offer_next(alloc, &mut visit, stream, next),
+            Ready::Busy => thread::yield_now(),
+            Ready::Gone => return (visit, next),
+        }
+    }
+    unreachable!()
+}
+
+/// The peer's WINDOW_UPDATEs come, three octets each.
+fn grant_all<R: Wait + Clone + Drop>(alloc: Global, mut visit: TestVisit<R>) -> TestVisit<R>
+    ensures { result.lock ≡ visit.lock }
+{
+    for _ in 0..GRANTS {
+        let _one = visit.act(alloc, &RecvEvent::Window(1, 3));
+        let _three = visit.act(alloc, &RecvEvent::Window(3, 3));
+        thread::yield_now();
+    }
+    visit
+}
+
+/// A further port of the same wire.
+fn another<R: Wait + Clone + Drop>(visit: &mut TestVisit<R>) -> Option<TestVisit<R>>
+    ensures same { visit.new.lock ≡ visit.old.lock }
+    ensures other { IfSome result (λ other. other.lock ≡ visit.old.lock) }
+{
+    match visit.twin() {
+        Ok(twin) => Some(twin),
+        Err(_) => None,
+    }
+}
+
+/// Two threads offer, each on its stream.
+fn offer_by_two<R: Threads + Wait + Clone + Drop + Send + Sync>(
+    rt: &R,
+    alloc: Global,
+    one: TestVisit<R>,
+    three: TestVisit<R>,
+) -> (TestVisit<R>, u8, u8)
+    requires { three.lock ≡ one.lock }
+    ensures { result.0.lock ≡ one.lock }
+{
+    let ((mut one, first), (three, second)) = join(
+        rt,
+        || offer_all(rt, alloc, one, 1),
+        || offer_all(rt, alloc, three, 3),
+    );
+    one.meet(three);
+    (one, first, second)
+}
+
+/// Two threads offer, while a third one has what the peer grants. How many messages were taken on each stream, and what the sink
+/// holds then.
+fn said_by_two<R: Threads + Wait + Clone + Drop + Send + Sync>(
+    rt: &R,
+    alloc: Global,
+) -> Option<(u8, u8, MemSink)> {
+    let mut reader = first_visit(rt, alloc, "0")?;
+    if !open_streams(alloc, &mut reader, 0) {
+        return None;
+    }
+    let one = another(&mut reader)?;
+    let three = another(&mut reader)?;
+    let (mut reader, (fed, first, second)) = join(
+        rt,
+        || grant_all(alloc, reader),
+        ||
+            requires { three.lock ≡ one.lock }
+        { offer_by_two(rt, alloc, one, three) },
+    );
+    reader.meet(fed);
+    let _end = reader.close(0);
+    Some((first, second, reader.finish().give()))
+}
+
+#[test]
+fn two_threads_say_all_on_two_streams_in_order(rt: HostRuntime) -> Result<(), Fail> {
+    let alloc = rt.alloc();
+    let (first, second, sink) = said_by_two(&rt, alloc).ok_or("no wire")?;
+    assert!(rt; (first, second) == (MESSAGES, MESSAGES));
+    assert!(rt; has_messages(alloc, &sink, 1, MESSAGES));
+    assert!(rt; has_messages(alloc, &sink, 3, MESSAGES));
+    Ok(())
+}
+
+/// What two ports find of a wire whose fourth write fails, which is that of the first message: what became of its offer by one, how the other stream
+/// stands for the second, and whether an event is acted on.
+fn closed_by_one<R: Wait + Clone + Drop>(rt: &R, alloc: Global) -> Option<(Took, Ready, bool)> {
+    let mut one = first_visit(rt, alloc, "4")?;
+    let _opened = open_streams(alloc, &mut one, 100);
+    let mut other = another(&mut one)?;
+    let took = one.offer(alloc, 1, piece(alloc, 1, 0)?);
+    let ready = other.ready(3);
+    let acted = other.act(alloc, &RecvEvent::Ping(7)).is_ok();
+    Some((took, ready, acted))
+}
+
+#[test]
+fn a_write_fault_closes_the_wire_for_all_ports(rt: HostRuntime) -> Result<(), Fail> {
+    let found = closed_by_one(&rt, rt.alloc()).ok_or("no wire")?;
+    assert!(rt; found == (Took::WriteFault, Ready::Gone, false));
+    Ok(())
+}
