@@ -13,6 +13,7 @@ use Rattle.base_kinds.specs.Parts.{part}
 use Rattle.base_kinds.specs.Schema.{SchemaNode}
 use Rattle.base_kinds.specs.Step.{after_expiry}
 use Rattle.disk_model.specs.Content.{Content}
+use Rattle.disk_model.specs.Images.{IsImage}
 use Rattle.base_kinds.specs.Limits.{AreInRange, default_limits}
 use Rattle.schema_text.specs.Schemas.{schema_of}
 use Rattle.journal_format.specs.Histories.{IsJournalHistory}
@@ -29,7 +30,7 @@ use Rattle.generated_sets.specs.Schemas.{schema_text}
 use Rattle.session_core.specs.declared.how.How.{How}
 use Rattle.target_top.specs.declared.ending.Ending.{Ending}
 use Rattle.target_top.specs.declared.ending.Ending.TheVariants.{DiskFault, Done, JournalDamaged, NoMemory, SchemaUnfit}
-use Rattle.target_top.specs.LoadRun.{AreSteady, Counts, CountsNone, Serves, line_of, load_line, load_reading}
+use Rattle.target_top.specs.LoadRun.{AreSteady, Counts, CountsNone, IsMemory, Serves, line_of, load_line, load_reading}
 use Rattle.target_top.specs.SessionCommand.{OnDisk, OpensNone, Streams}
 use Rattle.target_top.specs.inner.Loads.{CannotRead, CountsDisk, counted_on, one_if, seen_memory}
 use Rattle.target_top.proofs.Sessions.{fails_to_open}
@@ -76,20 +77,25 @@ over_octets source sink clock octets fails others source_is sink_is clock_is =
 
 pub serves : (seed count : ℕ) (schema : List SchemaNode) (source : SourceState) (sink : SinkState) (clock octets : List ℕ) (disk left_disk : DiskView) (left : Streams) (how : Option How) (ending : Ending) {fails others : List (List ℕ)}
     → source ≡ new_source octets fails → sink ≡ new_sink others → clock ≡ [] → octets ≡ connection_of_sets seed count
-    → schema_of schema_text ≡ Ok schema → HasJournal (Some disk.content) default_limits [] → AreSteady left.clock
+    → schema_of schema_text ≡ Ok schema → IsMemory (seen_memory disk) → HasJournal (Some disk.content) default_limits [] → AreSteady left.clock
     → OnDisk schema (seen_memory disk) (seen_memory left_disk) (streams_over source sink clock) left how ending
     → Serves seed count schema (seen_memory left_disk) ending
-serves seed count schema source sink clock octets disk left_disk left how ending {fails} {others} source_is sink_is clock_is octets_are schema_is journal steady on =
+serves seed count schema source sink clock octets disk left_disk left how ending {fails} {others} source_is sink_is clock_is octets_are schema_is memory journal steady on =
     let over = subst (λ (s : Streams). OnDisk schema (seen_memory disk) (seen_memory left_disk) s left how ending) (over_octets source sink clock octets fails others source_is sink_is clock_is) on in
     record {
       schema_is = schema_is;
       initial = seen_memory disk;
+      memory = memory;
       journal = journal;
       left = left;
       how = how;
       on_disk = subst (λ (o : List ℕ). OnDisk schema (seen_memory disk) (seen_memory left_disk) (streams_of_octets o) left how ending) octets_are over;
       readings = steady;
     }
+
+-- what a call of the disk tells of it
+pub memory_of : (disk : DiskView) → IsImage disk.content.mask disk.content.seen → IsMemory (seen_memory disk)
+memory_of disk sees = record { content = disk.content; told = refl; sees = sees }
 
 -- ---- the line
 
@@ -151,7 +157,7 @@ module _ (schema : List SchemaNode) (disk : DiskView) where
 
 -- ---- the report
 
-module _ (seed count : ℕ) (schema : List SchemaNode) (disk : DiskView) (ending : Ending) (closed : ending ≡ Done) (served : Serves seed count schema (seen_memory disk) ending) where
+module _ (seed count : ℕ) (schema : List SchemaNode) (disk : DiskView) (ending : Ending) (closed : ending ≡ Done) (served : Serves seed count schema (seen_memory disk) ending) (memory : IsMemory (seen_memory disk)) where
   served_whole : Serves seed count schema (seen_memory disk) Done
   served_whole = subst (λ (e : Ending). Serves seed count schema (seen_memory disk) e) closed served
 
@@ -160,6 +166,7 @@ module _ (seed count : ℕ) (schema : List SchemaNode) (disk : DiskView) (ending
     schema = schema;
     final = seen_memory disk;
     serves = served_whole;
+    memory = memory;
     limits = counts.limits;
     found = counts.found;
     has_journal = counts.has_journal;

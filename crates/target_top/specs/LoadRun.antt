@@ -15,6 +15,8 @@ use Rattle.base_kinds.specs.Schema.{SchemaNode}
 use Rattle.base_kinds.specs.Step.{after_expiry}
 use Rattle.schema_text.specs.declared.cause.SchemaFault.{SchemaFault}
 use Rattle.schema_text.specs.Schemas.{schema_of}
+use Rattle.disk_model.specs.Content.{Content}
+use Rattle.disk_model.specs.Images.{IsImage}
 use Rattle.book_port.specs.Chronicles.{entries_by}
 use Rattle.book_port.specs.Opened.{reopened}
 use Rattle.book_core.specs.Openings.{HasJournal}
@@ -33,6 +35,12 @@ load_reading = 1000
 
 abbrev pub AreSteady : List ℕ → Type 0
 AreSteady readings = AllByRecursion (λ reading. reading ≡ load_reading) readings
+
+-- a disk that tells its content, and whose reads give what a stop may leave of it
+pub record IsMemory (disk : SeenDisk) : Type 0 where
+  pub content : Content
+  pub told : disk.told ≡ Some content
+  pub sees : IsImage content.mask content.seen
 
 abbrev pub line_of : ℕ → ℕ → ℕ → ℕ → ℕ → List ℕ
 line_of sets ok entries leaves stamp =
@@ -61,10 +69,11 @@ module _ (seed count : ℕ) where
     clock = [];
   }
 
-  -- the client was served on a new journal, and each reading was the same
+  -- the client was served on a disk in memory with a new journal, and each reading was the same
   pub record Serves (schema : List SchemaNode) (final : SeenDisk) (ending : Ending) : Type 0 where
     pub schema_is : schema_of schema_text ≡ Ok schema
     pub initial : SeenDisk
+    pub memory : IsMemory initial
     pub journal : HasJournal initial.told default_limits []
     pub left : Streams
     pub how : Option How
@@ -77,6 +86,7 @@ module _ (seed count : ℕ) where
     pub schema : List SchemaNode
     pub final : SeenDisk
     pub serves : Serves schema final Done
+    pub memory : IsMemory final
     pub limits : Limits
     pub found : List Entry
     pub has_journal : HasJournal final.told limits found

@@ -6,7 +6,7 @@ ghost use Rattle.schema_text.specs.Schemas.{schema_of};
 ghost use Rattle.book_core.specs.Openings.{HasJournal};
 ghost use Rattle.book_core.specs.Views.{history_in};
 ghost use Rattle.generated_sets.specs.Schemas.{schema_text};
-ghost use Rattle.target_top.specs.LoadRun.{Counts, CountsNone, HasNoSchema, LoadRun, Serves, line_of, load_line, load_reading};
+ghost use Rattle.target_top.specs.LoadRun.{Counts, CountsNone, HasNoSchema, IsMemory, LoadRun, Serves, line_of, load_line, load_reading};
 ghost use Rattle.target_top.specs.inner.Loads.{CannotRead, CountsDisk, counted_on, one_if, seen_memory};
 
 use crate::ending::Ending;
@@ -18,6 +18,7 @@ use base_kinds::{Bytes, Entries, Entry, NoMemory, Path, Paths, Texts, View, defa
 use base_lists::Copied;
 use book_core::{Book, BookOpening};
 use commit_journal::Ledger;
+use disk_model::Disk;
 use edge_traits::{MemSink, MemSource};
 use generated_sets::{connection_of_sets, schema_text};
 use memory_disks::MemDisk;
@@ -87,11 +88,12 @@ fn schema_of_sets(alloc: Global) -> Result<Schema, Ending>
 
 /// A disk with a journal without entries.
 fn new_journal(alloc: Global) -> Result<MemDisk, NoMemory>
-    ensures { IfOk result (λ disk. HasJournal (Some disk.content) default_limits []) }
+    ensures journal { IfOk result (λ disk. HasJournal (Some disk.content) default_limits []) }
+    ensures memory { IfOk result (λ disk. IsMemory (seen_memory disk)) }
 {
     let mut disk = MemDisk::make(alloc);
     match Ledger::create(alloc, &mut disk, &default_limits()) {
-        Ok(()) => Ok(disk),
+        Ok(()) => Ok(looked_at(disk)),
         Err(_) => Err(NoMemory),
     }
 }
@@ -100,8 +102,9 @@ fn new_journal(alloc: Global) -> Result<MemDisk, NoMemory>
 fn served(alloc: Global, seed: u64, count: u32, schema: Schema) -> Result<LoadEnd, NoMemory>
     requires count { count < 2 ^ 30 }
     requires schema { schema_of schema_text ≡ Ok schema }
-    ensures { IfOk result (λ end.
+    ensures serves { IfOk result (λ end.
         Serves seed count schema (seen_memory end.disk) end.ending) }
+    ensures memory { IfOk result (λ end. IsMemory (seen_memory end.disk)) }
 {
     let desk = Desk::make(schema.copy(alloc)?);
     let disk = new_journal(alloc)?;
@@ -122,7 +125,18 @@ fn served(alloc: Global, seed: u64, count: u32, schema: Schema) -> Result<LoadEn
         output: _,
         clock: _clock,
     } = streams;
+    let disk = looked_at(disk);
     Ok(LoadEnd { disk, ending })
+}
+
+/// The disk, of which it is known then that what its reads give is what a stop may leave.
+fn looked_at(disk: MemDisk) -> MemDisk
+    ensures same { result ≡ disk }
+    ensures memory { IsMemory (seen_memory disk) }
+{
+    let mut disk = disk;
+    let _length = disk.len();
+    disk
 }
 
 /// The line on what the journal on this disk has.
