@@ -175,14 +175,14 @@ module _ {V E : Type 0} (entries : V → List E) (author : E → ℕ) (first : L
     (refl, knows s r id me.0 at live pos),
   )
 
-  pub may_count : (slots id : ℕ) (me : SeatState V E) → Allows Rule slots id me 3 (λ n. n) (AfterCount (step slots 3 0 0 none) me)
+  pub may_count : (slots id : ℕ) (me : SeatState V E) → Allows Rule slots id me 3 (λ n. n) (AfterCount author (step slots 3 0 0 none) me)
   may_count slots id me s r _ at _ = let n : ℕ = get_or s.words 3 0 in let there = at_map turn_of s.views id me.0 at in (
     record me.0 { known = n },
     keeps,
     tt,
     loaded s.words 3 s.homes (set s.views id (record me.0 { known = n })) (restages s r s.words s.homes id me.0 me.0.turn n at refl refl refl (λ e. e) (omega arith)
         (subst (KeepsTurns (λ x. entries x ≡ r.log) s.words s.homes) (sym (set_again (map turn_of s.views) id me.0.turn there)) r.turns)),
-    (refl, (r.numbers.each id me.0 at).known, r.numbers.limit),
+    (refl, (r.numbers.each id me.0 at).known, r.numbers.limit, λ live. seen.seen_up_to author first r.log n me.0 (r.lists.each id me.0 at live) r.numbers.unwritten),
   )
 
   pub may_enrol : (slots id : ℕ) (me : SeatState V E) (a b : ℕ) → b ≡ a + 1 → a < 4294967295 → a ≡ me.0.known → me.0.turn ≡ turn_outside 0 → me.0.live ≡ true → Allows Rule slots id me 3 (λ n. either (eqb n a) b n) (AfterEnrol author (step slots 3 a b none) me)

@@ -1,12 +1,13 @@
 -- How often numbers stand in lists and among views, and the entries of one author.
-use Rattle.std.proofs.Common.{◌≡◌, ◌≢◌, ℕ, zero, suc, ◌+◌, ◌<◌, ◌≤◌, List, [], ◌∷◌, ◌++◌, map, set, sym, refl, ap, ◌∙◌, ⊎_elim, arith, if◌then◌else◌, eq-eqb, ne_eqb}
+use Rattle.std.proofs.Common.{◌≡◌, ◌≢◌, ℕ, zero, suc, ◌+◌, ◌<◌, ◌≤◌, true, false, List, [], ◌∷◌, ◌++◌, length, leb, map, set, sym, refl, ap, ◌∙◌, ⊎_elim, arith, if◌then◌else◌, eq-eqb, ne_eqb}
+use Rattle.std.proofs.lemmas.Bool.Decides.{leb_tells}
 use mathlib.Core.Logic.{dite}
 use mathlib.Core.Option.{some, some-injective, some-ne-none}
 use native.Mathlib.Decide.{ℕ_discrete}
 use lib.ListN.{get_elem?}
 use Rattle.turn_lock.specs.declared.view.View.{View}
 use Rattle.turn_lock.specs.declared.view.Ended.{Ended}
-use Rattle.turn_lock.specs.Chronicles.{entries_by, AreBy}
+use Rattle.turn_lock.specs.Chronicles.{entries_by, AreBy, AreUpTo}
 use Rattle.turn_lock.specs.Passes.{occurrences, numbers_of, ended_number}
 use Rattle.turn_lock.specs.inner.Rule.{occurrences_in_views}
 
@@ -78,3 +79,17 @@ module _ {E : Type 0} (author : E → ℕ) where
   pub by_others : (m n : ℕ) (es : List E) → n ≢ m → 0 < n → AreBy author m es → entries_by author n es ≡ []
   by_others m n [] ne pos all = refl
   by_others m n (e ∷ es) ne pos all = by_miss n e es (λ is. ⊎_elim (λ (h : author e ≡ m). ne (sym is ∙ h)) (λ (h : author e ≡ 0). omega arith) all.0) ∙ by_others m n es ne pos all.1
+
+  none_hit : (e : E) (es : List E) (n : ℕ) → author e ≡ n → entries_by author n (e ∷ es) ≡ [] → ⊥
+  none_hit e es n is none = let long = ap length (sym (by_hit n e es is) ∙ none) in absurd (omega (arith, long))
+
+  none_behind : (e : E) (es : List E) (n : ℕ) → entries_by author n (e ∷ es) ≡ [] → entries_by author n es ≡ []
+  none_behind e es n none = dite (ℕ_discrete (author e) n) (λ is. absurd (none_hit e es n is none)) (λ ne. sym (by_miss n e es ne) ∙ none)
+
+  -- where no number above this one has an entry, each author is at most this one
+  pub up_to : (most : ℕ) (es : List E) → ((n : ℕ) → most < n → entries_by author n es ≡ []) → AreUpTo author most es
+  up_to most [] none = tt
+  up_to most (e ∷ es) none = (
+    ⊎_elim (λ (h : (leb (author e) most ≡ true) × (author e ≤ most)). h.1) (λ (h : (leb (author e) most ≡ false) × (most < author e)). absurd (none_hit e es (author e) refl (none (author e) h.1))) (leb_tells (author e) most),
+    up_to most es (λ n above. none_behind e es n (none n above)),
+  )

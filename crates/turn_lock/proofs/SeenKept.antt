@@ -11,12 +11,12 @@ use Rattle.atomic_table.proofs.Lists.{at_snoc}
 use Rattle.turn_lock.specs.declared.view.View.{View}
 use Rattle.turn_lock.specs.declared.view.Ended.{Ended}
 use Rattle.turn_lock.specs.declared.view.Turn.{Turn}
-use Rattle.turn_lock.specs.Chronicles.{entries_by, entries_past}
+use Rattle.turn_lock.specs.Chronicles.{AreUpTo, entries_by, entries_past}
 use Rattle.turn_lock.specs.Passes.{longer, split_view, joined_view, joined_passes, ended_pass, HasJust, HasEnded}
 use Rattle.turn_lock.specs.inner.Rule.{HasSeen, KeepsLists, OwnsEntries, KeepsNumbers, SeesItsEntries, EachSeesItsEntries}
 use Rattle.turn_lock.specs.inner.Steps.{spent_view}
 use Rattle.turn_lock.proofs.Seats.{stay, at_append}
-use Rattle.turn_lock.proofs.Counts.{by_append}
+use Rattle.turn_lock.proofs.Counts.{by_append, up_to}
 use Rattle.turn_lock.proofs.Prefixes.{prefix_self, prefix_trans, prefix_shorter, prefix_whole, prefix_length, past_longer}
 
 module _ {E : Type 0} (author : E → ℕ) (first : List E) where
@@ -83,6 +83,11 @@ module _ {E : Type 0} (author : E → ℕ) (first : List E) where
     });
     others = k.others;
   }
+
+  -- no entry that is seen has an author above the last number that is given out
+  pub seen_up_to : (log : List E) (most : ℕ) (v : View E) → HasSeen first log v → ((n : ℕ) → most < n → entries_by author n (entries_past first log) ≡ []) → AreUpTo author most (entries_past v.first v.seen)
+  seen_up_to log most v seen unwritten = subst (λ l. AreUpTo author most (entries_past l v.seen)) (sym seen.first_is)
+      (up_to author most (entries_past first v.seen) (λ n above. none_by n v.seen log seen.from_first seen.so_far (unwritten n above)))
 
   pub splits : (views : List (View E)) (v : View E) → EachSeesItsEntries author first views → EachSeesItsEntries author first (views ++ split_view v ∷ [])
   splits views v sees j d e = ⊎_elim (sees j d) (λ (t : split_view v ≡ d). subst (λ (z : View E). z.live ≡ true → SeesItsEntries author first z) t (λ _. record {

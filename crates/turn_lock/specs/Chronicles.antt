@@ -1,5 +1,5 @@
 -- The list of entries that a value keeps, by author.
-use Rattle.std.specs.Prelude.{◌≡◌, ℕ, ◌==◌, ◌⊎◌, List, [], ◌∷◌, length, drop, if◌then◌else◌}
+use Rattle.std.specs.Prelude.{◌≡◌, ℕ, ◌≤◌, ◌==◌, ◌⊎◌, List, [], ◌∷◌, length, drop, if◌then◌else◌}
 
 -- the entries of the author with this number, in their order
 abbrev pub entries_by : {E : Type 0} → (E → ℕ) → ℕ → List E → List E
@@ -14,3 +14,8 @@ entries_past first log = drop (length first) log
 abbrev pub AreBy : {E : Type 0} → (E → ℕ) → ℕ → List E → Type 0
 AreBy author n [] = Unit {0}
 AreBy author n (e ∷ es) = ((author e ≡ n) ⊎ (author e ≡ 0)) × AreBy author n es
+
+-- the author of each entry has at most this number
+abbrev pub AreUpTo : {E : Type 0} → (E → ℕ) → ℕ → List E → Type 0
+AreUpTo author most [] = Unit {0}
+AreUpTo author most (e ∷ es) = (author e ≤ most) × AreUpTo author most es

@@ -2,7 +2,7 @@
 ghost use Rattle.std.specs.Prelude.{◌≡◌, ◌≢◌, ℕ, ◌<◌, ◌≤◌, ◌+◌, ◌%◌, max, true, false, [], ◌∷◌, ◌++◌, IfOk, IfErr, IfSome, IfNone, Some, None};
 ghost use mathlib.Core.List.{IsPrefix};
 ghost use Rattle.turn_lock.specs.inner.Turns.{ticket_modulus, turn_outside, opening_turn};
-ghost use Rattle.turn_lock.specs.Chronicles.{entries_by, entries_past, AreBy};
+ghost use Rattle.turn_lock.specs.Chronicles.{entries_by, entries_past, AreBy, AreUpTo};
 ghost use Rattle.turn_lock.specs.Passes.{joined_passes, IsFirst, opening_view, split_view, joined_view, longer, IsNew, IsOutside, IsInside, IsSamePass, OwnsItsEntries};
 
 use crate::chronicle::Chronicle;
@@ -269,7 +269,7 @@ impl<V: Chronicle> TurnLock<V> {
     }
 
     /// Waits for the pass's turn, and takes the value for good. A pass that comes later waits for ever, so whoever ends a
-    /// lock joins all others before.
+    /// lock joins all others before. No entry behind those that the lock began with has an author whose number isn't given out.
     pub fn last<R: Wait>(&self, rt: &R, mut pass: Pass<V, V::Entry>) -> V
         requires own { pass.seat.table_id ≡ self.now.table.shared.table_id }
         requires outside { IsOutside pass.seat }
@@ -277,8 +277,12 @@ impl<V: Chronicle> TurnLock<V> {
             × IsPrefix pass.seat.me.0.seen v.seen × (v.made ≡ pass.seat.me.0.made)
             × (v.ended ≡ pass.seat.me.0.ended) × (v.first ≡ pass.seat.me.0.first)
             × (v.start ≡ pass.seat.me.0.start)
-            × (v.turn.number ≡ pass.seat.me.0.turn.number) × OwnsItsEntries V.author v }
+            × (v.turn.number ≡ pass.seat.me.0.turn.number) × OwnsItsEntries V.author v
+            × (pass.seat.me.0.known ≤ v.known) × (v.known ≤ 4294967295)
+            × AreUpTo V.author v.known (entries_past v.first v.seen) }
     {
-        self.enter(rt, &mut pass)
+        let value = self.enter(rt, &mut pass);
+        self.table.shared.load::<Count>(&mut pass.seat, AUTHORS);
+        value
     }
 }

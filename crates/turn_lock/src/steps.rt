@@ -45,7 +45,7 @@ impl<V: Chronicle> Play<Option<V>, View<V::Entry>> for Take {
 pub(crate) struct Count;
 
 impl<V: Chronicle> Play<Option<V>, View<V::Entry>> for Count {
-    ghost then = { AfterCount };
+    ghost then = { AfterCount V.author };
 }
 
 pub(crate) struct Enrol;

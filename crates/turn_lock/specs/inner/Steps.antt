@@ -3,7 +3,7 @@ use Rattle.std.specs.Prelude.{◌≡◌, ◌≢◌, ℕ, ◌%◌, ◌≤◌, ◌
 use mathlib.Core.List.{IsPrefix}
 use Rattle.atomic_table.specs.Table.{Me, Step, rest}
 use Rattle.turn_lock.specs.declared.view.View.{View}
-use Rattle.turn_lock.specs.Chronicles.{entries_by, entries_past}
+use Rattle.turn_lock.specs.Chronicles.{AreUpTo, entries_by, entries_past}
 use Rattle.turn_lock.specs.Passes.{OwnsItsEntries}
 use Rattle.turn_lock.specs.inner.Turns.{ticket_modulus, turn_outside}
 
@@ -40,8 +40,9 @@ module _ {V E : Type 0} where
   abbrev pub AfterTake : Step (Option V) → SeatState V E → ℕ → SeatState V E → Type 0
   AfterTake st m r m' = m' ≡ (record m.0 { turn = record m.0.turn { hollow = false } }, (0, None) ∷ m.1)
 
-  abbrev pub AfterCount : Step (Option V) → SeatState V E → ℕ → SeatState V E → Type 0
-  AfterCount st m r m' = (m' ≡ (record m.0 { known = r }, m.1)) × (m.0.known ≤ r) × (r ≤ 4294967295)
+  abbrev pub AfterCount : (E → ℕ) → Step (Option V) → SeatState V E → ℕ → SeatState V E → Type 0
+  AfterCount author st m r m' = (m' ≡ (record m.0 { known = r }, m.1)) × (m.0.known ≤ r) × (r ≤ 4294967295)
+      × (m.0.live ≡ true → AreUpTo author r (entries_past m.0.first m.0.seen))
 
   abbrev pub AfterEnrol : (E → ℕ) → Step (Option V) → SeatState V E → ℕ → SeatState V E → Type 0
   AfterEnrol author st m r m' = (r ≡ st.first → (m' ≡ (record m.0 { turn = turn_outside (st.first + 1); known = st.first + 1 }, m.1)) × OwnsItsEntries author m'.0)
