@@ -14,8 +14,11 @@ use std::marker::Model;
 /// A port to the sending half of a connection. Where other threads have ports to the same connection a call may find it
 /// otherwise than the port saw it last.
 pub trait WirePort {
-    ghost use Rattle.std.specs.Prelude.{ℕ, Bool};
+    ghost use Rattle.std.specs.Prelude.{ℕ, Bool, List};
     ghost use Rattle.h2_send.specs.Port.{PortView, Progress};
+
+    /// Which connection it is a port to, among those that have several ports: its name, a list of numbers.
+    ghost connection: { Self → List ℕ };
 
     /// How far the connection had come when the port saw it last: what its sending half was given in which order, whether
     /// it still writes, and what has gone out.
@@ -35,6 +38,7 @@ pub trait WirePort {
     /// closed; else Busy where octets wait on it, and Free where none do.
     fn ready(&mut self, stream: u32) -> Ready
         ensures asks { Asks (is_alone self.old) result stream (progress self.old) (progress self.new) }
+        ensures connection { connection self.new ≡ connection self.old }
         ensures alone { is_alone self.new ≡ is_alone self.old }
         ensures owns { owns self.new ≡ owns self.old }
         // Nothing is said by asking,
@@ -47,6 +51,7 @@ pub trait WirePort {
         requires size { FitsMessage piece }
         ensures offers { Offers (is_alone self.old) result stream (said_by piece)
             (progress self.old) (progress self.new) }
+        ensures connection { connection self.new ≡ connection self.old }
         ensures alone { is_alone self.new ≡ is_alone self.old }
         ensures owns { owns self.new ≡ owns self.old }
         // and by an offer no more than the piece, where it is accepted.
@@ -57,7 +62,8 @@ pub trait WirePort {
         ensures later { (counts self.old).offers ≤ (counts self.new).offers };
 }
 
-/// What a wire counts as a port.
+/// What a port of a wire counts: what was taken through it, how often `ready` answered Free there, and how often `offer` was called.
+/// Both counts stand still at the end of a u64.
 #[derive(Drop)]
 pub struct Port {
     /// For contracts alone.
@@ -75,7 +81,8 @@ impl Model for Port {
 }
 
 impl Port {
-    pub(crate) fn unused() -> Port
+    /// Nothing is counted yet.
+    pub fn unused() -> Port
         ensures { result ≡ unused_port }
     {
         Port {
@@ -86,7 +93,7 @@ impl Port {
     }
 
     /// This was answered to how a stream stands.
-    pub(crate) fn note_answer(&mut self, ready: Ready)
+    pub fn note_answer(&mut self, ready: Ready)
         ensures { self.new ≡ asked ready self.old }
     {
         match ready {
@@ -97,7 +104,7 @@ impl Port {
     }
 
     /// A piece was offered on a stream, and this became of it.
-    pub(crate) fn note(&mut self, took: Took, given: &(u32, Piece))
+    pub fn note(&mut self, took: Took, given: &(u32, Piece))
         ensures is { self.new ≡ noted took given.now self.old }
         ensures later { self.old.offers ≤ self.new.offers }
     {
@@ -109,8 +116,10 @@ impl Port {
 }
 
 impl<S: Sink> WirePort for Wire<S> {
-    ghost use Rattle.std.specs.Prelude.{true};
+    ghost use Rattle.std.specs.Prelude.{true, []};
     ghost use Rattle.h2_send.specs.Wires.{progress_of};
+
+    ghost connection = { λ w. [] };
 
     ghost progress = { λ w. progress_of S.seen w };
 

@@ -185,7 +185,7 @@ module _ (at left : Progress) (is_open : at.condition ≡ condition.Open) where
 
 pub goes_on : (before : WireRecord) (rs : List WireRecord) → Follow before rs → GoesOn before.left (last_behind before rs).left
 goes_on before [] follow = stays before.left
-goes_on before (r ∷ rs) follow = goes_further before.left r.left (last_behind r rs).left (goes_by before.left r.left follow.0 r.deed follow.1) (goes_on r rs follow.2)
+goes_on before (r ∷ rs) follow = goes_further before.left r.left (last_behind r rs).left (goes_by before.left r.left follow.0 r.deed follow.1) (goes_on r rs follow.3)
 
 pub goes_on_behind : (first : WireRecord) (seen more : List WireRecord) → AreRecords (first ∷ seen ++ more) → GoesOn (left_in (first ∷ seen)) (left_in (first ∷ seen ++ more))
 goes_on_behind first seen more are = subst (λ (r : WireRecord). GoesOn (last_behind first seen).left r.left) (sym (last_append first seen more)) (goes_on (last_behind first seen) more (follow_behind first seen more are.2))

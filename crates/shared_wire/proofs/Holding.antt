@@ -1,11 +1,15 @@
 -- What a turn holds, behind one record more.
-use Rattle.std.proofs.Common.{◌≡◌, ◌⊎◌, inl, inr, ℕ, ◌+◌, ◌<◌, List, [], ◌∷◌, ◌++◌, false, length, Result, Ok, Err, refl, sym, ap, ◌∙◌, subst, arith, length-append, append-nil}
+use Rattle.std.proofs.Common.{◌≡◌, ◌⊎◌, inl, inr, ℕ, ◌+◌, ◌^◌, ◌<◌, List, [], ◌∷◌, ◌++◌, false, length, Result, Ok, Err, refl, sym, ap, ◌∙◌, subst, arith, length-append, append-nil}
 use Rattle.edge_traits.specs.Output.{Output}
 use Rattle.h2_events.specs.declared.port.Ready.TheVariants as ready
 use Rattle.h2_events.specs.declared.port.Took.{Took}
 use Rattle.h2_events.specs.declared.port.Took.TheVariants as took
 use Rattle.h2_send.specs.Conditions.{answer_of, condition_after, IsClosed}
+use Rattle.h2_events.specs.Items.{said_by}
+use Rattle.h2_events.specs.declared.said.Piece.{Piece}
+use Rattle.h2_events.specs.declared.said.Piece.TheVariants as piece
 use Rattle.h2_events.specs.declared.said.Said.{Said}
+use Rattle.h2_send.specs.Inputs.{Speech, input_of}
 use Rattle.h2_send.specs.Port.{Progress, ready_in}
 use Rattle.h2_send.specs.Wires.{WireView, Does, IsFolded, finished, progress_of}
 use Rattle.h2_send.specs.declared.given.Given.{Given}
@@ -14,9 +18,10 @@ use Rattle.h2_send.specs.declared.fault.WireFaultOut.TheVariants as fault
 use Rattle.h2_send.specs.declared.condition.Condition.{Condition}
 use Rattle.h2_send.specs.declared.condition.Condition.TheVariants as condition
 use Rattle.h2_send.proofs.Closing.{open_line}
-use Rattle.shared_wire.specs.Records.{WireRecord, Leaves, Adds, AddsWhereOpen, AnswersEnd, AnswersPiece, SaysOn, AreRecords, IsOpen, fault_behind, last_record, left_in}
+use Rattle.shared_wire.specs.Records.{WireRecord, FitsTypes, IsPorts, Leaves, Adds, AddsWhereOpen, AnswersEnd, AnswersPiece, SaysOn, AreRecords, IsLastRoom, IsOpen, ByRoom, fault_behind, last_record, left_in, most_records}
+use Rattle.shared_wire.specs.Parts.{FitTypes, input_parts}
 use Rattle.shared_wire.specs.Visits.{StandsBehind}
-use Rattle.shared_wire.specs.inner.Holding.{Holds, most_records}
+use Rattle.shared_wire.specs.inner.Holding.{Holds}
 use Rattle.shared_wire.specs.inner.Telling.{Loses, acted_so, condition_by, deed_of, left_by, starved_left, starved_record, stated_so}
 use Rattle.shared_wire.specs.declared.log.Noted.{Noted}
 use Rattle.shared_wire.specs.declared.log.Noted.TheVariants as noted
@@ -26,8 +31,30 @@ use Rattle.shared_wire.proofs.Leaving.{told, ends_silently}
 pub closed_not_open : (state : Condition) → IsClosed state → state ≡ condition.Open → ⊥
 closed_not_open state closed is = subst IsClosed is closed
 
+-- what is noted has the bits of its types where what the call was given has them
+pub acted_fits : (given : Given) (result : Result (Unit {0}) WireFaultOut) → FitTypes (input_parts (input_of given)) → FitsTypes (deed_of (acted_so given result))
+acted_fits given (Ok tt) fits = fits
+acted_fits given (Err fault.WriteFault) fits = fits
+acted_fits given (Err fault.NoMemory) fits = fits
+acted_fits given (Err fault.Overflow) fits = fits
+
+pub stated_fits : (given : Given) (answer : Took) → FitTypes (input_parts (input_of given)) → FitsTypes (deed_of (stated_so given answer))
+stated_fits given took.Taken fits = fits
+stated_fits given took.Busy fits = fits
+stated_fits given took.Gone fits = fits
+stated_fits given took.WriteFault fits = fits
+stated_fits given took.NoMemory fits = fits
+
+-- 16 bits are fewer than 64
+pub wider : (n : ℕ) → n < 2 ^ 16 → n < 2 ^ 64
+wider n small = omega (arith, small)
+
+pub said_fits : (stream : ℕ) (said : Piece) → stream < 2 ^ 32 → FitTypes (input_parts (Speech stream (said_by said)))
+said_fits stream (piece.Message octets) small = (small, omega arith)
+said_fits stream (piece.Finish refusal) small = (small, omega arith)
+
 -- how it stands behind one record more, which tells of the wire as it is left
-module _ {S : Type 0} (seen : S → Output) (v : WireView S) (rs : List WireRecord) (r : WireRecord) (are : AreRecords rs) (is_open : IsOpen rs) (leaves : Leaves r.deed (left_in rs) r.left) where
+module _ {S : Type 0} (seen : S → Output) (v : WireView S) (rs : List WireRecord) (r : WireRecord) (are : AreRecords rs) (is_open : IsOpen rs) (leaves : Leaves r.deed (left_in rs) r.left) (some : IsPorts r.author r.deed) where
   abbrev all : List WireRecord
   all = rs ++ r ∷ []
 
@@ -35,7 +62,7 @@ module _ {S : Type 0} (seen : S → Output) (v : WireView S) (rs : List WireReco
   last = last_is rs r
 
   are_all : AreRecords all
-  are_all = records_more rs r are is_open leaves
+  are_all = records_more rs r are is_open leaves some
 
   pub stands_behind : seen v.sink ≡ r.left.output → (r.left.condition ≡ condition.Open → progress_of seen v ≡ r.left) → ((r.left.condition ≡ condition.Open → ⊥) → IsClosed v.condition) → StandsBehind seen all v
   stands_behind output opened closed = record {
@@ -85,8 +112,8 @@ module _ {S : Type 0} (seen : S → Output) (v : WireView S) (rs : List WireReco
 pub adds_none : (author : ℕ) (rs : List WireRecord) → AreRecords rs → Adds author rs [] rs
 adds_none author rs are = record { whole = sym (append-nil rs); by = tt; records = are }
 
-pub adds_one : (author : ℕ) (rs : List WireRecord) (r : WireRecord) → r.author ≡ author → AreRecords rs → IsOpen rs → Leaves r.deed (left_in rs) r.left → Adds author rs (r ∷ []) (rs ++ r ∷ [])
-adds_one author rs r is are is_open leaves = record { whole = refl; by = (is, tt); records = records_more rs r are is_open leaves }
+pub adds_one : (author : ℕ) (rs : List WireRecord) (r : WireRecord) → r.author ≡ author → AreRecords rs → IsOpen rs → Leaves r.deed (left_in rs) r.left → IsPorts r.author r.deed → Adds author rs (r ∷ []) (rs ++ r ∷ [])
+adds_one author rs r is are is_open leaves some = record { whole = refl; by = (is, tt); records = records_more rs r are is_open leaves some }
 
 pub open_of : (state : Condition) → ((state ≡ condition.Open → ⊥) → ⊥) → state ≡ condition.Open
 open_of condition.New never = absurd (never (λ is. absurd cc))
@@ -97,7 +124,7 @@ open_of condition.NoMemory never = absurd (never (λ is. absurd cc))
 
 -- ---- one call on a wire that a turn found open
 
-module _ {S : Type 0} (seen : S → Output) (author : ℕ) (w v : WireView S) (state : Condition) (log new : List WireRecord) (count : ℕ) (h : Holds seen state w log count) (is_open : state ≡ condition.Open) (entry deed : Noted) (is : entry ≡ deed) (new_is : new ≡ log ++ told seen author entry v ∷ []) (leaves : Leaves (deed_of deed) (progress_of seen w) (left_by deed (progress_of seen v))) where
+module _ {S : Type 0} (seen : S → Output) (author : ℕ) (w v : WireView S) (state : Condition) (log new : List WireRecord) (count : ℕ) (h : Holds seen state w log count) (is_open : state ≡ condition.Open) (entry deed : Noted) (is : entry ≡ deed) (new_is : new ≡ log ++ told seen author entry v ∷ []) (leaves : Leaves (deed_of deed) (progress_of seen w) (left_by deed (progress_of seen v))) (some : IsPorts author (deed_of deed)) where
   abbrev pub its_record : WireRecord
   its_record = told seen author deed v
 
@@ -108,16 +135,16 @@ module _ {S : Type 0} (seen : S → Output) (author : ℕ) (w v : WireView S) (s
   leaves_here = subst (λ at. Leaves its_record.deed at its_record.left) (h.stands.is_open (h.is_open is_open).is_open) leaves
 
   pub noted_adds : Adds author log (its_record ∷ []) new
-  noted_adds = subst (Adds author log (its_record ∷ [])) (sym all_is) (adds_one author log its_record refl h.stands.records (h.is_open is_open).is_open leaves_here)
+  noted_adds = subst (Adds author log (its_record ∷ [])) (sym all_is) (adds_one author log its_record refl h.stands.records (h.is_open is_open).is_open leaves_here some)
 
   pub noted_holds : (next : Condition) → left_by deed (progress_of seen v) ≡ progress_of seen v → v.condition ≡ next → (next ≡ condition.Open) ⊎ IsClosed next → ((s : Condition) → fault_behind (deed_of deed) s ≡ answer_of s) → IsFolded v.condition v.line v.inputs → (next ≡ condition.Open → count + 1 < most_records) → Holds seen next v new (count + 1)
   noted_holds next kept stands either plain folded room =
       subst (λ l. Holds seen next v l (count + 1)) (sym all_is)
-      (holds_on seen v log its_record h.stands.records (h.is_open is_open).is_open leaves_here next count h.counted (sym kept) stands either plain folded room)
+      (holds_on seen v log its_record h.stands.records (h.is_open is_open).is_open leaves_here some next count h.counted (sym kept) stands either plain folded room)
 
 -- ---- a call for which there was no room but the last
 
-module _ {S : Type 0} (seen : S → Output) (author : ℕ) (w v : WireView S) (state : Condition) (log new : List WireRecord) (count : ℕ) (h : Holds seen state w log count) (is_open : IsOpen log) (deed : Noted) (loses : Loses deed (left_in log)) (new_is : new ≡ log ++ told seen author deed v ∷ []) where
+module _ {S : Type 0} (seen : S → Output) (author : ℕ) (w v : WireView S) (state : Condition) (log new : List WireRecord) (count : ℕ) (h : Holds seen state w log count) (is_open : IsOpen log) (deed : Noted) (loses : Loses deed (left_in log)) (new_is : new ≡ log ++ told seen author deed v ∷ []) (some : IsPorts author (deed_of deed)) where
   pub was_open : state ≡ condition.Open
   was_open = open_of state (λ shut. h.closed shut is_open)
 
@@ -159,13 +186,13 @@ module _ {S : Type 0} (seen : S → Output) (author : ℕ) (w v : WireView S) (s
     all_lost = new_is ∙ ap (λ l. log ++ (let r : WireRecord = record { author = author; deed = deed_of deed; left = l } in r) ∷ []) (starved_is deed loses ends)
 
     pub starved_adds : Adds author log (lost ∷ []) new
-    starved_adds = subst (Adds author log (lost ∷ [])) (sym all_lost) (adds_one author log lost refl h.stands.records is_open (starved_leaves deed loses))
+    starved_adds = subst (Adds author log (lost ∷ [])) (sym all_lost) (adds_one author log lost refl h.stands.records is_open (starved_leaves deed loses) some)
 
     pub starved_holds : Holds seen condition.NoMemory v new (count + 1)
     starved_holds =
         let shut = starved_closed deed loses in
         subst (λ l. Holds seen condition.NoMemory v l (count + 1)) (sym all_lost)
-        (holds_starved seen v log lost h.stands.records is_open (starved_leaves deed loses) count h.counted
+        (holds_starved seen v log lost h.stands.records is_open (starved_leaves deed loses) some count h.counted
         (ap (λ (p : Progress). p.output) ends ∙ shut.2) (subst IsClosed (sym (ap (λ (p : Progress). p.condition) ends)) tt) shut.0 shut.1)
 
 -- ---- what is noted
@@ -229,13 +256,21 @@ free_not_busy is = absurd cc
 free_not_gone : {P : Type 0} → ready.Free ≡ ready.Gone → P
 free_not_gone is = absurd cc
 
+-- there was room, or none but the last
+pub by_room : (found : List WireRecord) (Does Starves : Type 0) → (IsLastRoom found → ⊥) → Does → ByRoom found Does Starves
+by_room found Does Starves other does = record { room = λ _. does; last = λ is. absurd (other is) }
+
+pub by_none : (found : List WireRecord) (Does Starves : Type 0) → IsLastRoom found → Starves → ByRoom found Does Starves
+by_none found Does Starves is starves = record { room = λ other. absurd (other is); last = λ _. starves }
+
 -- what is said of the one record that a call adds
 pub tells_open : (found : List WireRecord) (r : WireRecord) (Tells : WireRecord → Type 0) (Closed : Type 0) → IsOpen found → Tells r → AddsWhereOpen found (r ∷ []) Tells Closed
 tells_open found r Tells Closed is_open tells = record { is_open = λ _. (r, refl, tells); closed = λ shut. absurd (shut is_open) }
 
-pub tells_free : (stream : ℕ) (said : Said) (answer : Took) (found : List WireRecord) (r : WireRecord) → ready_in stream (left_in found) ≡ ready.Free → AnswersPiece stream said answer r → SaysOn stream said answer found (r ∷ [])
-tells_free stream said answer found r free tells = record {
+pub tells_free : (stream : ℕ) (said : Said) (answer : Took) (found : List WireRecord) (r : WireRecord) → ready_in stream (left_in found) ≡ ready.Free → AnswersPiece stream said answer r → (IsLastRoom found → answer ≡ took.NoMemory) → SaysOn stream said answer found (r ∷ [])
+tells_free stream said answer found r free tells last = record {
   free = λ _. (r, refl, tells);
+  last = λ _. last;
   busy = λ is. free_not_busy (sym free ∙ is);
   gone = λ is. free_not_gone (sym free ∙ is);
 }

@@ -5,4 +5,5 @@ pub mod Holding
 pub mod Owning
 pub mod Turning
 pub mod Meeting
+pub mod Octets
 pub mod Seeing

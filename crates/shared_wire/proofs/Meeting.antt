@@ -60,7 +60,7 @@ pub turned_kept : (before after : View WireRecord) → KeepsWire before → afte
 turned_kept before after k number first known owner = let some = k.some in let counted = k.counted in record {
   some = omega (arith, number, some);
   counted = omega (arith, number, known, counted);
-  began = subst (λ (l : List WireRecord). 0 < length l) (sym first) k.began;
+  began = subst (λ (l : List WireRecord). length l ≡ 1) (sym first) k.began;
   owner = owner;
 }
 
@@ -69,7 +69,7 @@ pub new_kept : (v q : View WireRecord) → KeepsWire v → 0 < q.turn.number →
 new_kept v q k pos first known owner = record {
   some = pos;
   counted = omega (arith, known);
-  began = subst (λ (l : List WireRecord). 0 < length l) (sym first) k.began;
+  began = subst (λ (l : List WireRecord). length l ≡ 1) (sym first) k.began;
   owner = owner;
 }
 
@@ -98,7 +98,7 @@ pub first_kept : (after : View WireRecord) (at : Progress) → after.first ≡ f
 first_kept after at first number known owner = record {
   some = omega (arith, number);
   counted = omega (arith, number, known);
-  began = subst (λ (l : List WireRecord). 0 < length l) (sym first) (omega arith);
+  began = subst (λ (l : List WireRecord). length l ≡ 1) (sym first) refl;
   owner = owner;
 }
 

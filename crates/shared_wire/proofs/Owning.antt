@@ -1,19 +1,19 @@
 -- What a pass knows of its records, and of those of the passes that were joined into it, as what its port shows.
-use Rattle.std.proofs.Common.{◌≡◌, ◌≢◌, ℕ, zero, suc, ◌<◌, ◌≤◌, List, [], ◌∷◌, ◌++◌, length, map, refl, sym, ap, ◌∙◌, subst, arith, length-append}
+use Rattle.std.proofs.Common.{◌≡◌, ◌≢◌, ℕ, zero, suc, ◌<◌, ◌≤◌, List, [], ◌∷◌, ◌++◌, drop, length, map, refl, sym, ap, ◌∙◌, subst, arith, length-append}
 use Rattle.std.specs.List.{AllByRecursion}
 use mathlib.Core.Option.{some, some-injective}
 use mathlib.Core.List.{IsPrefix}
 use mathlib.Core.Logic.{dite}
 use native.Mathlib.Decide.{ℕ_discrete}
 use lib.ListN.{get_elem?}
-use Rattle.turn_lock.specs.Chronicles.{entries_by, entries_past}
+use Rattle.turn_lock.specs.Chronicles.{AreUpTo, entries_by, entries_past}
 use Rattle.turn_lock.specs.Passes.{HasJust, OwnsItsEntries, occurrences, ended_number}
 use Rattle.turn_lock.specs.declared.view.Ended.{Ended}
 use Rattle.turn_lock.specs.declared.view.View.{View}
 use Rattle.turn_lock.proofs.Counts.{times_hit, times_miss, by_append, by_hit}
 use Rattle.turn_lock.proofs.Prefixes.{past_longer, past_prefix}
-use Rattle.shared_wire.specs.Records.{WireRecord, record_author}
-use Rattle.shared_wire.specs.Visits.{VisitEnd, HasJustMade, AuthorsDiffer, OthersWentOn, ended_visit}
+use Rattle.shared_wire.specs.Records.{WireRecord, AreRecords, Follow, record_author}
+use Rattle.shared_wire.specs.Visits.{VisitEnd, AreOfPorts, HasJustMade, AuthorsDiffer, OthersWentOn, ended_visit}
 
 -- what is past one front is what is past a shorter one between the two, and what is past the longer
 parts_past : (xs ys zs : List WireRecord) → IsPrefix xs ys → IsPrefix ys zs → entries_past xs zs ≡ entries_past xs ys ++ entries_past ys zs
@@ -93,3 +93,12 @@ authors_differ pass ended pos all differ = ended_differ (pass ∷ ended) (λ i e
     each : (i : ℕ) (e : Ended WireRecord) → get_elem? (pass ∷ ended) i ≡ some e → 0 < e.number
     each zero e h = subst (λ (x : Ended WireRecord). 0 < x.number) (some-injective pass e h) pos
     each (suc i) e h = all i e h
+
+each_of_port : (most : ℕ) (before : WireRecord) (rs : List WireRecord) → Follow before rs → AreUpTo record_author most rs → AllByRecursion (λ (r : WireRecord). (0 < r.author) × (r.author ≤ most)) rs
+each_of_port most before [] follow up = tt
+each_of_port most before (r ∷ rs) follow up = ((follow.2.0, up.0), each_of_port most r rs follow.3 up.1)
+
+-- whose the records are of a lock that began with one
+pub of_ports : (first all : List WireRecord) (most : ℕ) → length first ≡ 1 → AreRecords all → AreUpTo record_author most (entries_past first all) → AreOfPorts most all
+of_ports first [] most one are up = absurd are
+of_ports first (r ∷ rs) most one are up = each_of_port most r rs are.2 (subst (λ n. AreUpTo record_author most (drop n (r ∷ rs))) one up)

@@ -1,4 +1,6 @@
+pub mod Entries
 pub mod inner
+pub mod Parts
 pub mod Records
 pub mod Visits
 pub mod worked

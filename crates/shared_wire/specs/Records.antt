@@ -1,6 +1,6 @@
 -- What is recorded of a wire behind a lock: each call that found it open, in the order of their turns, with whose it was, what it
 -- did, and how it left the wire. So where a record stands behind another the two tell what went out between them.
-use Rattle.std.specs.Prelude.{◌≡◌, ◌⊎◌, ℕ, true, List, [], ◌∷◌, ◌++◌, Result, Ok, Err}
+use Rattle.std.specs.Prelude.{◌≡◌, ◌⊎◌, ℕ, ◌+◌, ◌^◌, ◌<◌, true, List, [], ◌∷◌, ◌++◌, length, Result, Ok, Err}
 use Rattle.std.specs.List.{AllByRecursion}
 use Rattle.edge_traits.specs.Output.{Output, Wrote, FailedWithin, unwritten_output}
 use Rattle.h2_windows.specs.Written.{octets_of}
@@ -16,13 +16,14 @@ use Rattle.h2_send.specs.Acting.{handled}
 use Rattle.h2_send.specs.Conditions.{answer_of}
 use Rattle.h2_send.specs.Farewells.{farewell}
 use Rattle.h2_send.specs.Inputs.{Input, Event, Speech}
-use Rattle.h2_send.specs.Lines.{overflows}
+use Rattle.h2_send.specs.Lines.{is_new_stream, overflows}
 use Rattle.h2_send.specs.Offers.{has_begun}
 use Rattle.h2_send.specs.Port.{Progress, line_of, ready_in}
 use Rattle.h2_send.specs.declared.condition.Condition.{Condition}
 use Rattle.h2_send.specs.declared.condition.Condition.TheVariants as condition
 use Rattle.h2_send.specs.declared.fault.WireFaultOut.{WireFaultOut}
 use Rattle.h2_send.specs.declared.fault.WireFaultOut.TheVariants as fault
+use Rattle.shared_wire.specs.Parts.{FitTypes, input_parts}
 
 -- The wire was put behind the lock; an event was acted on, or something said on a stream; an event was refused, or a status of
 -- HTTP; the connection was ended, with this code; there was room for one record alone, and the wire was closed.
@@ -61,12 +62,17 @@ EndsOut condition.WriteFault code at now =
     FailedWithin (octets_of (farewell code (line_of at))) at.output now
 EndsOut _ code at now = ⊥
 
--- An event would take a window above 2^31 - 1; a status finds its stream not free, or begun.
+-- no status goes out on the stream: nothing does any more, or a message was said there, of which nothing waits
+abbrev pub TakesNoStatus : ℕ → Progress → Type 0
+TakesNoStatus stream at =
+    (ready_in stream at ≡ ready.Gone)
+    ⊎ ((ready_in stream at ≡ ready.Free) × (has_begun stream (line_of at).streams ≡ true))
+
+-- An event would take a window above 2^31 - 1; octets wait on the stream of a status, or none goes out there.
 abbrev pub IsRefused : Input → Progress → Type 0
 IsRefused (Event event) at = overflows event (line_of at) ≡ true
 IsRefused (Speech stream (Status status)) at =
-    (ready_in stream at ≡ ready.Busy) ⊎ ((ready_in stream at ≡ ready.Gone)
-    ⊎ (has_begun stream (line_of at).streams ≡ true))
+    (ready_in stream at ≡ ready.Busy) ⊎ TakesNoStatus stream at
 IsRefused (Speech stream said) at = ⊥
 
 -- what a call makes of a wire that it found open and so far
@@ -81,17 +87,31 @@ Leaves (Ended code) at left =
     (left.inputs ≡ at.inputs) × EndsOut left.condition code at left.output
 Leaves Starved at left = left ≡ record at { condition = condition.Finished }
 
--- Each record stands behind one that left the wire open, and its call found the wire so.
+-- what a call was given has the bits of its types
+abbrev pub FitsTypes : Deed → Type 0
+FitsTypes Began = Unit {0}
+FitsTypes (Gave input) = FitTypes (input_parts input)
+FitsTypes (Refused input) = FitTypes (input_parts input)
+FitsTypes (Ended code) = code < 2 ^ 32
+FitsTypes Starved = Unit {0}
+
+-- it is a port's
+abbrev pub IsPorts : ℕ → Deed → Type 0
+IsPorts author deed = (0 < author) × (author < 2 ^ 32) × FitsTypes deed
+
+-- Each record is a port's, and stands behind one that left the wire open; its call found the wire so.
 abbrev pub Follow : WireRecord → List WireRecord → Type 0
 Follow before [] = Unit {0}
 Follow before (r ∷ rs) =
-    (before.left.condition ≡ condition.Open) × Leaves r.deed before.left r.left × Follow r rs
+    (before.left.condition ≡ condition.Open) × Leaves r.deed before.left r.left
+    × IsPorts r.author r.deed × Follow r rs
 
--- the records of a wire, from the one with which it was put behind its lock, open
+-- the records of a wire, from the one with which it was put behind its lock, open, and which is no port's
 abbrev pub AreRecords : List WireRecord → Type 0
 AreRecords [] = ⊥
 AreRecords (first ∷ rs) =
     (first.deed ≡ Began) × (first.left.condition ≡ condition.Open) × Follow first rs
+    × (first.author ≡ 0)
 
 -- ---- what records come to
 
@@ -123,6 +143,21 @@ fault_behind deed state = answer_of state
 abbrev pub fault_in : List WireRecord → Result (Unit {0}) WireFaultOut
 fault_in rs = let r = last_record rs in fault_behind r.deed r.left.condition
 
+-- ---- room
+
+-- So many records there is room for. The room of the last one is kept for the record that closes the wire.
+abbrev pub most_records : ℕ
+most_records = 18446744073709551615
+
+-- there is no room but that
+abbrev pub IsLastRoom : List WireRecord → Type 0
+IsLastRoom found = length found + 1 ≡ most_records
+
+-- what a call does where there is room, and where there is none but the last
+pub record ByRoom (found : List WireRecord) (Does Starves : Type 0) : Type 0 where
+  pub room : (IsLastRoom found → ⊥) → Does
+  pub last : IsLastRoom found → Starves
+
 -- ---- what calls do
 
 -- what a piece that was taken left of the wire
@@ -132,21 +167,25 @@ TookBy took.WriteFault state = state ≡ condition.WriteFault
 TookBy took.NoMemory state = state ≡ condition.NoMemory
 TookBy _ state = ⊥
 
+-- Memory is wanting for a new stream alone.
 abbrev pub AnswersEvent : RecvEvent → Result (Unit {0}) WireFaultOut → WireRecord → Type 0
 AnswersEvent event (Ok tt) r = (r.deed ≡ Gave (Event event)) × (r.left.condition ≡ condition.Open)
 AnswersEvent event (Err fault.Overflow) r = r.deed ≡ Refused (Event event)
 AnswersEvent event (Err fault.WriteFault) r =
     (r.deed ≡ Gave (Event event)) × (r.left.condition ≡ condition.WriteFault)
 AnswersEvent event (Err fault.NoMemory) r =
-    ((r.deed ≡ Gave (Event event)) × (r.left.condition ≡ condition.NoMemory))
-    ⊎ (r.deed ≡ Starved)
+    (r.deed ≡ Gave (Event event)) × (r.left.condition ≡ condition.NoMemory)
+    × (is_new_stream event ≡ true)
 
-abbrev pub AnswersStatus : ℕ → ℕ → Took → WireRecord → Type 0
-AnswersStatus stream status took.Busy r = r.deed ≡ Refused (Speech stream (Status status))
-AnswersStatus stream status took.Gone r = r.deed ≡ Refused (Speech stream (Status status))
-AnswersStatus stream status answer r =
-    ((r.deed ≡ Gave (Speech stream (Status status))) × TookBy answer r.left.condition)
-    ⊎ ((r.deed ≡ Starved) × (answer ≡ took.NoMemory))
+-- A status is Busy just where octets wait on its stream, and Gone just where none goes out there.
+abbrev pub AnswersStatus : ℕ → ℕ → Progress → Took → WireRecord → Type 0
+AnswersStatus stream status at took.Busy r =
+    (r.deed ≡ Refused (Speech stream (Status status))) × (ready_in stream at ≡ ready.Busy)
+AnswersStatus stream status at took.Gone r =
+    (r.deed ≡ Refused (Speech stream (Status status)))
+    × TakesNoStatus stream at
+AnswersStatus stream status at answer r =
+    (r.deed ≡ Gave (Speech stream (Status status))) × TookBy answer r.left.condition
 
 abbrev pub AnswersEnd : ℕ → Result (Unit {0}) WireFaultOut → WireRecord → Type 0
 AnswersEnd code (Ok tt) r = (r.deed ≡ Ended code) × (r.left.condition ≡ condition.Finished)
@@ -179,25 +218,33 @@ pub record AddsSo (author : ℕ) (Does : List WireRecord → List WireRecord →
   pub adds : Adds author old added new
   pub does : Does old added
 
--- an event is acted on
+-- an event is acted on, where there is room
 abbrev pub ActsOn : RecvEvent → Result (Unit {0}) WireFaultOut → List WireRecord → List WireRecord → Type 0
 ActsOn event answer found added =
-    AddsWhereOpen found added (AnswersEvent event answer) (answer ≡ fault_in found)
+    AddsWhereOpen found added
+    (λ r. ByRoom found (AnswersEvent event answer r)
+    ((r.deed ≡ Starved) × (answer ≡ Err fault.NoMemory)))
+    (answer ≡ fault_in found)
 
--- a call is answered with a status of HTTP
+-- a call is answered with a status of HTTP, where there is room
 abbrev pub StatesOn : ℕ → ℕ → Took → List WireRecord → List WireRecord → Type 0
 StatesOn stream status answer found added =
-    AddsWhereOpen found added (AnswersStatus stream status answer) (answer ≡ took.Gone)
+    AddsWhereOpen found added
+    (λ r. ByRoom found (AnswersStatus stream status (left_in found) answer r)
+    ((r.deed ≡ Starved) × (answer ≡ took.NoMemory)))
+    (answer ≡ took.Gone)
 
 -- the connection is ended
 abbrev pub EndsOn : ℕ → Result (Unit {0}) WireFaultOut → List WireRecord → List WireRecord → Type 0
 EndsOn code answer found added =
     AddsWhereOpen found added (AnswersEnd code answer) (answer ≡ fault_in found)
 
--- a piece is offered: a record is made of it exactly where its stream is free
+-- A piece is offered: a record is made of it exactly where its stream is free. Memory is wanting for it where there is no room.
 pub record SaysOn (stream : ℕ) (said : Said) (answer : Took) (found added : List WireRecord) : Type 0 where
   pub free : ready_in stream (left_in found) ≡ ready.Free
       → (r : WireRecord) × (added ≡ r ∷ []) × AnswersPiece stream said answer r
+  pub last : ready_in stream (left_in found) ≡ ready.Free → IsLastRoom found
+      → answer ≡ took.NoMemory
   pub busy : ready_in stream (left_in found) ≡ ready.Busy → (added ≡ []) × (answer ≡ took.Busy)
   pub gone : ready_in stream (left_in found) ≡ ready.Gone → (added ≡ []) × (answer ≡ took.Gone)
 

@@ -154,11 +154,22 @@ pub record StandsBehind {S : Type 0} (seen : S → Output) (rs : List WireRecord
   pub is_open : IsOpen rs → progress_of seen wire ≡ left_in rs
   pub closed : (IsOpen rs → ⊥) → IsClosed wire.condition
 
+-- each record but the first is of a port, and the ports have numbers up to this one
+abbrev pub AreOfPorts : ℕ → List WireRecord → Type 0
+AreOfPorts most [] = Unit {0}
+AreOfPorts most (first ∷ rs) =
+    AllByRecursion (λ (r : WireRecord). (0 < r.author) × (r.author ≤ most)) rs
+
 -- The wire that the last port gives back, and its records, which begin with what the port has seen, and have all that the port
--- made, and all that each port that it met made, and no others of their authors behind what these had seen at their start.
+-- made, and all that each port that it met made, and no others of their authors behind what these had seen at their start. Each is
+-- of an author whose number is given out by then.
 pub record GivesBack {S : Type 0} (seen : S → Output) (visit : VisitView) (wire : WireView S) : Type 0 where
   pub all : List WireRecord
   pub stands : StandsBehind seen all wire
   pub begins : OthersWentOn visit.author visit.seen all
   pub has_made : AllByRecursion (HasJustMade all) (end_of visit ∷ visit.met)
   pub differ : AuthorsDiffer (end_of visit ∷ visit.met)
+  pub given_out : ℕ
+  pub known : visit.known ≤ given_out
+  pub most : given_out ≤ most_authors
+  pub authors : AreOfPorts given_out all

@@ -1,14 +1,15 @@
 //! The wire as a turn has it in hand, with its records.
-ghost use Rattle.std.specs.Prelude.{◌≡◌, [], ◌∷◌};
+ghost use Rattle.std.specs.Prelude.{◌≡◌, ◌<◌, ◌^◌, [], ◌∷◌};
 ghost use Rattle.h2_events.specs.Items.{said_by};
 ghost use Rattle.h2_events.specs.Ports.{FitsMessage};
 ghost use Rattle.h2_send.specs.Conditions.{answer_of, condition_after};
 ghost use Rattle.h2_send.specs.Offers.{IsStatus};
 ghost use Rattle.h2_send.specs.Port.{ready_in};
 ghost use Rattle.h2_send.specs.Wires.{progress_of};
-ghost use Rattle.shared_wire.specs.Records.{ActsOn, Adds, AddsSo, AreRecords, EndsOn, IsOpen, SaysOn, StatesOn, left_in, record_author};
+ghost use Rattle.shared_wire.specs.Parts.{FitTypes, event_parts};
+ghost use Rattle.shared_wire.specs.Records.{ActsOn, Adds, AddsSo, AreRecords, EndsOn, FitsTypes, IsOpen, SaysOn, StatesOn, left_in, record_author};
 ghost use Rattle.shared_wire.specs.Visits.{StandsBehind, first_records};
-ghost use Rattle.shared_wire.specs.inner.Telling.{Loses, acted_so, condition_by, starved_record, stated_so};
+ghost use Rattle.shared_wire.specs.inner.Telling.{Loses, acted_so, condition_by, deed_of, starved_record, stated_so};
 
 use crate::log::{Log, Noted, Recorded};
 use edge_traits::Sink;
@@ -122,6 +123,30 @@ fn stated(given: Given, took: Took) -> Noted
     }
 }
 
+/// It tells contracts how many bits these have.
+fn fit(stream: u32, number: u64)
+    ensures { (stream < 2 ^ 32) × (number < 2 ^ 64) }
+{}
+
+/// And so of an event.
+fn fit_types(event: &RecvEvent)
+    ensures { FitTypes (event_parts event.now) }
+{
+    match event {
+        RecvEvent::Settings(initial, _) => fit(0, *initial as u64),
+        RecvEvent::SettingsAck => fit(0, 0),
+        RecvEvent::Ping(octets) => fit(0, *octets),
+        RecvEvent::Window(stream, by) => fit(*stream, *by as u64),
+        RecvEvent::Call(stream, _, _) => fit(*stream, 0),
+        RecvEvent::TooLong(stream) => fit(*stream, 0),
+        RecvEvent::Piece(stream, _, size, _) => fit(*stream, *size as u64),
+        RecvEvent::Trailers(stream) => fit(*stream, 0),
+        RecvEvent::Reset(stream) => fit(*stream, 0),
+        RecvEvent::StreamFault(stream, code) => fit(*stream, *code as u64),
+        RecvEvent::GoAway => fit(0, 0),
+    }
+}
+
 impl<S: Sink> HeldWire<S> {
     /// The room of two records is taken: of the one that the wire begins with, and of one that closes it.
     pub(crate) fn make(wire: Wire<S>) -> HeldWire<S>
@@ -163,8 +188,10 @@ impl<S: Sink> HeldWire<S> {
 
     /// There is no room but the last, in which this call's record stands and the wire is closed.
     fn starve(&mut self, author: u32, deed: Noted)
+        requires author { 0 < author }
         requires is_open { IsOpen self.old.records }
         requires loses { Loses deed (left_in self.old.records) }
+        requires fits { FitsTypes (deed_of deed) }
         ensures adds { Adds author self.old.records (starved_record author deed
             (left_in self.old.records) ∷ []) self.new.records }
     {
@@ -181,6 +208,7 @@ impl<S: Sink> HeldWire<S> {
         author: u32,
         event: &RecvEvent,
     ) -> Result<(), WireFaultOut>
+        requires author { 0 < author }
         ensures records { AreRecords self.old.records }
         ensures does { AddsSo author (ActsOn event.now result) self.old.records self.new.records }
     {
@@ -191,6 +219,7 @@ impl<S: Sink> HeldWire<S> {
             self.starve(author, Noted::Starved);
             return Err(WireFaultOut::NoMemory);
         }
+        fit_types(event);
         let done = self.wire.act(alloc, event);
         let deed = acted(Given::Event(Snapshot::of(event)), &done);
         self.log.note(author, deed, &self.wire);
@@ -201,6 +230,7 @@ impl<S: Sink> HeldWire<S> {
 
     /// Says a piece, as `Wire::say` does.
     pub(crate) fn say(&mut self, alloc: Global, author: u32, stream: u32, piece: &Piece) -> Took
+        requires author { 0 < author }
         requires size { FitsMessage piece.now }
         ensures records { AreRecords self.old.records }
         ensures does { AddsSo author (SaysOn stream (said_by piece.now) result)
@@ -225,6 +255,7 @@ impl<S: Sink> HeldWire<S> {
 
     /// Answers a call with a status of HTTP, as `Wire::http` does.
     pub(crate) fn http(&mut self, alloc: Global, author: u32, stream: u32, status: u16) -> Took
+        requires author { 0 < author }
         requires status { IsStatus status }
         ensures records { AreRecords self.old.records }
         ensures does { AddsSo author (StatesOn stream status result)
@@ -247,6 +278,7 @@ impl<S: Sink> HeldWire<S> {
 
     /// Ends the connection, as `Wire::finish` does. There is always room for its record.
     pub(crate) fn close(&mut self, author: u32, code: u32) -> Result<(), WireFaultOut>
+        requires author { 0 < author }
         ensures records { AreRecords self.old.records }
         ensures does { AddsSo author (EndsOn code result) self.old.records self.new.records }
     {

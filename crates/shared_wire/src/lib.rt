@@ -5,13 +5,12 @@
 //! lock knows (specs/Visits.antt). `HeldWire` (held.rt) is the wire as a turn has it in hand.
 #![tactic(auto)]
 
-mod counts;
 mod held;
 mod laws;
 mod log;
 mod visit;
 
 pub use held::HeldWire;
-pub use laws::{ports_of_records, write_faults_of_records};
+pub use laws::{ports_of_records, records_in_octets, write_faults_of_records};
 pub use log::Recorded;
 pub use visit::WireVisit;

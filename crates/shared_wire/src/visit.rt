@@ -7,13 +7,12 @@ ghost use Rattle.h2_send.specs.Wires.{progress_of};
 ghost use Rattle.shared_wire.specs.Records.{ActsOn, EndsOn, ReadsOn, SaysOn, StatesOn, left_in};
 ghost use Rattle.shared_wire.specs.Visits.{DoesInTurn, GivesBack, IsFirstVisit, IsTwin, Meets, most_authors};
 
-use crate::counts::Counts;
 use crate::held::HeldWire;
 use crate::log::Recorded;
 use book_port::PassFault;
 use edge_traits::Sink;
 use h2_events::{Piece, Ready, RecvEvent, Took};
-use h2_send::{Condition, Wire, WireFaultOut, WirePort};
+use h2_send::{Condition, Port, Wire, WireFaultOut, WirePort};
 use std::alloc::Global;
 use std::marker::Model;
 use std::sync::{Arc, Wait};
@@ -26,7 +25,7 @@ pub struct WireVisit<S: Sink + Drop, R> {
     rt: R,
     lock: Arc<TurnLock<HeldWire<S>>, Global>,
     pass: Pass<HeldWire<S>, Recorded>,
-    counts: Counts,
+    counts: Port,
 }
 
 impl<S: Sink + Drop, R> Model for WireVisit<S, R> {
@@ -67,7 +66,7 @@ impl<S: Sink + Drop, R: Drop> WireVisit<S, R> {
                     rt,
                     lock,
                     pass,
-                    counts: Counts::none(),
+                    counts: Port::unused(),
                 })
             }
             Err(_) => Err(held.give()),
@@ -131,7 +130,7 @@ impl<S: Sink + Drop, R: Wait + Clone + Drop> WireVisit<S, R> {
         let Ok(pass) = self.lock.split(&self.rt, &mut self.pass) else {
             return Err(PassFault::Spent);
         };
-        let counts = Counts::none();
+        let counts = Port::unused();
         Ok(WireVisit {
             rt,
             lock,
@@ -214,6 +213,8 @@ impl<S: Sink + Drop, R: Wait + Clone + Drop> WireVisit<S, R> {
 impl<S: Sink + Drop, R: Wait + Clone + Drop> WirePort for WireVisit<S, R> {
     ghost use Rattle.std.specs.Prelude.{false};
     ghost use Rattle.shared_wire.specs.Records.{left_in};
+
+    ghost connection = { λ visit. visit.lock };
 
     ghost progress = { λ visit. left_in visit.seen };
 

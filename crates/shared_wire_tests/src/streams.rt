@@ -152,3 +152,23 @@ fn a_write_fault_closes_the_wire_for_all_ports(rt: HostRuntime) -> Result<(), Fa
     assert!(rt; found == (Took::WriteFault, Ready::Gone, false));
     Ok(())
 }
+
+/// What becomes of a status on a stream that octets wait on, on one that is free, on the same one again, and on one that was never
+/// opened.
+fn statuses<R: Wait + Clone + Drop>(rt: &R, alloc: Global) -> Option<[Took; 4]> {
+    let mut visit = first_visit(rt, alloc, "0")?;
+    let _opened = open_streams(alloc, &mut visit, 2);
+    let _begun = visit.offer(alloc, 1, piece(alloc, 1, 0)?);
+    let waits = visit.http(alloc, 1, 405);
+    let free = visit.http(alloc, 3, 405);
+    let ended = visit.http(alloc, 3, 405);
+    let idle = visit.http(alloc, 5, 405);
+    Some([waits, free, ended, idle])
+}
+
+#[test]
+fn a_status_is_busy_or_gone_as_its_stream_is(rt: HostRuntime) -> Result<(), Fail> {
+    let found = statuses(&rt, rt.alloc()).ok_or("no wire")?;
+    assert!(rt; found == [Took::Busy, Took::Taken, Took::Gone, Took::Gone]);
+    Ok(())
+}

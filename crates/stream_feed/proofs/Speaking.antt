@@ -69,6 +69,7 @@ pub speaks_asked : (stream turns : ℕ) (answer : Ready) (from mid to : WireView
     → SpeaksOn stream 0 turns from pieces [] mid → HasAsked answer mid to → SpeaksOn stream (frees_in answer) turns from pieces [] to
 speaks_asked stream turns answer from mid to pieces speaks asks = record {
   taken = ap (λ (c : PortView). c.taken) asks.counts ∙ taken_stays answer ∙ speaks.taken;
+  connection = asks.connection ∙ speaks.connection;
   owns = asks.owns ∙ speaks.owns;
   says = λ other own. asks.says other (subst (λ (owns : ℕ → Bool). IsTrue (owns other)) (sym speaks.owns) own) ∙ speaks.says other own;
   busied = subst (λ (c : PortView). IsBusied (frees_in answer) turns from.counts c) (sym asks.counts) (busied_asked turns answer from.counts mid.counts speaks.busied);
@@ -103,6 +104,7 @@ speaks_offered stream turns answer piece from mid to pieces speaks offers = reco
       ∙ ap (λ (l : List (ℕ × Piece)). l ++ map on (pieces_in answer piece)) speaks.taken
       ∙ append_assoc from.counts.taken (map on pieces) (map on (pieces_in answer piece))
       ∙ ap (λ (l : List (ℕ × Piece)). from.counts.taken ++ l) (sym (map-append on pieces (pieces_in answer piece)));
+  connection = offers.connection ∙ speaks.connection;
   owns = offers.owns ∙ speaks.owns;
   says = λ other own. offers.says other (subst (λ (owns : ℕ → Bool). IsTrue (owns other)) (sym speaks.owns) own)
       ∙ ap (λ (l : List Said). l ++ (if stream == other then accepted_by answer (said_by piece) else [])) (speaks.says other own)
@@ -118,6 +120,7 @@ speaks_offered stream turns answer piece from mid to pieces speaks offers = reco
 pub speaks_turned : (stream turns : ℕ) (from to : WireView) (pieces : List Piece) → SpeaksOn stream 1 turns from pieces [] to → SpeaksOn stream 0 (turns + 1) from pieces [] to
 speaks_turned stream turns from to pieces speaks = record {
   taken = speaks.taken;
+  connection = speaks.connection;
   owns = speaks.owns;
   says = speaks.says;
   busied = busied_turned turns from.counts to.counts speaks.busied;
@@ -126,6 +129,7 @@ speaks_turned stream turns from to pieces speaks = record {
 pub speaks_begin : (stream : ℕ) (from : WireView) → SpeaksOn stream 0 0 from [] [] from
 speaks_begin stream from = record {
   taken = sym (append-nil from.counts.taken);
+  connection = refl;
   owns = refl;
   says = λ other own. sym (nothing_more (stream == other) (said_so_far other from.progress));
   busied = inr (omega arith);

@@ -25,9 +25,16 @@ pub record Ports : Type 0 where
   pub book : PortView
   pub wire : WireView
 
-abbrev pub ports_of : PortView → WireCounts → Progress → (ℕ → Bool) → Ports
-ports_of book counts progress owns =
-    record { book = book; wire = record { counts = counts; progress = progress; owns = owns } }
+abbrev pub ports_of : PortView → List ℕ → WireCounts → Progress → (ℕ → Bool) → Ports
+ports_of book connection counts progress owns = record {
+  book = book;
+  wire = record {
+    connection = connection;
+    counts = counts;
+    progress = progress;
+    owns = owns;
+  };
+}
 
 -- what is said last at this end
 abbrev pub last_pieces : FeedEnd → List Piece

@@ -7,6 +7,8 @@ use Rattle.h2_send.specs.Port.{PortView, Progress, said_so_far}
 
 -- what contracts see of a port of a wire
 pub record WireView : Type 0 where
+  -- which connection it is a port to
+  pub connection : List ℕ
   pub counts : PortView
   pub progress : Progress
   pub owns : ℕ → Bool
@@ -34,6 +36,7 @@ IsBusied more turns from to =
 pub record SpeaksOn (stream more turns : ℕ) (from : WireView) (pieces : List Piece)
     (lost : List Said) (to : WireView) : Type 0 where
   pub taken : to.counts.taken ≡ from.counts.taken ++ map (λ piece. (stream, piece)) pieces
+  pub connection : to.connection ≡ from.connection
   pub owns : to.owns ≡ from.owns
   pub says : Says stream from to (map said_by pieces ++ lost)
   pub busied : IsBusied more turns from.counts to.counts

@@ -57,11 +57,11 @@ fn feed<R: Wait, P: BookPort, W: WirePort, C: Clock, Q: Pacer>(
 ) -> FeedEnd
     ensures { (plan : PlanValue) (from : Ports)
         → HasFed schema.now stream plan 0 from feeder.old.call feeder.old.waiting
-        (ports_of (P.port feeder.old.book) (W.counts feeder.old.wire)
-        (W.progress feeder.old.wire) (W.owns feeder.old.wire))
+        (ports_of (P.port feeder.old.book) (W.connection feeder.old.wire)
+        (W.counts feeder.old.wire) (W.progress feeder.old.wire) (W.owns feeder.old.wire))
         → Feeds schema.now stream plan result from
-        (ports_of (P.port feeder.new.book) (W.counts feeder.new.wire)
-        (W.progress feeder.new.wire) (W.owns feeder.new.wire)) }
+        (ports_of (P.port feeder.new.book) (W.connection feeder.new.wire)
+        (W.counts feeder.new.wire) (W.progress feeder.new.wire) (W.owns feeder.new.wire)) }
 {
     for _ in rt.forever() {
         match feeder.step(alloc, schema, stream) {
@@ -86,10 +86,10 @@ where
     /// then. A message of more than 123,600,000 octets isn't sent: it counts as one for which memory is wanting.
     pub fn run(self) -> FeedDone<P, W>
         ensures { Feeds self.schema self.stream self.plan result.end
-            (ports_of (P.port self.book) (W.counts self.wire) (W.progress self.wire)
-            (W.owns self.wire))
-            (ports_of (P.port result.book) (W.counts result.wire) (W.progress result.wire)
-            (W.owns result.wire)) }
+            (ports_of (P.port self.book) (W.connection self.wire) (W.counts self.wire)
+            (W.progress self.wire) (W.owns self.wire))
+            (ports_of (P.port result.book) (W.connection result.wire) (W.counts result.wire)
+            (W.progress result.wire) (W.owns result.wire)) }
     {
         let FeedJob {
             stream,

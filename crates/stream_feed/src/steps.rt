@@ -24,9 +24,11 @@ fn say_refusal<W: WirePort>(alloc: Global, stream: u32, wire: &mut W) -> Option<
     ensures { (schema : List SchemaNode) (plan : PlanValue) (from : Ports) (waiting : List (List ℕ))
         (book : PortView)
         → HasFed schema stream plan 1 from None waiting
-        (ports_of book (W.counts wire.old) (W.progress wire.old) (W.owns wire.old))
+        (ports_of book (W.connection wire.old) (W.counts wire.old) (W.progress wire.old)
+        (W.owns wire.old))
         → Comes schema stream plan result from None waiting
-        (ports_of book (W.counts wire.new) (W.progress wire.new) (W.owns wire.new)) }
+        (ports_of book (W.connection wire.new) (W.counts wire.new) (W.progress wire.new)
+        (W.owns wire.new)) }
 {
     match wire.offer(alloc, stream, Piece::Finish(Some(Refusal::NoMemory))) {
         Took::Taken => Some(FeedEnd::Refused(Refusal::NoMemory)),
@@ -50,9 +52,11 @@ fn say_message<W: WirePort>(
     ensures { (schema : List SchemaNode) (plan : PlanValue) (from : Ports) (served : CallView)
         (book : PortView) → call.old ≡ Some served
         → HasFed schema stream plan 1 from (Some served) waiting.old
-        (ports_of book (W.counts wire.old) (W.progress wire.old) (W.owns wire.old))
+        (ports_of book (W.connection wire.old) (W.counts wire.old) (W.progress wire.old)
+        (W.owns wire.old))
         → Comes schema stream plan result from call.new waiting.new
-        (ports_of book (W.counts wire.new) (W.progress wire.new) (W.owns wire.new)) }
+        (ports_of book (W.connection wire.new) (W.counts wire.new) (W.progress wire.new)
+        (W.owns wire.new)) }
 {
     let Some(message) = waiting.first(alloc) else {
         *call = None;
@@ -128,11 +132,11 @@ impl<P: BookPort, W: WirePort, C: Clock, Q: Pacer> Feeder<P, W, C, Q> {
     fn use_free(&mut self, alloc: Global, schema: &Schema, stream: u32) -> Option<FeedEnd>
         ensures { (plan : PlanValue) (from : Ports)
             → HasFed schema.now stream plan 1 from self.old.call self.old.waiting
-            (ports_of (P.port self.old.book) (W.counts self.old.wire) (W.progress self.old.wire)
-            (W.owns self.old.wire))
+            (ports_of (P.port self.old.book) (W.connection self.old.wire) (W.counts self.old.wire)
+            (W.progress self.old.wire) (W.owns self.old.wire))
             → Comes schema.now stream plan result from self.new.call self.new.waiting
-            (ports_of (P.port self.new.book) (W.counts self.new.wire) (W.progress self.new.wire)
-            (W.owns self.new.wire)) }
+            (ports_of (P.port self.new.book) (W.connection self.new.wire) (W.counts self.new.wire)
+            (W.progress self.new.wire) (W.owns self.new.wire)) }
     {
         match &self.call {
             None => say_refusal(alloc, stream, &mut self.wire),
@@ -165,11 +169,11 @@ impl<P: BookPort, W: WirePort, C: Clock, Q: Pacer> Feeder<P, W, C, Q> {
     pub fn step(&mut self, alloc: Global, schema: &Schema, stream: u32) -> Option<FeedEnd>
         ensures { (plan : PlanValue) (from : Ports)
             → HasFed schema.now stream plan 0 from self.old.call self.old.waiting
-            (ports_of (P.port self.old.book) (W.counts self.old.wire) (W.progress self.old.wire)
-            (W.owns self.old.wire))
+            (ports_of (P.port self.old.book) (W.connection self.old.wire) (W.counts self.old.wire)
+            (W.progress self.old.wire) (W.owns self.old.wire))
             → Comes schema.now stream plan result from self.new.call self.new.waiting
-            (ports_of (P.port self.new.book) (W.counts self.new.wire) (W.progress self.new.wire)
-            (W.owns self.new.wire)) }
+            (ports_of (P.port self.new.book) (W.connection self.new.wire) (W.counts self.new.wire)
+            (W.progress self.new.wire) (W.owns self.new.wire)) }
     {
         match self.wire.ready(stream) {
             Ready::Free => self.use_free(alloc, schema, stream),

@@ -8,7 +8,7 @@ use Rattle.h2_send.specs.Lines.{first_line}
 use Rattle.h2_send.specs.Wires.{WireView}
 use Rattle.h2_send.specs.declared.condition.Condition.{Condition}
 use Rattle.h2_send.specs.declared.condition.Condition.TheVariants as condition
-use Rattle.shared_wire.specs.Records.{WireRecord, IsOpen, fault_in}
+use Rattle.shared_wire.specs.Records.{WireRecord, IsOpen, fault_in, most_records}
 use Rattle.shared_wire.specs.Visits.{StandsBehind}
 
 pub record HeldView (S : Type 0) : Type 0 where
@@ -20,10 +20,6 @@ module _ {S : Type 0} where
   held_code wire records =
       code_by (WireView S × List WireRecord) (coded× wire records)
       (λ v. (v.wire, v.records)) (λ p. record { wire = p.0; records = p.1 }) (λ _. refl)
-
--- so many records there is room for
-abbrev pub most_records : ℕ
-most_records = 18446744073709551615
 
 -- While the wire is open there is room for one record at least, with which it can be closed.
 pub record HoldsOpen {S : Type 0} (wire : WireView S) (rs : List WireRecord) (count : ℕ) : Type 0 where

@@ -80,6 +80,7 @@ lost_in answer piece = []
 
 -- what a question changes,
 pub record HasAsked (answer : Ready) (old new : WireView) : Type 0 where
+  pub connection : new.connection ≡ old.connection
   pub counts : new.counts ≡ asked answer old.counts
   pub owns : new.owns ≡ old.owns
   pub says : (other : ℕ) → IsTrue (old.owns other)
@@ -87,6 +88,7 @@ pub record HasAsked (answer : Ready) (old new : WireView) : Type 0 where
 
 -- and an offer
 pub record HasOffered (stream : ℕ) (answer : Took) (piece : Piece) (old new : WireView) : Type 0 where
+  pub connection : new.connection ≡ old.connection
   pub counts : new.counts ≡ noted answer (stream, piece) old.counts
   pub owns : new.owns ≡ old.owns
   pub says : (other : ℕ) → IsTrue (old.owns other)

@@ -1,8 +1,9 @@
 use Rattle.std.proofs.Common.{rules, ◌≡◌, inr, [], ◌∷◌, refl, sym, ◌∙◌, subst}
 use Rattle.h2_send.specs.Conditions.{IsClosed}
 use Rattle.h2_send.specs.declared.condition.Condition.TheVariants as condition
-use Rattle.shared_wire.specs.Records.{EndsOn, AddsSo, AnswersEnd, fault_in}
+use Rattle.shared_wire.specs.Records.{IsPorts, EndsOn, AddsSo, AnswersEnd, fault_in}
 use Rattle.shared_wire.specs.inner.Holding.{HeldView}
+use Rattle.shared_wire.specs.inner.Telling.{deed_of}
 use Rattle.shared_wire.specs.declared.log.Noted.TheVariants as noted
 use Rattle.shared_wire.proofs.Leaving.{ends, told}
 use Rattle.shared_wire.proofs.Holding.{closed_after, closed_not_open, its_record, noted_adds, noted_holds, tells_open}
@@ -13,10 +14,11 @@ invariant_of-self g c =
     let seen = g.S.Sink.seen in let w = c.self.inside.wire in let v = c.finish-done.new.self in let h = c.self.invariant in
     let result = c.finish-done.result in let deed = noted.Ended c.args.code in
     let state : c.self.inside.condition ≡ condition.Open = search rules in let o = h.is_open state in
+    let numbers : IsPorts c.args.author (deed_of deed) = (c.requires.author, c.ranges.author.fits, c.ranges.code.fits) in
     let a = ends seen c.args.author w v o.line c.args.code result (c.finish-done.ensures.finishes o.wire_open) in
     let next = c.condition_after-self-inside.result in let is = c.condition_after-self-inside.ensures in
     let shut : IsClosed next = subst IsClosed (sym is) (closed_after c.args.code result (told seen c.args.author deed v) a.2) in
-    noted_holds seen c.args.author w v c.self.inside.condition c.self.inside.log c.note.new.self c.self.inside.count h state deed deed refl c.note.ensures a.0
+    noted_holds seen c.args.author w v c.self.inside.condition c.self.inside.log c.note.new.self c.self.inside.count h state deed deed refl c.note.ensures a.0 numbers
     next refl (a.1 ∙ sym is) (inr shut) (λ s. refl) c.finish-done.ensures.sound.folded (λ opened. absurd (closed_not_open next shut opened))
 
 pub returns-clause-does : goal.returns-clause-does
@@ -24,10 +26,11 @@ returns-clause-does g c =
     let seen = g.S.Sink.seen in let w = c.self.inside.wire in let v = c.finish-done.new.self in let h = c.self.invariant in
     let result = c.finish-done.result in let deed = noted.Ended c.args.code in
     let state : c.self.inside.condition ≡ condition.Open = search rules in let o = h.is_open state in
+    let numbers : IsPorts c.args.author (deed_of deed) = (c.requires.author, c.ranges.author.fits, c.ranges.code.fits) in
     let a = ends seen c.args.author w v o.line c.args.code result (c.finish-done.ensures.finishes o.wire_open) in
-    let r = its_record seen c.args.author w v c.self.inside.condition c.self.inside.log c.note.new.self c.self.inside.count h state deed deed refl c.note.ensures a.0 in
+    let r = its_record seen c.args.author w v c.self.inside.condition c.self.inside.log c.note.new.self c.self.inside.count h state deed deed refl c.note.ensures a.0 numbers in
     subst (λ (old : HeldView g.row.S.Denot). AddsSo c.args.author (EndsOn c.args.code result) old.records c.note.new.self) c.self.view_is (record {
       added = r ∷ [];
-      adds = noted_adds seen c.args.author w v c.self.inside.condition c.self.inside.log c.note.new.self c.self.inside.count h state deed deed refl c.note.ensures a.0;
+      adds = noted_adds seen c.args.author w v c.self.inside.condition c.self.inside.log c.note.new.self c.self.inside.count h state deed deed refl c.note.ensures a.0 numbers;
       does = tells_open c.self.inside.log r (AnswersEnd c.args.code result) (result ≡ fault_in c.self.inside.log) o.is_open a.2;
     })

@@ -10,11 +10,12 @@ use Rattle.h2_send.specs.declared.condition.Condition.TheVariants as condition
 use Rattle.h2_send.specs.declared.given.Given.TheVariants as given
 use Rattle.h2_send.proofs.Closing.{free_open}
 use Rattle.h2_send.proofs.Holding.{accepts_piece, ready_free}
-use Rattle.shared_wire.specs.Records.{AddsSo, Gave, IsOpen, SaysOn, left_in}
+use Rattle.shared_wire.specs.Records.{IsPorts, AddsSo, Gave, IsOpen, SaysOn, left_in}
 use Rattle.shared_wire.specs.inner.Holding.{HeldView}
+use Rattle.shared_wire.specs.inner.Telling.{deed_of}
 use Rattle.shared_wire.specs.declared.log.Noted.TheVariants as noted
 use Rattle.shared_wire.proofs.Leaving.{says}
-use Rattle.shared_wire.proofs.Holding.{either_by, its_record, noted_adds, noted_holds, open_of, tells_free}
+use Rattle.shared_wire.proofs.Holding.{either_by, its_record, noted_adds, noted_holds, open_of, said_fits, tells_free}
 use Rattle.shared_wire.proofs.held.HeldWire.say.Goals as goal
 
 pub invariant_of-self : goal.invariant_of-self
@@ -26,10 +27,11 @@ invariant_of-self g c =
     let state = open_of c.self.inside.condition (λ shut. h.closed shut is_open) in let o = h.is_open state in
     let free : readiness w.condition stream w.line ≡ ready.Free = ap (λ l. readiness w.condition stream l) o.line ∙ ap (ready_in stream) (h.stands.is_open is_open) ∙ found in
     let same : input_of e ≡ Speech stream (said_by c.args.piece.now) = ap (λ (p : Piece). let i : Input = Speech stream (said_by p) in i) c.of.ensures in
+    let numbers : IsPorts c.args.author (deed_of deed) = (c.requires.author, c.ranges.author.fits, said_fits stream c.of.result.value c.ranges.stream.fits) in
     let a = says seen c.args.author w v o.line (Speech stream (said_by c.args.piece.now)) e answer same (accepts_piece stream c.args.piece.now w.line c.requires.size (ready_free w.condition stream w.line free)) (c.say-took.ensures.says free) in
     let next = c.condition_by-self-inside.result in let is = c.condition_by-self-inside.ensures in
     let room = o.room in let not_last = c.if-self.false in
-    noted_holds seen c.args.author w v c.self.inside.condition log c.note.new.self c.self.inside.count h state deed deed refl c.note.ensures a.0
+    noted_holds seen c.args.author w v c.self.inside.condition log c.note.new.self c.self.inside.count h state deed deed refl c.note.ensures a.0 numbers
     next refl (a.1 ∙ sym is) (subst (λ (s : Condition). (s ≡ condition.Open) ⊎ IsClosed s) (sym is) (either_by answer)) (λ s. refl) c.say-took.ensures.sound.folded
     (λ _. omega (arith, room, not_last))
 
@@ -42,10 +44,12 @@ returns-clause-does g c =
     let state = open_of c.self.inside.condition (λ shut. h.closed shut is_open) in let o = h.is_open state in
     let free : readiness w.condition stream w.line ≡ ready.Free = ap (λ l. readiness w.condition stream l) o.line ∙ ap (ready_in stream) (h.stands.is_open is_open) ∙ found in
     let same : input_of e ≡ Speech stream (said_by c.args.piece.now) = ap (λ (p : Piece). let i : Input = Speech stream (said_by p) in i) c.of.ensures in
+    let numbers : IsPorts c.args.author (deed_of deed) = (c.requires.author, c.ranges.author.fits, said_fits stream c.of.result.value c.ranges.stream.fits) in
     let a = says seen c.args.author w v o.line (Speech stream (said_by c.args.piece.now)) e answer same (accepts_piece stream c.args.piece.now w.line c.requires.size (ready_free w.condition stream w.line free)) (c.say-took.ensures.says free) in
-    let r = its_record seen c.args.author w v c.self.inside.condition log c.note.new.self c.self.inside.count h state deed deed refl c.note.ensures a.0 in
+    let counted = h.counted in let not_last = c.if-self.false in
+    let r = its_record seen c.args.author w v c.self.inside.condition log c.note.new.self c.self.inside.count h state deed deed refl c.note.ensures a.0 numbers in
     subst (λ (old : HeldView g.row.S.Denot). AddsSo c.args.author (SaysOn stream (said_by c.args.piece.now) answer) old.records c.note.new.self) c.self.view_is (record {
       added = r ∷ [];
-      adds = noted_adds seen c.args.author w v c.self.inside.condition log c.note.new.self c.self.inside.count h state deed deed refl c.note.ensures a.0;
-      does = tells_free stream (said_by c.args.piece.now) answer log r found (ap Gave same, a.2);
+      adds = noted_adds seen c.args.author w v c.self.inside.condition log c.note.new.self c.self.inside.count h state deed deed refl c.note.ensures a.0 numbers;
+      does = tells_free stream (said_by c.args.piece.now) answer log r found (ap Gave same, a.2) (λ is. absurd (omega (arith, counted, not_last, is)));
     })
