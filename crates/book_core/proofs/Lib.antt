@@ -1,8 +1,10 @@
 mod Answering
 mod Calling
+mod Closings
 mod Ends
 mod Exits
 mod Opened
+mod OpeningStops
 mod Openings
 mod Passing
 mod Reopening

@@ -60,17 +60,17 @@ sound_can_reopen schema h now sound = (
 
 -- ---- openings
 
-any_is_one : (limits : Limits) (histories : List (List Entry)) (octets : List ℕ) → IsJournalOfAny limits histories octets → (h : List Entry) × IsOneOf histories h × IsJournal octets limits h
+pub any_is_one : (limits : Limits) (histories : List (List Entry)) (octets : List ℕ) → IsJournalOfAny limits histories octets → (h : List Entry) × IsOneOf histories h × IsJournal octets limits h
 any_is_one limits [] octets any = absurd any
 any_is_one limits (h ∷ histories) octets (inl journal) = (h, inl refl, journal)
 any_is_one limits (h ∷ histories) octets (inr any) = let one = any_is_one limits histories octets any in (one.0, inr one.1, one.2)
 
-or_is_any : (limits : Limits) (h : List Entry) (doubt : Option Entry) (octets : List ℕ) → IsJournalOr limits h doubt octets → IsJournalOfAny limits (histories_or h doubt) octets
+pub or_is_any : (limits : Limits) (h : List Entry) (doubt : Option Entry) (octets : List ℕ) → IsJournalOr limits h doubt octets → IsJournalOfAny limits (histories_or h doubt) octets
 or_is_any limits h None octets journal = inl journal
 or_is_any limits h (Some attempt) octets (inl journal) = inl journal
 or_is_any limits h (Some attempt) octets (inr journal) = inr (inl journal)
 
-of_one : (P : List Entry → Type 0) (histories : List (List Entry)) (h : List Entry) → AllByRecursion P histories → IsOneOf histories h → P h
+pub of_one : (P : List Entry → Type 0) (histories : List (List Entry)) (h : List Entry) → AllByRecursion P histories → IsOneOf histories h → P h
 of_one P [] h all is = absurd is
 of_one P (first ∷ histories) h all (inl is) = subst P (sym is) all.0
 of_one P (first ∷ histories) h all (inr is) = of_one P histories h all.1 is
@@ -105,7 +105,7 @@ module _ {D : Type 0} (C : Type 0) (told : D → Option Content) (faults : D →
   journals_reopen content schema limits histories now (DiskFault left) is any can faulty = tt
   journals_reopen content schema limits histories now (NoMemory left) is any can starved = tt
 
-both_can : (opened : Opened) (h : List Entry) (doubt : Option Entry) → IsRun opened h → IsRunWith opened h doubt → AllByRecursion (CanReopen opened.schema) (histories_or h doubt)
+pub both_can : (opened : Opened) (h : List Entry) (doubt : Option Entry) → IsRun opened h → IsRunWith opened h doubt → AllByRecursion (CanReopen opened.schema) (histories_or h doubt)
 both_can opened h None run with = (runs_can_reopen opened h run, tt)
 both_can opened h (Some attempt) run with = (runs_can_reopen opened h run, (runs_can_reopen opened (h ++ attempt ∷ []) with, tt))
 
@@ -117,11 +117,11 @@ books_reopen C told faults fuse disk left content opened h doubt now opening run
 
 -- ---- at any moment of a call
 
-all_of_both : (P : List Entry → Type 0) (xs ys : List (List Entry)) → AllByRecursion P xs → AllByRecursion P ys → AllByRecursion P (xs ++ ys)
+pub all_of_both : (P : List Entry → Type 0) (xs ys : List (List Entry)) → AllByRecursion P xs → AllByRecursion P ys → AllByRecursion P (xs ++ ys)
 all_of_both P [] ys first second = second
 all_of_both P (x ∷ xs) ys first second = (first.0, all_of_both P xs ys first.1 second)
 
-all_can : (opened : Opened) (hs : List (List Entry)) → AllByRecursion (IsRun opened) hs → AllByRecursion (CanReopen opened.schema) hs
+pub all_can : (opened : Opened) (hs : List (List Entry)) → AllByRecursion (IsRun opened) hs → AllByRecursion (CanReopen opened.schema) hs
 all_can opened [] runs = tt
 all_can opened (h ∷ hs) runs = (runs_can_reopen opened h runs.0, all_can opened hs runs.1)
 
@@ -140,12 +140,12 @@ each_among P [] first mask each at_first (inr none) = absurd none
 each_among P (other ∷ later) first mask each at_first (inl is) = subst P (sym is) each.0
 each_among P (other ∷ later) first mask each at_first (inr among) = each_among P later first mask each.1 at_first among
 
-at_moment : (P : List (Option ℕ) → Type 0) (old new : Content) (mask : List (Option ℕ)) → HoldsThroughout P old new → IsMoment old new mask → P mask
+pub at_moment : (P : List (Option ℕ) → Type 0) (old new : Content) (mask : List (Option ℕ)) → HoldsThroughout P old new → IsMoment old new mask → P mask
 at_moment P old new mask holds moment =
     let same : holds.later ≡ moment.later = append_cancel_right holds.later moment.later (old.mask ∷ old.past) (sym holds.past ∙ moment.past) in
     each_among P holds.later old.mask mask holds.each holds.first (subst (λ masks. IsAmong mask (masks ++ old.mask ∷ [])) (sym same) moment.among)
 
-through_call : (limits : Limits) (h : List Entry) (doubt : Option Entry) (stages : List (List Entry)) (doubt_left : Option Entry) (old new : Content)
+pub through_call : (limits : Limits) (h : List Entry) (doubt : Option Entry) (stages : List (List Entry)) (doubt_left : Option Entry) (old new : Content)
     → GoesThrough limits h doubt stages doubt_left (Some old) (Some new) → LeavesOnly (IsJournalOfAny limits (histories_or h doubt ++ stages)) (Some old) (Some new)
 through_call limits h doubt stages doubt_left old new (inl kept) =
     leaves_weaker (IsJournalOr limits h doubt) (IsJournalOfAny limits (histories_or h doubt ++ stages)) (Some old) (Some new)

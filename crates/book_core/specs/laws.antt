@@ -1,2 +1,4 @@
+pub mod ClosingLaws
 pub mod DoubtLaws
+pub mod OpeningLaws
 pub mod ReopeningLaws

@@ -274,6 +274,8 @@ impl<D: Disk, T: TreeLike + Drop> Book<D, T> {
             → length (marks_of self.old.chronicle) < most_marks
             → (history_in self.new ≡ after_expiry (history_in self.old) now)
             × (self.new.doubt ≡ None) × (EndsTrial ask → ⊥) }
+        ensures room { ¬ (IsErrOf result Refusal.NoMemory)
+            → length (marks_of self.old.chronicle) < most_marks }
         // at a stop, at any moment of the call, and after it
         ensures any_moment { let rules = rules_in self.old.opened in
             GoesThrough self.old.opened.limits (history_in self.old) self.old.doubt
@@ -330,6 +332,8 @@ impl<D: Disk, T: TreeLike + Drop> Book<D, T> {
             → length (marks_of self.old.chronicle) < most_marks
             → (history_in self.new ≡ after_expiry (history_in self.old) now)
             × (self.new.doubt ≡ None) }
+        ensures room { ¬ (IsErrOf result Refusal.NoMemory)
+            → length (marks_of self.old.chronicle) < most_marks }
         // at a stop, at any moment of the call, and after it
         ensures any_moment { GoesThrough self.old.opened.limits (history_in self.old)
             self.old.doubt (look_stages (history_in self.old) now) self.new.doubt

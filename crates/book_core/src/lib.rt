@@ -16,6 +16,6 @@ mod opening;
 mod single;
 
 pub use book::{Book, BookEnd};
-pub use laws::{books_reopen, doubts_may_stand};
+pub use laws::{books_reopen, doubts_may_stand, endings_want_no_memory, openings_reopen};
 pub use opening::BookOpening;
 pub use single::Single;
