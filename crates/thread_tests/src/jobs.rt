@@ -7,7 +7,7 @@ use thread_traits::{Job, MemStarter, Running, Starter};
 
 /// Counts octets.
 #[derive(Drop)]
-struct Counting {
+pub(crate) struct Counting {
     octets: Bytes,
 }
 
@@ -23,7 +23,7 @@ impl Job for Counting {
     }
 }
 
-fn seven_octets(alloc: Global) -> Option<Counting> {
+pub(crate) fn seven_octets(alloc: Global) -> Option<Counting> {
     let octets = Bytes::of(alloc, b"counted").ok()?;
     Some(Counting { octets })
 }

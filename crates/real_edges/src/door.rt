@@ -1,0 +1,131 @@
+//! TCP connections.
+ghost use Rattle.std.specs.Prelude.{◌≡◌, [], None, IfOk};
+ghost use Rattle.thread_traits.specs.Doors.{IsFresh};
+
+use crate::streams::{StreamSink, StreamSource};
+use base_lists::{Remembered, Tally};
+use edge_traits::Failed;
+use std::io::{self, ErrorKind};
+use std::marker::Model;
+use std::net::{SocketAddr, TcpListener, TcpStream};
+use thread_traits::{Door, Next};
+
+/// Where the octets of a connection come in. At its end the peer has sent all that it will.
+pub type TcpSource = StreamSource<TcpStream>;
+
+/// Where the octets of a connection go out, each piece at once, without waiting for more (TCP_NODELAY).
+pub type TcpSink = StreamSink<TcpStream>;
+
+/// A door at which TCP connections come in. Which ones will come it can't tell, and it is never at its end.
+#[derive(Drop)]
+pub struct TcpDoor {
+    rt: HostRuntime,
+    listener: Option<TcpListener>,
+    given: Remembered<(TcpSource, TcpSink)>,
+    faults: Tally,
+}
+
+impl Model for TcpDoor {
+    ghost use Rattle.std.specs.Prelude.{None};
+    ghost use Rattle.edge_traits.specs.Input.{Input};
+    ghost use Rattle.edge_traits.specs.Output.{Output};
+    ghost use Rattle.thread_traits.specs.Doors.{DoorView};
+
+    ghost Value = { DoorView Input Output };
+
+    ghost view = { λ d. record { given = d.given; left = None; faults = d.faults } };
+}
+
+impl TcpDoor {
+    /// A door that isn't open yet.
+    pub fn of(rt: &HostRuntime) -> TcpDoor
+        ensures { result ≡ record { given = []; left = None; faults = 0 } }
+    {
+        TcpDoor {
+            rt: *rt,
+            listener: None,
+            given: Remembered::nothing(),
+            faults: Tally::zero(),
+        }
+    }
+
+    /// The address at which it is open, with the port that the system chose where that was left to it.
+    pub fn address(&self) -> Option<SocketAddr> {
+        match &self.listener {
+            Some(listener) => listener.local_addr().ok(),
+            None => None,
+        }
+    }
+}
+
+impl Door for TcpDoor {
+    type Reader = TcpSource;
+
+    type Writer = TcpSink;
+
+    ghost seen = { λ d. d };
+
+    /// The address is that of a host, by number or by name, with a port: `127.0.0.1:9339`. It can be used again as soon as its last
+    /// user has ended (SO_REUSEADDR). A door that is open elsewhere is closed there.
+    fn listen(&mut self, address: &str) -> Result<(), Failed> {
+        match TcpListener::bind(&self.rt, address) {
+            Ok(listener) => {
+                self.listener = Some(listener);
+                Ok(())
+            }
+            Err(_) => {
+                self.faults.rise();
+                Err(Failed)
+            }
+        }
+    }
+
+    /// At a door that isn't open that is a fault.
+    fn next(&mut self) -> Next<TcpSource, TcpSink> {
+        match next_link(&self.listener) {
+            Ok(link) => {
+                self.given.remember(&link);
+                let (reader, writer) = link;
+                Next::Link(reader, writer)
+            }
+            Err(_) => {
+                self.faults.rise();
+                Next::Failed
+            }
+        }
+    }
+}
+
+/// The next connection that comes in.
+fn next_link(listener: &Option<TcpListener>) -> Result<(TcpSource, TcpSink), Failed>
+    ensures { IfOk result (λ link. IsFresh (λ s. s) (λ s. s) link) }
+{
+    let Some(listener) = listener else {
+        return Err(Failed);
+    };
+    match link_of(accepted(listener)?) {
+        Ok(link) => Ok(link),
+        Err(_) => Err(Failed),
+    }
+}
+
+/// The next stream. One that its peer gave up before it was taken is passed over.
+fn accepted(listener: &TcpListener) -> Result<TcpStream, Failed> {
+    for _ in 0..u64::MAX {
+        match listener.accept() {
+            Ok((stream, _)) => return Ok(stream),
+            Err(error) if error.kind() == ErrorKind::ConnectionAborted => {}
+            Err(_) => break,
+        }
+    }
+    Err(Failed)
+}
+
+/// The two halves of a stream.
+fn link_of(stream: TcpStream) -> io::Result<(TcpSource, TcpSink)>
+    ensures { IfOk result (λ link. IsFresh (λ s. s) (λ s. s) link) }
+{
+    stream.set_nodelay(true)?;
+    let writer = stream.try_clone()?;
+    Ok((StreamSource::of(stream), StreamSink::of(writer)))
+}

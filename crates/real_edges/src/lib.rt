@@ -1,0 +1,15 @@
+//! The real objects of the environment, each a few lines over one of std: the streams of the process and of its TCP
+//! connections, the door at which connections come in, the pacer that sleeps, and the starters of threads. Each records what
+//! it gave or took, and counts its faults. Those lines are proved against the traits; that a call of std does what it says is
+//! trusted. Start at `TcpDoor` (door.rt).
+#![tactic(auto)]
+
+mod door;
+mod pacer;
+mod starters;
+mod streams;
+
+pub use door::{TcpDoor, TcpSink, TcpSource};
+pub use pacer::SleepingPacer;
+pub use starters::ThreadStarter;
+pub use streams::{StreamSink, StreamSource};
