@@ -16,7 +16,7 @@ counts_author octets (lines.Cancel author id) is = let range = lines_are_in_rang
 counts_author octets (lines.Extend author id span) is = let range = lines_are_in_range octets (lines.Extend author id span) is in omega (arith, range.0.0)
 counts_author octets (lines.Get author pattern) is = let range = lines_are_in_range octets (lines.Get author pattern) is in omega (arith, range.0.0)
 counts_author octets (lines.Sub line) is = tt
-counts_author octets (lines.Open author name mode only) is = tt
+counts_author octets (lines.Open author name mode only) is = let range = lines_are_in_range octets (lines.Open author name mode only) is in omega (arith, range.0.0)
 counts_author octets (lines.Turn name) is = tt
 counts_author octets (lines.Poll name) is = tt
 counts_author octets (lines.End name) is = tt

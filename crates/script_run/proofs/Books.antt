@@ -20,11 +20,13 @@ use Rattle.book_port.specs.Opened.{rules_in}
 use Rattle.memory_disks.specs.Fuses.{FuseView, fuse_of}
 use Rattle.script_run.specs.AnswerLines.{entry_stamp}
 use Rattle.set_txn.specs.Resolution.{resolved}
+use Rattle.base_kinds.specs.declared.request.SubLine.{SubLine}
+use Rattle.script_run.specs.declared.calls.NamedCall.{NamedCall}
 use Rattle.script_run.specs.declared.pending.Pending.{Pending}
 use Rattle.script_run.specs.Requests.{set_ask}
 use Rattle.script_run.specs.ScriptStates.{ScriptState, rules_in as state_rules, set_event, book_behind}
-use Rattle.script_run.specs.inner.ScriptBooks.{IsLeft, asked_event, asked_turn, left_by, read_event, state_of}
-use Rattle.script_run.specs.Turns.{BookState, turn, unless_failed}
+use Rattle.script_run.specs.inner.ScriptBooks.{IsLeft, asked_event, asked_turn, left_by, left_by_look, looked_at, read_event, state_of}
+use Rattle.script_run.specs.Turns.{BookState, looked_by, turn, unless_failed}
 use Rattle.script_run.proofs.Answering.{SetTaken, is_fault, set_taken, looked, look_refused}
 use Rattle.script_run.proofs.Turns.{book}
 
@@ -145,14 +147,53 @@ module _ (old : BookView FuseView) (reading author : ℕ) (pattern : List Elem) 
       ∙ ap (λ (r : List Row). if nat_lt (length r) 1 || false then Err refusals.NotFound else Ok (view_of (history_in new) (pattern ∷ []))) (sym rows)
       ∙ ap (λ few. if few || false then Err refusals.NotFound else Ok (view_of (history_in new) (pattern ∷ []))) full)
 
+-- ---- a look of a subscription
+
+pub record Looks (old new : BookView FuseView) (reading : ℕ) (patterns : List (List Elem)) (result : Result View Refusal) : Type 0 where
+  pub opened : new.opened ≡ old.opened
+  pub fed : new.disk.starved ≡ false
+  pub answer : AnswersLook (history_in old) reading patterns result (history_in new)
+  pub settled : (IsErrOf result refusals.DiskFault → ⊥) → (IsErrOf result refusals.NoMemory → ⊥) → new.doubt ≡ None
+  pub calls : CallsFor old.doubt (history_in old) reading None (history_in new) new.doubt (fuse_of old.disk) (fuse_of new.disk) result
+
+module _ (old : BookView FuseView) (reading : ℕ) (patterns : List (List Elem)) where
+  abbrev left_looked : BookState
+  left_looked = left_by_look (Some patterns) reading old
+
+  shown_left : (new : BookView FuseView) (view : View) → Looks old new reading patterns (Ok view) → left_looked ≡ left_in new false
+  shown_left new view look =
+      looked (history_in old) old.doubt reading patterns view (history_in new) new.doubt old.disk.arming new.disk.arming old.disk.starved new.disk.starved look.answer (look.settled (λ e. cc e) (λ e. cc e)) look.calls
+
+  pub shown_leaves : (new : BookView FuseView) (view : View) → Looks old new reading patterns (Ok view) → IsLeft left_looked old new
+  shown_leaves new view look = left_is left_looked false old new look.opened (shown_left new view look)
+
+  pub shown_view : (new : BookView FuseView) (view : View) → Looks old new reading patterns (Ok view) → Ok view ≡ looked_at (Some patterns) reading old
+  shown_view new view look =
+      ap Ok (look.answer.0 ∙ ap (λ h. view_of h patterns) look.answer.1)
+      ∙ sym (ap (λ (b : BookState). looked_by b.failed (history_in old) reading (Some patterns)) (shown_left new view look))
+
+  fault_left : (new : BookView FuseView) (refusal : Refusal) → refusal ≢ refusals.NoMemory → Looks old new reading patterns (Err refusal) → (refusal ≡ refusals.DiskFault) × (left_looked ≡ left_in new true)
+  fault_left new refusal other look =
+      look_refused (history_in old) old.doubt reading patterns refusal (history_in new) new.doubt old.disk.arming new.disk.arming old.disk.starved new.disk.starved look.fed other look.answer look.calls
+
+  pub fault_leaves : (new : BookView FuseView) (refusal : Refusal) → refusal ≢ refusals.NoMemory → Looks old new reading patterns (Err refusal) → IsLeft left_looked old new
+  fault_leaves new refusal other look = left_is left_looked true old new look.opened (fault_left new refusal other look).1
+
+  pub fault_view : (new : BookView FuseView) (refusal : Refusal) → refusal ≢ refusals.NoMemory → Looks old new reading patterns (Err refusal) → Err refusal ≡ looked_at (Some patterns) reading old
+  fault_view new refusal other look =
+      let parts = fault_left new refusal other look in
+      ap Err parts.0 ∙ sym (ap (λ (b : BookState). looked_by b.failed (history_in old) reading (Some patterns)) parts.1)
+
 -- ---- the reply to the pending request
 
-abbrev state_seen : BookView FuseView → ℕ → Pending → ScriptState
-state_seen seen reading pending = record {
+abbrev pub state_seen : BookView FuseView → ℕ → Pending → List SubLine → List NamedCall → ScriptState
+state_seen seen reading pending subs calls = record {
   schema = seen.opened.schema;
   limits = seen.opened.limits;
   reading = reading;
   pending = pending;
+  subs = subs;
+  calls = calls;
   history = history_in seen;
   doubt = seen.doubt;
   arming = seen.disk.arming;
@@ -162,8 +203,8 @@ abbrev pub set_reply : ScriptState → ℕ → Action → Result ℕ Refusal
 set_reply state author action =
     entry_stamp (unless_failed (book_behind (Some (set_event state author action)) state).failed (set_answer (state_rules state) state.history state.reading author (resolved state.schema (set_ask action state.pending))))
 
-pub replied : (seen : BookView FuseView) (reading : ℕ) (pending : Pending) (author : ℕ) (action : Action) (request : SetAsk) (reply : Result ℕ Refusal) → request ≡ set_ask action pending
+pub replied : (seen : BookView FuseView) (reading : ℕ) (pending : Pending) (subs : List SubLine) (calls : List NamedCall) (author : ℕ) (action : Action) (request : SetAsk) (reply : Result ℕ Refusal) → request ≡ set_ask action pending
     → reply ≡ entry_stamp (unless_failed (left_by (asked_event seen reading author request) seen).failed (set_answer (rules_in seen.opened) (history_in seen) reading author (resolved seen.opened.schema request)))
-    → reply ≡ set_reply (state_seen seen reading pending) author action
-replied seen reading pending author action request reply asked given =
+    → reply ≡ set_reply (state_seen seen reading pending subs calls) author action
+replied seen reading pending subs calls author action request reply asked given =
     subst (λ (r : SetAsk). reply ≡ entry_stamp (unless_failed (left_by (asked_event seen reading author r) seen).failed (set_answer (rules_in seen.opened) (history_in seen) reading author (resolved seen.opened.schema r)))) asked given

@@ -20,14 +20,14 @@ use Rattle.disk_model.specs.declared.outcome.Outcome.{Outcome}
 use Rattle.disk_model.specs.declared.outcome.Outcome.TheVariants.{Passes, Fails, Stops}
 use Rattle.script_text.specs.declared.line.Line.{Line}
 use Rattle.script_text.specs.declared.line.Line.TheVariants as lines
-use Rattle.script_run.specs.AnswerLines.{event_reply, line_answer}
+use Rattle.script_run.specs.AnswerLines.{event_reply, line_answer, look_reply}
 use Rattle.script_run.specs.Restarts.{Restarts, Takes, TakesBy, restarted_state}
-use Rattle.script_run.specs.ScriptStates.{ScriptState, rules_in, line_event, arming_with, book_in, book_behind, state_after}
+use Rattle.script_run.specs.ScriptStates.{ScriptState, rules_in, event_of_look, line_event, line_look, looked, arming_with, book_in, book_behind, state_after}
 use Rattle.script_run.specs.Stops.{Image, OpensAgain, Restarted, calls_to_open}
-use Rattle.script_run.specs.Turns.{BookState, doubt_at, entered, entered_by, event_entry, failed_call, failed_first, request_reply, settled, settled_by, takes_turn, turn, unless_failed}
+use Rattle.script_run.specs.Turns.{BookState, doubt_at, entered, entered_by, event_entry, failed_call, failed_first, look_event, patterns_in, request_reply, settled, settled_by, takes_turn, turn, unless_failed}
 use Rattle.script_run.specs.laws.CrashLaws.{DisksRunOn, IsReopened, IsAttempt, ReopensHistory, StopsReopen, StopsEndTrials, AcknowledgedStay, ShownStay, DoubtsAreSettled, entry_asked}
 use Rattle.script_run.specs.laws.ScriptLaws.{LeadTo, LeavesBy}
-use Rattle.script_run.proofs.ScriptLaws.{GoesOn, answers_tell, event_leaves, goes_on_then, line_goes_on, reading_is}
+use Rattle.script_run.proofs.ScriptLaws.{GoesOn, answers_tell, event_leaves, goes_on_then, line_goes_on, look_leaves, reading_is}
 
 -- ---- what the openings behind a stop give
 
@@ -378,18 +378,74 @@ request_is : (request : Request) (rules : Rules) (h : List Entry) (reading autho
 request_is (Set resolved) rules h reading author failed view is = absurd (cc is)
 request_is (Get patterns) rules h reading author failed view is = (patterns, refl)
 
+-- a look of a subscription, and what it shows
+look_is_event : (line : Line) (state : ScriptState) (patterns : List (List Elem)) → line_look line state ≡ Some patterns → line_event line state ≡ Some (look_event state.reading)
+look_is_event (lines.Open author name mode only) state patterns is = ap (λ l. event_of_look l state) is
+look_is_event (lines.Turn name) state patterns is = ap (λ l. event_of_look l state) is
+look_is_event (lines.Poll name) state patterns is = ap (λ l. event_of_look l state) is
+look_is_event (lines.Set author) state patterns is = absurd (cc is)
+look_is_event (lines.Get author pattern) state patterns is = absurd (cc is)
+look_is_event (lines.Trial author id span) state patterns is = absurd (cc is)
+look_is_event (lines.Confirm author id) state patterns is = absurd (cc is)
+look_is_event (lines.Cancel author id) state patterns is = absurd (cc is)
+look_is_event (lines.Extend author id span) state patterns is = absurd (cc is)
+look_is_event (lines.At reading) state patterns is = absurd (cc is)
+look_is_event (lines.Add act path value) state patterns is = absurd (cc is)
+look_is_event (lines.Sub line) state patterns is = absurd (cc is)
+look_is_event (lines.End name) state patterns is = absurd (cc is)
+look_is_event (lines.Stop calls fill) state patterns is = absurd (cc is)
+look_is_event (lines.Fail calls) state patterns is = absurd (cc is)
+
+seen_by : (failed : Bool) (shown view : View) → unless_failed failed (Ok shown) ≡ Ok view → (failed ≡ false) × (view ≡ shown)
+seen_by true shown view is = absurd (cc is)
+seen_by false shown view is = (refl, let same : shown ≡ view = cc is in sym same)
+
+record Shown (line : Line) (state : ScriptState) (view : View) : Type 0 where
+  patterns : List (List Elem)
+  shows : view ≡ view_of (after_expiry state.history state.reading) patterns
+  history : (state_after line state).history ≡ after_expiry state.history state.reading
+
+shown_look : (line : Line) (state : ScriptState) (view : View) (patterns : List (List Elem)) → line_look line state ≡ Some patterns → looked line state ≡ Ok view → Shown line state view
+shown_look line state view patterns some is =
+    let event : line_event line state ≡ Some (look_event state.reading) = look_is_event line state patterns some in
+    let parts = seen_by (book_behind (line_event line state) state).failed (view_of (after_expiry state.history state.reading) (patterns_in (line_look line state))) view is in
+    let fine : (book_behind (Some (look_event state.reading)) state).failed ≡ false = ap (λ e. (book_behind e state).failed) (sym event) ∙ parts.0 in
+    record {
+      patterns = patterns_in (line_look line state);
+      shows = parts.1;
+      history = (history_behind_is line state).0 ∙ ap (λ e. (book_behind e state).history) event ∙ (look_leaves state).done fine;
+    }
+
+-- which is the part of the state that its line leaves
+pub shown_part : (line : Line) (state : ScriptState) (view : View) (patterns : List (List Elem)) → line_look line state ≡ Some patterns → looked line state ≡ Ok view → view ≡ view_of (state_after line state).history patterns
+shown_part line state view patterns some is =
+    let event : line_event line state ≡ Some (look_event state.reading) = look_is_event line state patterns some in
+    let parts = seen_by (book_behind (line_event line state) state).failed (view_of (after_expiry state.history state.reading) (patterns_in (line_look line state))) view is in
+    let fine : (book_behind (Some (look_event state.reading)) state).failed ≡ false = ap (λ e. (book_behind e state).failed) (sym event) ∙ parts.0 in
+    let history : (state_after line state).history ≡ after_expiry state.history state.reading = (history_behind_is line state).0 ∙ ap (λ e. (book_behind e state).history) event ∙ (look_leaves state).done fine in
+    parts.1 ∙ ap (λ l. view_of (after_expiry state.history state.reading) (patterns_in l)) some ∙ ap (λ h. view_of h patterns) (sym history)
+
+shown_event : (line : Line) (state : ScriptState) (view : View) (event : Option Event) → line_event line state ≡ event → event_reply event state ≡ Some (OfGet (Ok view)) → Shown line state view
+shown_event line state view None none is = absurd (cc is)
+shown_event line state view (Some event) some is =
+    let replied : request_reply (rules_in state) state.history event.reading event.author event.request (book_behind (Some event) state).failed ≡ OfGet (Ok view) = cc is in
+    let request = request_is event.request (rules_in state) state.history event.reading event.author (book_behind (Some event) state).failed view replied in
+    let shows = shown_by state event request.0 view request.1 (reading_is line state event some) replied in
+    record {
+      patterns = request.0;
+      shows = shows.0;
+      history = (history_behind_is line state).0 ∙ ap (λ e. (book_behind e state).history) some ∙ shows.1;
+    }
+
+shown : (line : Line) (state : ScriptState) (view : View) (look : Option (List (List Elem))) → line_look line state ≡ look → look_reply look line state ≡ Some (OfGet (Ok view)) → Shown line state view
+shown line state view None none is = shown_event line state view (line_event line state) refl is
+shown line state view (Some patterns) some is = let seen : looked line state ≡ Ok view = cc is in shown_look line state view patterns some seen
+
 pub shown_stay : ShownStay
-shown_stay line more state left view is answered = by (line_event line state) refl
-  where
-    by : (event : Option Event) → line_event line state ≡ event → (patterns : List (List Elem)) × (shown : List Entry) × (later : List Entry) × (view ≡ view_of shown patterns) × (left.history ≡ shown ++ later)
-    by None none = absurd (let same = sym (ap (λ e. event_reply e state) none) ∙ is in cc same)
-    by (Some event) some =
-        let replied : request_reply (rules_in state) state.history event.reading event.author event.request (book_behind (Some event) state).failed ≡ OfGet (Ok view) = (let same = sym (ap (λ e. event_reply e state) some) ∙ is in cc same) in
-        let request = request_is event.request (rules_in state) state.history event.reading event.author (book_behind (Some event) state).failed view replied in
-        let shows = shown_by state event request.0 view request.1 (reading_is line state event some) replied in
-        let on = lead_on more (state_after line state) left answered.leads in
-        let history : (state_after line state).history ≡ after_expiry state.history state.reading = (history_behind_is line state).0 ∙ ap (λ e. (book_behind e state).history) some ∙ shows.1 in
-        (request.0, after_expiry state.history state.reading, on.later, shows.0, on.whole ∙ ap (λ l. l ++ on.later) history)
+shown_stay line more state left view is answered =
+    let shows = shown line state view (line_look line state) refl is in
+    let on = lead_on more (state_after line state) left answered.leads in
+    (shows.patterns, after_expiry state.history state.reading, on.later, shows.shows, on.whole ∙ ap (λ l. l ++ on.later) shows.history)
 
 pub doubts_are_settled : DoubtsAreSettled
 doubts_are_settled line state event running is takes fine =

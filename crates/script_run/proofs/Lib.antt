@@ -3,8 +3,10 @@ pub mod Answering
 pub mod Authors
 pub mod Books
 pub mod Crashes
+pub mod Endings
 pub mod LastFeeds
 pub mod NewBooks
+pub mod Opening
 pub mod Pieces
 pub mod Reopenings
 pub mod Restarting
@@ -12,5 +14,8 @@ pub mod Running
 pub mod Runs
 pub mod ScriptLaws
 pub mod ScriptTexts
+pub mod Streams
+pub mod Subscribed
 pub mod TurnHistories
 pub mod Turns
+pub mod WholeScripts

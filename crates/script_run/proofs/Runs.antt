@@ -1,6 +1,5 @@
 -- A script's run, line by line.
-use Rattle.std.proofs.Common.{◌≡◌, Some, None, ℕ, ◌+◌, ◌<◌, ◌≤◌, List, [], ◌∷◌, ◌++◌, Bool, true, false, length, take, codes, refl, sym, ap, ◌∙◌, subst, inl, inr, ◌⊎◌, arith, append_assoc, length-append, IsTrue, if◌then◌else◌}
-use Rattle.std.proofs.lemmas.Bool.{false≢true}
+use Rattle.std.proofs.Common.{◌≡◌, Some, None, ℕ, ◌+◌, ◌<◌, ◌≤◌, List, [], ◌∷◌, ◌++◌, Bool, true, false, length, take, codes, refl, sym, ap, ◌∙◌, subst, inl, inr, ◌⊎◌, arith, append_assoc, length-append, if◌then◌else◌}
 use Rattle.std.proofs.lemmas.Bool.Decides.{nat_tests}
 use Rattle.std.proofs.lemmas.List.{append-nil, take-append-le}
 use Rattle.base_kinds.specs.declared.entry.Limits.{Limits}
@@ -8,26 +7,15 @@ use Rattle.base_kinds.specs.Schema.{SchemaNode}
 use Rattle.script_text.specs.declared.line.Line.{Line}
 use Rattle.script_text.specs.Grammar.{IsLine}
 use Rattle.script_text.specs.Lines.{lines_of}
-use Rattle.script_text.proofs.Meanings.{one_meaning}
 use Rattle.commit_report.specs.Logs.{log_text}
 use Rattle.base_kinds.specs.Limits.{most_script_octets}
 use Rattle.script_run.specs.ScriptOctets.{is_too_long, to_last_feed, within_limit}
-use Rattle.script_run.specs.ScriptStates.{ScriptState, fresh, is_supported}
+use Rattle.script_run.specs.ScriptStates.{ScriptState, fresh}
 use Rattle.script_run.specs.declared.run.ScriptEnd.{ScriptEnd}
 use Rattle.script_run.specs.declared.run.ScriptEnd.TheVariants.{Whole, Refused, DiskFault}
 use Rattle.script_run.specs.inner.Replies.{Acts}
 use Rattle.script_run.specs.inner.ScriptEnds.{text_at_end}
-use Rattle.script_run.specs.Scripts.{refused_line, IsScriptLine, Prints, RunsScript}
-
--- a line that is read and not supported is no other line
-pub not_supported : (octets : List ℕ) (read : Line) → IsLine octets read → is_supported read ≡ false → (other : Line) → IsScriptLine octets other → ⊥
-not_supported octets read meant none other is =
-    let lost : IsTrue false = subst (λ b. IsTrue b) (ap is_supported (one_meaning octets other read is.meaning meant) ∙ none) is.supported in
-    false≢true lost
-
--- octets that are no line at all are none of a script
-pub none_read : (octets : List ℕ) → ((line : Line) → IsLine octets line → ⊥) → (other : Line) → IsScriptLine octets other → ⊥
-none_read octets none other is = none other is.meaning
+use Rattle.script_run.specs.Scripts.{refused_line, Prints, RunsScript}
 
 -- what the lines from this number on print, behind this text, is what all lines print
 abbrev pub Leads : Bool → List (List ℕ) → ScriptState → ℕ → List (List ℕ) → ScriptState → List ℕ → Type 0
@@ -36,21 +24,21 @@ Leads goes_on all start number lines state text = (rest : List ℕ) (ending : Sc
 pub begins : (goes_on : Bool) (all : List (List ℕ)) (start : ScriptState) → Leads goes_on all start 1 all start []
 begins goes_on all start rest ending prints = prints
 
-pub taken : (goes_on : Bool) (all : List (List ℕ)) (start : ScriptState) (number : ℕ) (lines : List (List ℕ)) (octets : List ℕ) (others : List (List ℕ)) (state next : ScriptState) (text longer : List ℕ) (line : Line) → Leads goes_on all start number lines state text → lines ≡ octets ∷ others → IsScriptLine octets line → Acts line state next text longer true → Leads goes_on all start (number + 1) others next longer
+pub taken : (goes_on : Bool) (all : List (List ℕ)) (start : ScriptState) (number : ℕ) (lines : List (List ℕ)) (octets : List ℕ) (others : List (List ℕ)) (state next : ScriptState) (text longer : List ℕ) (line : Line) → Leads goes_on all start number lines state text → lines ≡ octets ∷ others → IsLine octets line → Acts line state next text longer true → Leads goes_on all start (number + 1) others next longer
 taken goes_on all start number lines octets others state next text longer line leads first meaning acts rest ending prints =
     let prints_so : Prints goes_on number (octets ∷ others) state (acts.printed ++ rest) ending = inl (record { line = line; meaning = meaning; printed = acts.printed; next = Some next; takes = acts.takes; rest = rest; whole = refl; goes_on = prints }) in
     let run : Prints goes_on 1 all start (text ++ (acts.printed ++ rest)) ending = leads (acts.printed ++ rest) ending (subst (λ ls. Prints goes_on number ls state (acts.printed ++ rest) ending) (sym first) prints_so) in
     subst (λ t. Prints goes_on 1 all start t ending) (sym (append_assoc text acts.printed rest) ∙ ap (λ t. t ++ rest) (sym acts.added)) run
 
 -- no book could be opened behind a stop
-pub stuck : (goes_on : Bool) (all : List (List ℕ)) (start : ScriptState) (number : ℕ) (lines : List (List ℕ)) (octets : List ℕ) (others : List (List ℕ)) (state next : ScriptState) (text longer last : List ℕ) (line : Line) → Leads goes_on all start number lines state text → lines ≡ octets ∷ others → IsScriptLine octets line → Acts line state next text longer false → last ≡ longer ++ codes "disk fault\n" → Prints goes_on 1 all start (last ++ []) DiskFault
+pub stuck : (goes_on : Bool) (all : List (List ℕ)) (start : ScriptState) (number : ℕ) (lines : List (List ℕ)) (octets : List ℕ) (others : List (List ℕ)) (state next : ScriptState) (text longer last : List ℕ) (line : Line) → Leads goes_on all start number lines state text → lines ≡ octets ∷ others → IsLine octets line → Acts line state next text longer false → last ≡ longer ++ codes "disk fault\n" → Prints goes_on 1 all start (last ++ []) DiskFault
 stuck goes_on all start number lines octets others state next text longer last line leads first meaning acts grown =
     let rest = codes "disk fault\n" in
     let prints_so : Prints goes_on number (octets ∷ others) state (acts.printed ++ rest) DiskFault = inl (record { line = line; meaning = meaning; printed = acts.printed; next = None; takes = acts.takes; rest = rest; whole = refl; goes_on = (refl, refl) }) in
     let run : Prints goes_on 1 all start (text ++ (acts.printed ++ rest)) DiskFault = leads (acts.printed ++ rest) DiskFault (subst (λ ls. Prints goes_on number ls state (acts.printed ++ rest) DiskFault) (sym first) prints_so) in
     subst (λ t. Prints goes_on 1 all start t DiskFault) (sym (append_assoc text acts.printed rest) ∙ ap (λ t. t ++ rest) (sym acts.added) ∙ sym grown ∙ sym (append-nil last)) run
 
-pub refused : (goes_on : Bool) (all : List (List ℕ)) (start : ScriptState) (number : ℕ) (lines : List (List ℕ)) (octets : List ℕ) (others : List (List ℕ)) (state : ScriptState) (text longer : List ℕ) → Leads goes_on all start number lines state text → lines ≡ octets ∷ others → ((line : Line) → IsScriptLine octets line → ⊥) → longer ≡ text ++ refused_line number → Prints goes_on 1 all start (longer ++ []) Refused
+pub refused : (goes_on : Bool) (all : List (List ℕ)) (start : ScriptState) (number : ℕ) (lines : List (List ℕ)) (octets : List ℕ) (others : List (List ℕ)) (state : ScriptState) (text longer : List ℕ) → Leads goes_on all start number lines state text → lines ≡ octets ∷ others → ((line : Line) → IsLine octets line → ⊥) → longer ≡ text ++ refused_line number → Prints goes_on 1 all start (longer ++ []) Refused
 refused goes_on all start number lines octets others state text longer leads first none_fits grown =
     let prints_so : Prints goes_on number (octets ∷ others) state (refused_line number) Refused = inr (none_fits, refl, refl) in
     subst (λ t. Prints goes_on 1 all start t Refused) (sym grown ∙ sym (append-nil longer)) (leads (refused_line number) Refused (subst (λ ls. Prints goes_on number ls state (refused_line number) Refused) (sym first) prints_so))

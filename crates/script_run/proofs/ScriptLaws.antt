@@ -1,6 +1,7 @@
 -- What holds of every script.
 use Rattle.std.proofs.Common.{◌≡◌, ◌≢◌, ◌⊎◌, ℕ, ◌+◌, ◌<◌, List, [], ◌∷◌, ◌++◌, Bool, true, false, Option, Some, None, Result, Ok, Err, refl, sym, ap, ◌∙◌, subst, inl, inr, arith, append-nil, append_assoc, if◌then◌else◌}
 use Rattle.std.specs.List.{list_any}
+use Rattle.base_kinds.specs.declared.path.Elem.{Elem}
 use Rattle.base_kinds.specs.declared.entry.Ask.{Ask}
 use Rattle.base_kinds.specs.declared.entry.Entry.{Entry}
 use Rattle.base_kinds.specs.declared.entry.Limits.{Limits}
@@ -28,15 +29,15 @@ use Rattle.script_text.specs.Lines.{lines_of}
 use Rattle.script_text.proofs.Meanings.{one_meaning}
 use Rattle.script_run.specs.Requests.{set_ask}
 use Rattle.script_run.specs.ScriptOctets.{is_too_long, within_limit}
-use Rattle.script_run.specs.ScriptStates.{ScriptState, fresh, rules_in, CountsAuthor, set_event, line_event, arming_with, book_in, book_behind, state_after}
+use Rattle.script_run.specs.ScriptStates.{ScriptState, fresh, rules_in, CountsAuthor, set_event, event_of_look, line_event, line_look, arming_with, book_in, book_behind, state_after}
 use Rattle.book_core.specs.Calls.{expiry_entry}
-use Rattle.script_run.specs.AnswerLines.{event_reply, line_answer, line_text}
+use Rattle.script_run.specs.AnswerLines.{event_reply, line_answer, line_text, look_reply}
 use Rattle.std.specs.List.{AllByRecursion}
 use Rattle.script_text.specs.Grammar.{IsLine}
 use Rattle.script_run.specs.Restarts.{Takes}
 use Rattle.script_run.specs.Scripts.{Ends, Follows, IsTaken, Prints, RunsScript}
 use Rattle.script_run.specs.declared.run.ScriptEnd.{ScriptEnd}
-use Rattle.script_run.specs.Turns.{BookState, request_reply, unless_failed}
+use Rattle.script_run.specs.Turns.{BookState, look_event, request_reply, unless_failed}
 use Rattle.script_run.specs.laws.ScriptLaws.{HasNoStop, HaveNoStops, LetsRun, NeverStops, state_behind, with_event, script_events, HaveAuthors, LetsPass, LetPass, IsQuiet, clock_event, IsDone, AreDone, LeavesBy}
 use Rattle.set_txn.proofs.FitAsks.{resolved_is_fit}
 use Rattle.script_run.proofs.Running.{line_runs, takes_one}
@@ -95,6 +96,10 @@ set_fits : (state : ScriptState) (author : ℕ) (action : Action) → 0 < author
 set_fits state author action counts =
     record { author = omega (arith, counts); request_fits = asks_fit state.schema (set_ask action state.pending) (resolved state.schema (set_ask action state.pending)) refl }
 
+look_fits : (look : Option (List (List Elem))) (state : ScriptState) → IsFitIfAny (event_of_look look state)
+look_fits None state = tt
+look_fits (Some patterns) state = record { author = omega arith; request_fits = tt }
+
 event_fits : (line : Line) (state : ScriptState) → CountsAuthor line → IsFitIfAny (line_event line state)
 event_fits (lines.Set author) state counts = set_fits state author actions.Plain counts
 event_fits (lines.Get author pattern) state counts = record { author = omega (arith, counts); request_fits = tt }
@@ -105,9 +110,9 @@ event_fits (lines.Extend author id span) state counts = set_fits state author (a
 event_fits (lines.At reading) state counts = tt
 event_fits (lines.Add act path value) state counts = tt
 event_fits (lines.Sub line) state counts = tt
-event_fits (lines.Open author name mode only) state counts = tt
-event_fits (lines.Turn name) state counts = tt
-event_fits (lines.Poll name) state counts = tt
+event_fits (lines.Open author name mode only) state counts = look_fits (line_look (lines.Open author name mode only) state) state
+event_fits (lines.Turn name) state counts = look_fits (line_look (lines.Turn name) state) state
+event_fits (lines.Poll name) state counts = look_fits (line_look (lines.Poll name) state) state
 event_fits (lines.End name) state counts = tt
 event_fits (lines.Stop calls fill) state counts = tt
 event_fits (lines.Fail calls) state counts = tt
@@ -199,7 +204,7 @@ record TakenSo (more : Bool) (number : ℕ) (others : List (List ℕ)) (line : L
 
 taken_so : (more : Bool) (number : ℕ) (octets : List ℕ) (others : List (List ℕ)) (state : ScriptState) (text : List ℕ) (ending : ScriptEnd) (line : Line) → IsLine octets line → LetsRun line → NeverStops state.arming → IsTaken octets state text (Follows (λ next rest. Prints more (number + 1) others next rest ending) ending) → TakenSo more number others line state text ending
 taken_so more number octets others state text ending line meaning lets never is =
-    let same : is.line ≡ line = one_meaning octets is.line line is.meaning.meaning meaning in
+    let same : is.line ≡ line = one_meaning octets is.line line is.meaning meaning in
     let one = takes_one line state is.printed is.next lets never (subst (λ (l : Line). Takes l state is.printed is.next) same is.takes) in
     record {
       rest = is.rest;
@@ -211,8 +216,8 @@ prints_one : (more : Bool) (number : ℕ) (octets : List (List ℕ)) (state : Sc
 prints_one more number [] state text text' ending ending' none never p q = ends_one more number state text text' ending ending' p q
 prints_one more number (first ∷ others) state text text' ending ending' none never (inl p) (inl q) =
     let lets = none.0 p.line p.meaning in
-    let one = taken_so more number first others state text ending p.line p.meaning.meaning lets never p in
-    let other = taken_so more number first others state text' ending' p.line p.meaning.meaning lets never q in
+    let one = taken_so more number first others state text ending p.line p.meaning lets never p in
+    let other = taken_so more number first others state text' ending' p.line p.meaning lets never q in
     let both = prints_one more (number + 1) others (state_after p.line state) one.rest other.rest ending ending' none.1 (line_runs p.line state lets never) one.goes_on other.goes_on in
     (one.whole ∙ ap (λ r. line_text p.line state ++ r) both.0 ∙ sym other.whole, both.1)
 prints_one more number (first ∷ others) state text text' ending ending' none never (inl p) (inr q) = absurd (q.0 p.line p.meaning)
@@ -261,6 +266,21 @@ tells rules h doubt arming reading author (Get patterns) =
 event_tells : (state : ScriptState) (author : ℕ) (request : Request) → let left = request_turn (rules_in state) state.history state.doubt state.arming state.reading author request in LeavesBy state.history state.reading (Some (request_reply (rules_in state) state.history state.reading author request left.failed)) left.history
 event_tells state author request = tells (rules_in state) state.history state.doubt state.arming state.reading author request
 
+-- a look leaves the event of the clock, or where a call of the disk failed perhaps not even that
+pub look_leaves : (state : ScriptState) → Leaves state.history state.reading (after_expiry state.history state.reading) (book_behind (Some (look_event state.reading)) state)
+look_leaves state = event_leaves state (look_event state.reading)
+
+cut_by_look : (state : ScriptState) → IsCut state.history state.reading (book_behind (Some (look_event state.reading)) state).history
+cut_by_look state = by (book_behind (Some (look_event state.reading)) state).failed refl
+  where
+    by : (failed : Bool) → (book_behind (Some (look_event state.reading)) state).failed ≡ failed → IsCut state.history state.reading (book_behind (Some (look_event state.reading)) state).history
+    by true is = (look_leaves state).cut is
+    by false is = inr ((look_leaves state).done is)
+
+look_tells : (line : Line) (state : ScriptState) (look : Option (List (List Elem))) → line_event line state ≡ event_of_look look state → LeavesBy state.history state.reading (look_reply look line state) (book_behind (event_of_look look state) state).history
+look_tells line state None is = subst (λ e. LeavesBy state.history state.reading (event_reply e state) state.history) (sym is) refl
+look_tells line state (Some patterns) is = cut_by_look state
+
 pub answers_tell : (line : Line) (state : ScriptState) → LeavesBy state.history state.reading (line_answer line state) (state_after line state).history
 unfolding state_after
 answers_tell (lines.Set author) state = event_tells state author (set_event state author actions.Plain).request
@@ -272,9 +292,9 @@ answers_tell (lines.Extend author id span) state = event_tells state author (set
 answers_tell (lines.At reading) state = refl
 answers_tell (lines.Add act path value) state = refl
 answers_tell (lines.Sub line) state = refl
-answers_tell (lines.Open author name mode only) state = refl
-answers_tell (lines.Turn name) state = refl
-answers_tell (lines.Poll name) state = refl
+answers_tell (lines.Open author name mode only) state = look_tells (lines.Open author name mode only) state (line_look (lines.Open author name mode only) state) refl
+answers_tell (lines.Turn name) state = look_tells (lines.Turn name) state (line_look (lines.Turn name) state) refl
+answers_tell (lines.Poll name) state = look_tells (lines.Poll name) state (line_look (lines.Poll name) state) refl
 answers_tell (lines.End name) state = refl
 answers_tell (lines.Stop calls fill) state = refl
 answers_tell (lines.Fail calls) state = refl
@@ -322,6 +342,10 @@ abbrev reading_of : Option Event → ℕ
 reading_of None = 0
 reading_of (Some event) = event.reading
 
+look_reading : (look : Option (List (List Elem))) (state : ScriptState) (event : Event) → event_of_look look state ≡ Some event → event.reading ≡ state.reading
+look_reading None state event is = cc is
+look_reading (Some patterns) state event is = sym (ap reading_of is)
+
 pub reading_is : (line : Line) (state : ScriptState) (event : Event) → line_event line state ≡ Some event → event.reading ≡ state.reading
 reading_is (lines.Set author) state event is = sym (ap reading_of is)
 reading_is (lines.Get author pattern) state event is = sym (ap reading_of is)
@@ -332,9 +356,9 @@ reading_is (lines.Extend author id span) state event is = sym (ap reading_of is)
 reading_is (lines.At reading) state event is = cc is
 reading_is (lines.Add act path value) state event is = cc is
 reading_is (lines.Sub line) state event is = cc is
-reading_is (lines.Open author name mode only) state event is = cc is
-reading_is (lines.Turn name) state event is = cc is
-reading_is (lines.Poll name) state event is = cc is
+reading_is (lines.Open author name mode only) state event is = look_reading (line_look (lines.Open author name mode only) state) state event is
+reading_is (lines.Turn name) state event is = look_reading (line_look (lines.Turn name) state) state event is
+reading_is (lines.Poll name) state event is = look_reading (line_look (lines.Poll name) state) state event is
 reading_is (lines.End name) state event is = cc is
 reading_is (lines.Stop calls fill) state event is = cc is
 reading_is (lines.Fail calls) state event is = cc is
@@ -374,11 +398,26 @@ refused_request rules h doubt arming reading author ask refusal request is repli
 one_answer : (x y : Answer) → Some x ≡ Some y → x ≡ y
 one_answer x y is = cc is
 
+-- a Set is answered as the event that it is
+abbrev request_or_none : Option Event → Request
+request_or_none None = Get []
+request_or_none (Some event) = event.request
+
+look_no_set : (look : Option (List (List Elem))) (state : ScriptState) (event : Event) (request : Result Ask Refusal) → event_of_look look state ≡ Some event → event.request ≡ Set request → ⊥
+look_no_set None state event request is asks = cc is
+look_no_set (Some patterns) state event request is asks = let both : Get [] ≡ Set request = ap request_or_none is ∙ asks in cc both
+
+pub set_answered : (line : Line) (state : ScriptState) (event : Event) (request : Result Ask Refusal) → line_event line state ≡ Some event → event.request ≡ Set request → line_answer line state ≡ event_reply (Some event) state
+set_answered (lines.Open author name mode only) state event request is asks = absurd (look_no_set (line_look (lines.Open author name mode only) state) state event request is asks)
+set_answered (lines.Turn name) state event request is asks = absurd (look_no_set (line_look (lines.Turn name) state) state event request is asks)
+set_answered (lines.Poll name) state event request is asks = absurd (look_no_set (line_look (lines.Poll name) state) state event request is asks)
+set_answered line state event request is asks = ap (λ e. event_reply e state) is
+
 pub refused_changes_nothing : (line : Line) (state : ScriptState) (event : Event) (ask : Ask) (refusal : Refusal) → line_event line state ≡ Some event → event.request ≡ Set (Ok ask) → line_answer line state ≡ Some (OfSet (Err refusal)) → refusal ≢ DiskFault → (state_after line state).history ≡ after_expiry state.history state.reading
 unfolding state_after
 refused_changes_nothing line state event ask refusal is asks answered other =
     let reply : Answer = request_reply (rules_in state) state.history event.reading event.author event.request (book_behind (Some event) state).failed in
-    let replied : reply ≡ OfSet (Err refusal) = one_answer reply (OfSet (Err refusal)) (sym (ap (λ e. event_reply e state) is) ∙ answered) in
+    let replied : reply ≡ OfSet (Err refusal) = one_answer reply (OfSet (Err refusal)) (sym (set_answered line state event (Ok ask) is asks) ∙ answered) in
     ap (λ e. (book_behind e state).history) is
     ∙ refused_request (rules_in state) state.history state.doubt state.arming event.reading event.author ask refusal event.request (sym asks) replied other
     ∙ ap (after_expiry state.history) (reading_is line state event is)

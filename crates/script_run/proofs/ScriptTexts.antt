@@ -10,6 +10,7 @@ use Rattle.base_kinds.specs.Schema.{SchemaNode}
 use Rattle.base_kinds.specs.Step.{Rules}
 use Rattle.commit_report.specs.Logs.{log_text}
 use Rattle.script_text.specs.declared.line.Line.{Line}
+use Rattle.script_text.specs.declared.line.Line.TheVariants as kinds
 use Rattle.script_text.specs.Lines.{lines_of}
 use Rattle.script_run.specs.AnswerLines.{answer_lines, event_reply, lines_if_any, line_text}
 use Rattle.script_run.specs.ScriptOctets.{is_too_long, to_last_feed, within_limit}
@@ -18,7 +19,7 @@ use Rattle.script_run.specs.Scripts.{Prints, RunsScript}
 use Rattle.script_run.specs.Turns.{BookState, turn_answer}
 use Rattle.script_run.specs.declared.run.ScriptEnd.TheVariants.{Whole}
 use Rattle.script_run.specs.laws.ScriptLaws.{HasNoStop, HaveNoStops, IsQuiet, LetPass, LetsRun, LetRun, NeverStops, state_behind, with_event, script_events}
-use Rattle.script_run.specs.laws.ScriptTexts.{AreScriptLines, texts_of, whole_text, PrintsAnswers, AnswersEvents}
+use Rattle.script_run.specs.laws.ScriptTexts.{ArePlain, AreScriptLines, IsPlain, texts_of, whole_text, PrintsAnswers, AnswersEvents}
 use Rattle.std.specs.List.{AllByRecursion}
 use Rattle.script_text.proofs.Meanings.{one_meaning}
 use Rattle.script_run.proofs.Running.{line_runs, takes_so}
@@ -40,16 +41,35 @@ line_quiet (Some event) state is =
     ap (λ (b : BookState). answer_lines (turn_answer (rules_in state) state.history event b.failed)) (behind_quiet (Some event) state is)
     ∙ ap answer_lines (answer_quiet (rules_in state) state.history event)
 
+-- a line that is none of a subscription prints what its event is answered
+plain_text : (line : Line) (state : ScriptState) → IsPlain line → line_text line state ≡ lines_if_any (event_reply (line_event line state) state)
+unfolding line_text
+plain_text (kinds.At reading) state plain = refl
+plain_text (kinds.Add act path value) state plain = refl
+plain_text (kinds.Set author) state plain = refl
+plain_text (kinds.Get author pattern) state plain = refl
+plain_text (kinds.Trial author id span) state plain = refl
+plain_text (kinds.Confirm author id) state plain = refl
+plain_text (kinds.Cancel author id) state plain = refl
+plain_text (kinds.Extend author id span) state plain = refl
+plain_text (kinds.Stop calls fill) state plain = refl
+plain_text (kinds.Fail calls) state plain = refl
+plain_text (kinds.Sub line) state plain = absurd plain
+plain_text (kinds.Open author name mode only) state plain = absurd plain
+plain_text (kinds.Turn name) state plain = absurd plain
+plain_text (kinds.Poll name) state plain = absurd plain
+plain_text (kinds.End name) state plain = absurd plain
+
 -- and that is of the events
-texts_are_of_events : (lines : List Line) (state : ScriptState) → LetPass lines → IsQuiet state → texts_of lines state ≡ flat_map answer_lines (event_answers (rules_in state) state.history (script_events lines state))
-unfolding state_after line_text
-texts_are_of_events [] state lets is = refl
-texts_are_of_events (line ∷ lines) state lets is =
+texts_are_of_events : (lines : List Line) (state : ScriptState) → LetPass lines → ArePlain lines → IsQuiet state → texts_of lines state ≡ flat_map answer_lines (event_answers (rules_in state) state.history (script_events lines state))
+unfolding state_after
+texts_are_of_events [] state lets plain is = refl
+texts_are_of_events (line ∷ lines) state lets plain is =
     let rules = rules_in state in
     let event = line_event line state in
     let events = script_events lines (state_after line state) in
-    ap (λ rest. line_text line state ++ rest) (texts_are_of_events lines (state_after line state) lets.1 (stays_quiet line state lets.0 is))
-    ∙ ap (λ text. text ++ flat_map answer_lines (event_answers rules (state_after line state).history events)) (line_quiet event state is)
+    ap (λ rest. line_text line state ++ rest) (texts_are_of_events lines (state_after line state) lets.1 plain.1 (stays_quiet line state lets.0 is))
+    ∙ ap (λ text. text ++ flat_map answer_lines (event_answers rules (state_after line state).history events)) (plain_text line state plain.0 ∙ line_quiet event state is)
     ∙ ap (λ (b : BookState). quiet_lines rules state.history event ++ flat_map answer_lines (event_answers rules b.history events)) (behind_quiet event state is)
     ∙ one_answer rules state.history event events
 
@@ -77,7 +97,7 @@ no_stops [] [] are lets = tt
 no_stops [] (line ∷ lines) are lets = absurd are
 no_stops (first ∷ others) [] are lets = absurd are
 no_stops (first ∷ others) (line ∷ lines) are lets = (
-  λ other is. subst LetsRun (one_meaning first line other are.0.meaning is.meaning) lets.0,
+  λ other is. subst LetsRun (one_meaning first line other are.0 is) lets.0,
   no_stops others lines are.1 lets.1,
 )
 
@@ -98,10 +118,10 @@ prints_answers schema limits script lines text ending short are lets runs =
     prints_one_text schema limits script text (whole_text schema limits lines) ending Whole none runs (runs_all schema limits script lines short are lets)
 
 pub answers_events : AnswersEvents
-answers_events schema limits lines lets =
+answers_events schema limits lines lets plain =
     let start = fresh schema limits in
     let events = script_events lines start in
     let quiet : IsQuiet start = record { doubt = refl; arming = refl } in
     let log = codes "log\n" ++ log_text (state_behind lines start).history in
-    ap (λ answers. answers ++ log) (texts_are_of_events lines start lets quiet)
+    ap (λ answers. answers ++ log) (texts_are_of_events lines start lets plain quiet)
     ∙ ap (λ h. flat_map answer_lines (event_answers (rules_of schema limits) [] events) ++ (codes "log\n" ++ log_text h)) (makes_events lines start lets quiet)

@@ -1,10 +1,13 @@
 pub mod AnswerLines
+pub mod CallViews
+pub mod OpenCalls
 pub mod Requests
 pub mod Restarts
 pub mod ScriptOctets
 pub mod ScriptStates
 pub mod Scripts
 pub mod Stops
+pub mod Subscribing
 pub mod Turns
 pub mod inner
 pub mod laws

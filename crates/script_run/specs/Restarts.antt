@@ -18,10 +18,10 @@ abbrev pub restart_text : List Image → Option Restarted → List ℕ
 restart_text [] ending = codes "stopped\n" ++ reopened_line ending
 restart_text (next ∷ later) ending = codes "stopped\n" ++ restart_text later ending
 
--- nothing is in doubt in the book that was opened
+-- nothing is in doubt in the book that was opened, and the stop has ended every call
 abbrev pub restarted_state : ScriptState → Restarted → ScriptState
 restarted_state left book =
-    record left { history = book.history; doubt = None; arming = book.arming }
+    record left { calls = []; history = book.history; doubt = None; arming = book.arming }
 
 -- The disk stopped, and left the journal of the history, or of that with the attempt that was being made or in doubt. The
 -- book is opened on it, with the clock as it is.

@@ -1,7 +1,11 @@
 -- A script's state between two lines, and the event of the commit log that a line is: a script is lines to events, and
 -- each event is a turn of a book on a disk that its lines arm to fail.
-use Rattle.std.specs.Prelude.{ℕ, ◌<◌, List, [], ◌∷◌, Bool, true, false, Option, Some, None}
+use Rattle.std.specs.Prelude.{ℕ, ◌<◌, List, [], ◌∷◌, ◌++◌, false, Option, Some, None, Result}
+use Rattle.base_kinds.specs.declared.path.Elem.{Elem}
 use Rattle.base_kinds.specs.declared.entry.Entry.{Entry}
+use Rattle.base_kinds.specs.declared.entry.View.{View}
+use Rattle.base_kinds.specs.declared.refusal.Refusal.{Refusal}
+use Rattle.base_kinds.specs.declared.request.SubLine.{SubLine}
 use Rattle.base_kinds.specs.declared.entry.Limits.{Limits}
 use Rattle.base_kinds.specs.declared.request.Action.{Action}
 use Rattle.base_kinds.specs.declared.request.Action.TheVariants as actions
@@ -15,15 +19,19 @@ use Rattle.script_text.specs.declared.line.Line.{Line}
 use Rattle.script_text.specs.declared.line.Line.TheVariants as lines
 use Rattle.script_run.specs.declared.pending.Pending.{Pending}
 use Rattle.script_run.specs.Requests.{nothing_pending, with_operation, set_ask}
-use Rattle.script_run.specs.Turns.{BookState, book_after}
+use Rattle.script_run.specs.Subscribing.{CallStep, look_of, call_step, calls_left}
+use Rattle.script_run.specs.Turns.{BookState, book_after, look_event, looked_by}
+use Rattle.script_run.specs.declared.calls.NamedCall.{NamedCall}
 
--- what is judged by, what the clock reads, the pending request; and of the book its history, what is in doubt, and when
+-- what is judged by, what the clock reads, the pending request, the pending subscriptions and the calls that are open; and of the book its history, what is in doubt, and when
 -- its disk is to fail
 pub record ScriptState : Type 0 where
   pub schema : List SchemaNode
   pub limits : Limits
   pub reading : ℕ
   pub pending : Pending
+  pub subs : List SubLine
+  pub calls : List NamedCall
   pub history : List Entry
   pub doubt : Option Entry
   pub arming : Arming
@@ -36,6 +44,8 @@ fresh schema limits =
       limits = limits;
       reading = 0;
       pending = nothing_pending;
+      subs = [];
+      calls = [];
       history = [];
       doubt = None;
       arming = unarmed;
@@ -52,8 +62,16 @@ set_event state author action = record {
   request = Set (resolved state.schema (set_ask action state.pending));
 }
 
--- The event that a line is: a Set of the pending request, plain or with an action, or a read of one pattern. The clock's
--- line, those of operations, `fail` and `stop` are none, and the others aren't taken yet.
+-- the patterns that a line of subscriptions looks at, where it takes a turn of the book
+abbrev pub line_look : Line → ScriptState → Option (List (List Elem))
+line_look line state = look_of line state.subs state.calls
+
+abbrev pub event_of_look : Option (List (List Elem)) → ScriptState → Option Event
+event_of_look None state = None
+event_of_look (Some patterns) state = Some (look_event state.reading)
+
+-- The event that a line is: a Set of the pending request, plain or with an action, a read of one pattern, or a look of a
+-- subscription. The clock's line, those of operations and of subscriptions, `fail` and `stop` are none.
 abbrev pub line_event : Line → ScriptState → Option Event
 line_event (lines.At reading) state = None
 line_event (lines.Add act path value) state = None
@@ -67,30 +85,13 @@ line_event (lines.Cancel author id) state = Some (set_event state author (action
 line_event (lines.Extend author id span) state =
     Some (set_event state author (actions.Extend id span))
 line_event (lines.Sub line) state = None
-line_event (lines.Open author name mode only) state = None
-line_event (lines.Turn name) state = None
-line_event (lines.Poll name) state = None
+line_event (lines.Open author name mode only) state =
+    event_of_look (line_look (lines.Open author name mode only) state) state
+line_event (lines.Turn name) state = event_of_look (line_look (lines.Turn name) state) state
+line_event (lines.Poll name) state = event_of_look (line_look (lines.Poll name) state) state
 line_event (lines.End name) state = None
 line_event (lines.Stop calls fill) state = None
 line_event (lines.Fail calls) state = None
-
--- the lines that scripts may have: those of Sets and reads, and of a disk that fails and stops
-abbrev pub is_supported : Line → Bool
-is_supported (lines.At reading) = true
-is_supported (lines.Add act path value) = true
-is_supported (lines.Set author) = true
-is_supported (lines.Get author pattern) = true
-is_supported (lines.Trial author id span) = true
-is_supported (lines.Confirm author id) = true
-is_supported (lines.Cancel author id) = true
-is_supported (lines.Extend author id span) = true
-is_supported (lines.Sub line) = false
-is_supported (lines.Open author name mode only) = false
-is_supported (lines.Turn name) = false
-is_supported (lines.Poll name) = false
-is_supported (lines.End name) = false
-is_supported (lines.Stop calls fill) = true
-is_supported (lines.Fail calls) = true
 
 -- author 0 is the target itself, and neither sets nor reads
 abbrev pub CountsAuthor : Line → Type 0
@@ -100,6 +101,7 @@ CountsAuthor (lines.Trial author id span) = 0 < author
 CountsAuthor (lines.Confirm author id) = 0 < author
 CountsAuthor (lines.Cancel author id) = 0 < author
 CountsAuthor (lines.Extend author id span) = 0 < author
+CountsAuthor (lines.Open author name mode only) = 0 < author
 CountsAuthor _ = Unit {0}
 
 -- the clock is set by its line alone
@@ -118,6 +120,12 @@ pending_after (lines.Cancel author id) pending = nothing_pending
 pending_after (lines.Extend author id span) pending = nothing_pending
 pending_after _ pending = pending
 
+-- a line of a subscription adds it to those that wait for a call, and `open` spends them, also where it is refused
+abbrev pub subs_after : Line → List SubLine → List SubLine
+subs_after (lines.Sub sub) subs = subs ++ sub ∷ []
+subs_after (lines.Open author name mode only) subs = []
+subs_after _ subs = subs
+
 -- `fail` arms the disk to fail in the call after so many, counted once all failures have hit that wait already, and
 -- `stop` to stop in it, and to leave this fill
 abbrev pub arming_with : Line → Arming → Arming
@@ -134,6 +142,14 @@ abbrev pub book_behind : Option Event → ScriptState → BookState
 book_behind None state = book_in state
 book_behind (Some event) state = book_after (rules_in state) event (book_in state)
 
+-- what a look shows, and what a line of subscriptions answers and leaves by that
+abbrev pub looked : Line → ScriptState → Result View Refusal
+looked line state =
+    looked_by (book_behind (line_event line state) state).failed state.history state.reading (line_look line state)
+
+abbrev pub line_step : Line → ScriptState → Option CallStep
+line_step line state = call_step line state.subs state.reading (looked line state) state.calls
+
 -- The state behind a line's turn. Where the disk has stopped in it, the book is opened again (Restarts.antt).
 unfoldable pub state_after : Line → ScriptState → ScriptState
 state_after line state = let left = book_behind (line_event line state) state in
@@ -142,6 +158,8 @@ state_after line state = let left = book_behind (line_event line state) state in
       limits = state.limits;
       reading = reading_after line state.reading;
       pending = pending_after line state.pending;
+      subs = subs_after line state.subs;
+      calls = calls_left (line_step line state) state.calls;
       history = left.history;
       doubt = left.doubt;
       arming = arming_with line left.arming;

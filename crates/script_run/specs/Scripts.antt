@@ -1,6 +1,6 @@
 -- What a script prints under a schema and the limits of a log: the answers to its lines, in order, as those of one commit
 -- history, and then that history's log.
-use Rattle.std.specs.Prelude.{◌≡◌, ℕ, ◌+◌, List, [], ◌∷◌, ◌++◌, Bool, true, false, IsTrue, codes, ◌⊎◌, Option, Some, None}
+use Rattle.std.specs.Prelude.{◌≡◌, ℕ, ◌+◌, List, [], ◌∷◌, ◌++◌, Bool, true, false, codes, ◌⊎◌, Option, Some, None}
 use Rattle.std.specs.Fmt.{decimal}
 use Rattle.base_kinds.specs.declared.entry.Limits.{Limits}
 use Rattle.base_kinds.specs.Schema.{SchemaNode}
@@ -9,15 +9,10 @@ use Rattle.script_text.specs.declared.line.Line.{Line}
 use Rattle.script_text.specs.Grammar.{IsLine}
 use Rattle.script_text.specs.Lines.{lines_of}
 use Rattle.script_run.specs.ScriptOctets.{is_too_long, within_limit}
-use Rattle.script_run.specs.ScriptStates.{ScriptState, fresh, is_supported}
+use Rattle.script_run.specs.ScriptStates.{ScriptState, fresh}
 use Rattle.script_run.specs.Restarts.{Takes}
 use Rattle.script_run.specs.declared.run.ScriptEnd.{ScriptEnd}
 use Rattle.script_run.specs.declared.run.ScriptEnd.TheVariants.{Whole, Refused, DiskFault}
-
--- the octets are this line, and scripts may have it
-pub record IsScriptLine (octets : List ℕ) (line : Line) : Type 0 where
-  pub meaning : IsLine octets line
-  pub supported : IsTrue (is_supported line)
 
 abbrev pub refused_line : ℕ → List ℕ
 refused_line number = codes "script line " ++ (decimal number ++ codes " refused\n")
@@ -27,7 +22,7 @@ pub record IsTaken
     (octets : List ℕ) (state : ScriptState) (text : List ℕ)
     (follows : Option ScriptState → List ℕ → Type 0) : Type 0 where
   pub line : Line
-  pub meaning : IsScriptLine octets line
+  pub meaning : IsLine octets line
   pub printed : List ℕ
   pub next : Option ScriptState
   pub takes : Takes line state printed next
@@ -54,7 +49,7 @@ Prints goes_on number [] state text ending = Ends goes_on number state text endi
 Prints goes_on number (octets ∷ others) state text ending =
     IsTaken octets state text
     (Follows (λ next rest. Prints goes_on (number + 1) others next rest ending) ending)
-    ⊎ (((line : Line) → IsScriptLine octets line → ⊥) × (text ≡ refused_line number) × (ending ≡ Refused))
+    ⊎ (((line : Line) → IsLine octets line → ⊥) × (text ≡ refused_line number) × (ending ≡ Refused))
 
 -- under this schema and these limits a script prints this text, and ends so
 unfoldable pub RunsScript : List SchemaNode → Limits → List ℕ → List ℕ → ScriptEnd → Type 0

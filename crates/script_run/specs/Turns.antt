@@ -5,8 +5,10 @@ use Rattle.std.specs.List.{list_any}
 use Rattle.base_kinds.specs.declared.entry.Entry.{Entry}
 use Rattle.base_kinds.specs.declared.refusal.Refusal.{Refusal}
 use Rattle.base_kinds.specs.declared.refusal.Refusal.TheVariants.{DiskFault}
-use Rattle.base_kinds.specs.Events.{Request, Set, Get, Event, Answer, OfSet, OfGet, is_long, set_answer, get_answer}
-use Rattle.base_kinds.specs.Step.{Rules, step}
+use Rattle.base_kinds.specs.declared.entry.View.{View}
+use Rattle.base_kinds.specs.declared.path.Elem.{Elem}
+use Rattle.base_kinds.specs.Events.{Request, Set, Get, Event, Answer, OfSet, OfGet, is_long, set_answer, get_answer, view_of}
+use Rattle.base_kinds.specs.Step.{Rules, after_expiry, step}
 use Rattle.disk_model.specs.Arming.{Arming, outcome_of, arming_after, arming_after_calls}
 use Rattle.disk_model.specs.declared.outcome.Outcome.{Outcome}
 use Rattle.disk_model.specs.declared.outcome.Outcome.TheVariants.{Passes, Fails, Stops}
@@ -118,3 +120,18 @@ request_reply rules h reading author (Get patterns) failed =
 abbrev pub turn_answer : Rules → List Entry → Event → Bool → Answer
 turn_answer rules h event failed =
     request_reply rules h event.reading event.author event.request failed
+
+-- ---- a look of a subscription
+
+-- To the history it is what a read of nothing is, whoever takes it: the event of the clock alone.
+abbrev pub look_event : ℕ → Event
+look_event reading = record { reading = reading; author = 1; request = Get [] }
+
+abbrev pub patterns_in : Option (List (List Elem)) → List (List Elem)
+patterns_in None = []
+patterns_in (Some patterns) = patterns
+
+-- what it shows, by whether a call of the disk failed in its turn
+abbrev pub looked_by : Bool → List Entry → ℕ → Option (List (List Elem)) → Result View Refusal
+looked_by failed h reading look =
+    unless_failed failed (Ok (view_of (after_expiry h reading) (patterns_in look)))

@@ -2,3 +2,4 @@
 pub mod Replies
 pub mod ScriptBooks
 pub mod ScriptEnds
+pub mod StreamCalls

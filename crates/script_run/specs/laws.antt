@@ -1,3 +1,6 @@
 pub mod CrashLaws
+pub mod EndingLaws
 pub mod ScriptLaws
 pub mod ScriptTexts
+pub mod StreamLaws
+pub mod WholeScripts

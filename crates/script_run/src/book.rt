@@ -1,4 +1,5 @@
-ghost use Rattle.std.specs.Prelude.{◌≡◌, ◌≢◌, ◌<◌, ◌∷◌, [], IfOk, OnOk, Err};
+ghost use Rattle.std.specs.Prelude.{◌≡◌, ◌≢◌, ◌<◌, ◌∷◌, [], IfOk, OnOk, Err, Some};
+ghost use Rattle.base_kinds.specs.Rising.{IsRising};
 ghost use Rattle.base_kinds.specs.Events.{get_answer, set_answer};
 ghost use Rattle.base_kinds.specs.Legal.{IsFit};
 ghost use Rattle.base_kinds.specs.Limits.{AreInRange};
@@ -6,7 +7,7 @@ ghost use Rattle.base_kinds.specs.Step.{step};
 ghost use Rattle.set_txn.specs.Resolution.{resolved};
 ghost use Rattle.book_core.specs.Views.{history_in};
 ghost use Rattle.book_port.specs.Opened.{rules_in};
-ghost use Rattle.script_run.specs.inner.ScriptBooks.{IsNew, IsLeft, MayStand, asked_event, asked_turn, left_by, read_event};
+ghost use Rattle.script_run.specs.inner.ScriptBooks.{IsNew, IsLeft, MayStand, asked_event, asked_turn, left_by, left_by_look, looked_at, read_event};
 ghost use Rattle.script_run.specs.AnswerLines.{entry_stamp};
 ghost use Rattle.script_run.specs.Turns.{unless_failed};
 
@@ -126,6 +127,33 @@ pub fn get(
             }
             Ok(Ok(view))
         }
+        Err(refusal) => unless_memory(refusal),
+    }
+}
+
+/// What these patterns cover, as a Subscribe call looks at it in a turn of the book.
+pub fn look(
+    alloc: Global,
+    book: &mut ScriptBook,
+    reading: u64,
+    author: u32,
+    patterns: &Paths,
+) -> Result<Result<View, Refusal>, NoMemory>
+    requires author { 0 < author }
+    requires may_stand { MayStand book.old }
+    ensures may_stand { MayStand book.new }
+    ensures left { OnOk result (IsLeft (left_by_look (Some patterns.now) reading book.old)
+        book.old book.new) }
+    ensures view { IfOk result (λ view. view ≡ looked_at (Some patterns.now) reading book.old) }
+    ensures rows { IfOk result (λ view. IfOk view (λ seen. IsRising seen.rows)) }
+{
+    doubts_may_stand();
+    let seen = book.look(alloc, reading, author, patterns);
+    if book.starved() {
+        return Err(NoMemory);
+    }
+    match seen {
+        Ok(view) => Ok(Ok(view)),
         Err(refusal) => unless_memory(refusal),
     }
 }

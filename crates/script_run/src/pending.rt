@@ -68,7 +68,7 @@ fn change(path: Path, value: Bytes) -> Change
     }
 }
 
-fn empty_text(alloc: Global) -> Result<Text, NoMemory>
+pub fn empty_text(alloc: Global) -> Result<Text, NoMemory>
     ensures { IfOk result (λ text. text ≡ []) }
 {
     match Text::of(alloc, b"") {

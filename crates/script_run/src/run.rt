@@ -2,9 +2,10 @@ ghost use Rattle.std.specs.Prelude.{◌≡◌, ◌≤◌, ◌++◌, [], length, 
 ghost use Rattle.base_kinds.specs.Limits.{AreInRange, most_script_octets};
 ghost use Rattle.script_text.specs.declared.line.Line.{Line as ScriptLine};
 ghost use Rattle.script_text.specs.Lines.{lines_of};
-ghost use Rattle.script_run.specs.ScriptStates.{CountsAuthor, is_supported};
+ghost use Rattle.script_run.specs.ScriptStates.{CountsAuthor};
 ghost use Rattle.script_run.specs.inner.ScriptEnds.{text_at_end};
-ghost use Rattle.script_run.specs.Scripts.{IsScriptLine, Prints, RunsScript, refused_line};
+ghost use Rattle.script_text.specs.Grammar.{IsLine};
+ghost use Rattle.script_run.specs.Scripts.{Prints, RunsScript, refused_line};
 
 use crate::limit::{is_too_long, within_limit};
 use crate::state::ScriptState;
@@ -108,42 +109,18 @@ fn take_lines(
     Ok(ScriptEnd::Whole)
 }
 
-/// The line that the octets are, where scripts may have it.
-#[tactic(auto, using(crate::proofs::Authors::counts_author, crate::proofs::Runs::not_supported, crate::proofs::Runs::none_read))]
+/// The line that the octets are.
+#[tactic(auto, using(crate::proofs::Authors::counts_author))]
 fn script_line(alloc: Global, octets: &[u8]) -> Result<Option<Line>, NoMemory>
-    ensures line { IfOk result (λ found. IfSome found (IsScriptLine octets.now)) }
+    ensures line { IfOk result (λ found. IfSome found (IsLine octets.now)) }
     ensures author { IfOk result (λ found. IfSome found CountsAuthor) }
     ensures no_line { IfOk result (λ found.
-        IfNone found ((line : ScriptLine) → IsScriptLine octets.now line → ⊥)) }
+        IfNone found ((line : ScriptLine) → IsLine octets.now line → ⊥)) }
 {
     match read_line(alloc, octets) {
-        Ok(line) => {
-            if is_supported(&line) {
-                return Ok(Some(line));
-            }
-            Ok(None)
-        }
+        Ok(line) => Ok(Some(line)),
         Err(LineFault::NoLine) => Ok(None),
         Err(LineFault::NoMemory) => Err(NoMemory),
-    }
-}
-
-fn is_supported(line: &Line) -> bool
-    ensures { result ≡ is_supported line.now }
-{
-    match line {
-        Line::At(_)
-        | Line::Add(_, _, _)
-        | Line::Set(_)
-        | Line::Get(_, _)
-        | Line::Trial(_, _, _)
-        | Line::Confirm(_, _)
-        | Line::Cancel(_, _)
-        | Line::Extend(_, _, _)
-        | Line::Stop(_, _)
-        | Line::Fail(_) => true,
-        Line::Sub(_) | Line::Open(_, _, _, _) | Line::Turn(_) | Line::Poll(_) | Line::End(_) =>
-            false,
     }
 }
 

@@ -1,17 +1,20 @@
-ghost use Rattle.std.specs.Prelude.{◌≡◌, ◌<◌, ◌++◌, IsTrue, IfOk, OnOk, Some, option_map};
+ghost use Rattle.std.specs.Prelude.{◌≡◌, ◌<◌, ◌++◌, IfOk, OnOk, Some, option_map};
 ghost use Rattle.base_kinds.specs.Limits.{AreInRange};
 ghost use Rattle.script_run.specs.inner.ScriptBooks.{state_after_set};
 ghost use Rattle.script_run.specs.inner.ScriptEnds.{text_at_end};
-ghost use Rattle.script_run.specs.ScriptStates.{fresh as fresh_state, is_supported, CountsAuthor, set_event, state_after};
-ghost use Rattle.script_run.specs.AnswerLines.{event_reply, line_answer};
-ghost use Rattle.script_run.specs.inner.Replies.{Acts, reply_of};
+ghost use Rattle.script_run.specs.ScriptStates.{fresh as fresh_state, CountsAuthor, set_event, state_after};
+ghost use Rattle.script_run.specs.AnswerLines.{event_reply};
+ghost use Rattle.script_run.specs.inner.Replies.{Acts, line_of_opening, reply_at, reply_of};
+ghost use Rattle.script_text.specs.declared.line.Line.TheVariants.{Turn as LineTurn, Poll as LinePoll};
 ghost use Rattle.script_run.specs.declared.run.ScriptEnd.TheVariants.{Whole as EndsWhole};
 
 use crate::answer_lines::{Reply, put_reply};
 use crate::book::{ScriptBook, get, new_book, set};
+use crate::calls::NamedCall;
 use crate::pending::Pending;
 use crate::reopening::restart;
-use base_kinds::{Action, Bytes, Limits, NoMemory, Refusal};
+use crate::subscribing::{Opening, end, open, poll, turn};
+use base_kinds::{Action, Bytes, Limits, NoMemory, Refusal, Seq, SubLines, Text};
 use book_core::BookEnd;
 use commit_report::put_log;
 use schema_core::Schema;
@@ -25,6 +28,8 @@ pub struct ScriptState {
     book: ScriptBook,
     reading: u64,
     pending: Pending,
+    subs: SubLines,
+    calls: Vec<NamedCall>,
 }
 
 impl Model for ScriptState {
@@ -43,6 +48,8 @@ impl Model for ScriptState {
       limits = s.book.opened.limits;
       reading = s.reading;
       pending = s.pending;
+      subs = s.subs;
+      calls = s.calls.items;
       history = history_in s.book;
       doubt = s.book.doubt;
       arming = s.book.disk.arming;
@@ -60,6 +67,8 @@ impl ScriptState {
             book: new_book(alloc, schema, limits)?,
             reading: 0,
             pending: Pending::nothing(alloc),
+            subs: Seq::empty(alloc),
+            calls: Vec::new(alloc),
         })
     }
 
@@ -75,12 +84,12 @@ impl ScriptState {
     /// Takes the next line, and adds what is printed at it. The answer is whether the script goes on, and it does unless no
     /// book could be opened behind a stop. After want of memory let the state go.
     pub fn act(&mut self, alloc: Global, line: Line, out: &mut Bytes) -> Result<bool, NoMemory>
-        requires supported { IsTrue (is_supported line) }
         requires author { CountsAuthor line }
         ensures { IfOk result (Acts line self.old self.new out.old out.new) }
     {
         let reply = self.take(alloc, line)?;
         if self.book.stopped() {
+            self.calls = Vec::new(alloc);
             return restart(alloc, &mut self.book, self.reading, out);
         }
         put_reply(alloc, reply, out)?;
@@ -90,11 +99,10 @@ impl ScriptState {
     /// Takes the next line's turn, and answers what it is answered.
     #[tactic(auto, unfolding(crate::specs::ScriptStates::state_after))]
     fn take(&mut self, alloc: Global, line: Line) -> Result<Option<Reply>, NoMemory>
-        requires supported { IsTrue (is_supported line) }
         requires author { CountsAuthor line }
         ensures state { OnOk result (self.new ≡ state_after line self.old) }
         ensures reply { IfOk result
-            (λ reply. reply ≡ option_map reply_of (line_answer line self.old)) }
+            (λ reply. reply ≡ reply_at line self.old) }
     {
         match line {
             Line::At(reading) => {
@@ -122,9 +130,59 @@ impl ScriptState {
                 self.book.fail_after(calls)?;
                 Ok(None)
             }
-            Line::Sub(_) | Line::Open(_, _, _, _) | Line::Turn(_) | Line::Poll(_) | Line::End(_) =>
-                unreachable!(),
+            Line::Sub(sub) => {
+                self.subs.push(sub)?;
+                Ok(None)
+            }
+            Line::Open(author, name, mode, only) => {
+                let asked = Opening {
+                    author,
+                    name,
+                    mode,
+                    only,
+                };
+                self.open(alloc, asked)
+            }
+            Line::Turn(name) => self.turn(alloc, name),
+            Line::Poll(name) => self.poll(alloc, name),
+            Line::End(name) => {
+                let reply = end(&mut self.calls, &name);
+                Ok(Some(Reply::Call(reply)))
+            }
         }
+    }
+
+    /// Opens a call with the pending subscriptions.
+    fn open(&mut self, alloc: Global, asked: Opening) -> Result<Option<Reply>, NoMemory>
+        requires { 0 < asked.author }
+        ensures state { OnOk result (self.new ≡ state_after (line_of_opening asked) self.old) }
+        ensures reply { IfOk result (λ reply.
+            reply ≡ reply_at (line_of_opening asked) self.old) }
+    {
+        let subs = std::mem::replace(&mut self.subs, Seq::empty(alloc));
+        let (book, calls) = (&mut self.book, &mut self.calls);
+        let reply = open(alloc, book, calls, self.reading, asked, subs)?;
+        Ok(Some(Reply::Call(reply)))
+    }
+
+    /// Makes a turn of a stream.
+    fn turn(&mut self, alloc: Global, name: Text) -> Result<Option<Reply>, NoMemory>
+        ensures state { OnOk result (self.new ≡ state_after (LineTurn name) self.old) }
+        ensures reply { IfOk result (λ reply. reply ≡ reply_at (LineTurn name) self.old) }
+    {
+        let (book, calls) = (&mut self.book, &mut self.calls);
+        let reply = turn(alloc, book, calls, self.reading, name)?;
+        Ok(Some(Reply::Call(reply)))
+    }
+
+    /// Polls a call.
+    fn poll(&mut self, alloc: Global, name: Text) -> Result<Option<Reply>, NoMemory>
+        ensures state { OnOk result (self.new ≡ state_after (LinePoll name) self.old) }
+        ensures reply { IfOk result (λ reply. reply ≡ reply_at (LinePoll name) self.old) }
+    {
+        let (book, calls) = (&mut self.book, &mut self.calls);
+        let reply = poll(alloc, book, calls, self.reading, name)?;
+        Ok(Some(Reply::Call(reply)))
     }
 
     /// Makes the pending request a Set of this author with this action.

@@ -18,4 +18,6 @@ mod scripts;
 #[cfg(test)]
 mod stops;
 #[cfg(test)]
+mod subscriptions;
+#[cfg(test)]
 mod trials;

@@ -138,10 +138,10 @@ const SCRIPTS: &[(&str, &str, bool)] = &[
         "ok 1000\nrow /lab/big 18446744073709551615\nrow /lab/blob b:AQI=\nrow /lab/rate 1.5\nrow /lab/tags [\"x\",\"y\"]\nstate 1000\nrefused 16 3\nlog\n1 1000 1 apply\n  update /lab\n    /lab/big 18446744073709551615\n    /lab/blob b:AQI=\n    /lab/rate 1.5\n    /lab/tags [\"x\",\"y\"]\n",
         true,
     ),
-    // Lines that are read and have no meaning for scripts as yet.
-    ("sub / change 0\n", "script line 1 refused\n", false),
-    ("open 1 s stream 0\n", "script line 1 refused\n", false),
-    ("fail 0\nturn s\n", "script line 2 refused\n", false),
+    // Lines of subscriptions of which none is open.
+    ("sub / change 0\n", "log\n", true),
+    ("open 1 s stream 0\n", "refused 21 3\nlog\n", true),
+    ("fail 0\nturn s\n", "no stream\nlog\n", true),
     (
         "set 1\nstop 0 256\n",
         "ok 1\nscript line 2 refused\n",

@@ -262,6 +262,160 @@ fn a_doubt_outlives_a_repair_that_fails(rt: HostRuntime) -> Result<(), Fail> {
     Ok(())
 }
 
+/// A script whose failures hit the gate of an append, the repair behind that, and the gate of the next append.
+const FAILING_BEFORE: &str = "at 1000\nupdate /system/config/hostname \"a\"\n";
+
+const FAILING_AFTER: &str =
+    "\nfail 2\nfail 0\nfail 4\nset 1\nset 2\nupdate /system/config/hostname \"b\"\nset 3\nupdate /system/config/hostname \"c\"\nset 4\nget 1 /system\n";
+
+/// What comes of a stop in that script, how the script ends, and what is printed where the attempt doesn't stand and where it does.
+struct Failing {
+    calls: &'static str,
+    stop: Stop,
+    ending: ScriptEnd,
+    without: &'static str,
+    with: &'static str,
+}
+
+/// Failures that still wait when the disk stops hit the three calls of the opening, which ends the script, or the calls behind it.
+/// Whatever stands, no entry was answered with `ok` before.
+const FAILING: &[Failing] = &[
+    Failing {
+        calls: "0",
+        stop: Stop::Without,
+        ending: ScriptEnd::DiskFault,
+        without: "stopped\ndisk fault\n",
+        with: "",
+    },
+    Failing {
+        calls: "1",
+        stop: Stop::Without,
+        ending: ScriptEnd::DiskFault,
+        without: "stopped\ndisk fault\n",
+        with: "",
+    },
+    Failing {
+        calls: "2",
+        stop: Stop::Without,
+        ending: ScriptEnd::DiskFault,
+        without: "stopped\ndisk fault\n",
+        with: "",
+    },
+    Failing {
+        calls: "3",
+        stop: Stop::Closing,
+        ending: ScriptEnd::Whole,
+        without: "refused 19 14\nstopped\nreopened 0\nrefused 19 14\nok 1000\nrow /system/config/hostname \"c\"\nstate 1000\nlog\n1 1000 4 apply\n  update /system/config/hostname\n    /system/config/hostname \"c\"\n",
+        with: "refused 19 14\nstopped\nreopened 1\nrefused 19 14\nok 1001\nrow /system/config/hostname \"c\"\nstate 1001\nlog\n1 1000 1 apply\n  update /system/config/hostname\n    /system/config/hostname \"a\"\n2 1001 4 apply\n  update /system/config/hostname\n    /system/config/hostname \"c\"\n",
+    },
+    Failing {
+        calls: "4",
+        stop: Stop::Closing,
+        ending: ScriptEnd::Whole,
+        without: "refused 19 14\nrefused 19 14\nstopped\nreopened 0\nrefused 19 14\nrefused 8 5\nlog\n",
+        with: "refused 19 14\nrefused 19 14\nstopped\nreopened 1\nrefused 19 14\nrow /system/config/hostname \"a\"\nstate 1000\nlog\n1 1000 1 apply\n  update /system/config/hostname\n    /system/config/hostname \"a\"\n",
+    },
+    Failing {
+        calls: "5",
+        stop: Stop::Without,
+        ending: ScriptEnd::DiskFault,
+        without: "refused 19 14\nrefused 19 14\nstopped\ndisk fault\n",
+        with: "",
+    },
+    Failing {
+        calls: "6",
+        stop: Stop::Without,
+        ending: ScriptEnd::DiskFault,
+        without: "refused 19 14\nrefused 19 14\nstopped\ndisk fault\n",
+        with: "",
+    },
+    Failing {
+        calls: "7",
+        stop: Stop::Without,
+        ending: ScriptEnd::DiskFault,
+        without: "refused 19 14\nrefused 19 14\nstopped\ndisk fault\n",
+        with: "",
+    },
+    Failing {
+        calls: "8",
+        stop: Stop::Opening,
+        ending: ScriptEnd::Whole,
+        without: "refused 19 14\nrefused 19 14\nstopped\nreopened 0\nok 1000\nrow /system/config/hostname \"c\"\nstate 1000\nlog\n1 1000 4 apply\n  update /system/config/hostname\n    /system/config/hostname \"c\"\n",
+        with: "refused 19 14\nrefused 19 14\nstopped\nreopened 1\nok 1001\nrow /system/config/hostname \"c\"\nstate 1001\nlog\n1 1000 3 apply\n  update /system/config/hostname\n    /system/config/hostname \"b\"\n2 1001 4 apply\n  update /system/config/hostname\n    /system/config/hostname \"c\"\n",
+    },
+    Failing {
+        calls: "9",
+        stop: Stop::Closing,
+        ending: ScriptEnd::Whole,
+        without: "refused 19 14\nrefused 19 14\nrefused 19 14\nstopped\nreopened 0\nrefused 8 5\nlog\n",
+        with: "refused 19 14\nrefused 19 14\nrefused 19 14\nstopped\nreopened 1\nrow /system/config/hostname \"b\"\nstate 1000\nlog\n1 1000 3 apply\n  update /system/config/hostname\n    /system/config/hostname \"b\"\n",
+    },
+    Failing {
+        calls: "10",
+        stop: Stop::Closing,
+        ending: ScriptEnd::Whole,
+        without: "refused 19 14\nrefused 19 14\nrefused 19 14\nstopped\nreopened 0\nrefused 8 5\nlog\n",
+        with: "refused 19 14\nrefused 19 14\nrefused 19 14\nstopped\nreopened 1\nrow /system/config/hostname \"b\"\nstate 1000\nlog\n1 1000 3 apply\n  update /system/config/hostname\n    /system/config/hostname \"b\"\n",
+    },
+    Failing {
+        calls: "11",
+        stop: Stop::Without,
+        ending: ScriptEnd::Whole,
+        without: "refused 19 14\nrefused 19 14\nrefused 19 14\nstopped\nreopened 0\nrefused 8 5\nlog\n",
+        with: "",
+    },
+];
+
+impl Failing {
+    fn by(&self, stands: bool) -> &'static str {
+        if stands { self.with } else { self.without }
+    }
+
+    /// What is printed where the disk stops with this fill.
+    fn printed(&self, filling: &Filling) -> &'static str {
+        match self.stop {
+            Stop::None | Stop::Without => self.without,
+            Stop::With => self.with,
+            Stop::Opening => self.by(filling.opens),
+            Stop::Closing => self.by(filling.stays_open),
+        }
+    }
+}
+
+/// Whether that script prints this with a stop of this fill, and ends so.
+fn failing_prints(
+    rt: &impl Abort,
+    alloc: Global,
+    row: &Failing,
+    fill: &'static str,
+    printed: &'static str,
+) -> bool {
+    let script = joined(
+        rt,
+        alloc,
+        &[FAILING_BEFORE, "stop ", row.calls, " ", fill, FAILING_AFTER],
+    );
+    prints(rt, alloc, LIMITS, script.as_bytes(), printed, row.ending)
+}
+
+#[test]
+fn a_stop_falls_on_a_failed_gate_its_repair_and_the_next_append(
+    rt: HostRuntime,
+) -> Result<(), Fail> {
+    let alloc = rt.alloc();
+    for row in FAILING.iter() {
+        let calls = row.calls;
+        for filling in FILLS.iter() {
+            let printed = row.printed(filling);
+            assert!(rt;
+                failing_prints(&rt, alloc, row, filling.fill, printed),
+                "stop {calls}"
+            );
+        }
+    }
+    Ok(())
+}
+
 /// Scripts, what they print, and whether each of their lines is taken: else a call of the disk fails in an opening.
 const WAITING: &[(&str, &str, bool)] = &[
     // A failure that falls on the call of a stop is spent with it.

@@ -1,5 +1,5 @@
 -- A script's book, what a turn leaves of it, and what the openings behind a stop do.
-use Rattle.std.specs.Prelude.{◌≡◌, ℕ, suc, ◌<◌, List, [], ◌∷◌, ◌++◌, Bool, true, false, length, Option, None, Some}
+use Rattle.std.specs.Prelude.{◌≡◌, ℕ, suc, ◌<◌, List, [], ◌∷◌, ◌++◌, Bool, true, false, length, Option, None, Some, Result}
 use Rattle.base_kinds.specs.declared.path.Elem.{Elem}
 use Rattle.base_kinds.specs.declared.entry.Ask.{Ask}
 use Rattle.base_kinds.specs.declared.request.SetAsk.{SetAsk}
@@ -20,7 +20,9 @@ use Rattle.base_kinds.specs.declared.entry.Entry.{Entry}
 use Rattle.book_port.specs.Opened.{reopened, rules_in}
 use Rattle.script_run.specs.Requests.{nothing_pending}
 use Rattle.script_run.specs.ScriptStates.{ScriptState, book_behind}
-use Rattle.script_run.specs.Turns.{BookState, book_after, failed_call, turn}
+use Rattle.script_run.specs.Turns.{BookState, book_after, failed_call, look_event, looked_by, turn}
+use Rattle.base_kinds.specs.declared.entry.View.{View}
+use Rattle.base_kinds.specs.declared.refusal.Refusal.{Refusal}
 use Rattle.script_run.specs.Stops.{Image, IsImageOf, OpensAgain, Restarted, calls_to_open, histories_behind}
 use Rattle.script_run.specs.Restarts.{restart_text}
 use Rattle.script_run.specs.declared.reopening.Reopening.{Reopening}
@@ -69,6 +71,15 @@ abbrev pub read_event : ℕ → ℕ → List Elem → Event
 read_event reading author pattern =
     record { reading = reading; author = author; request = Get (pattern ∷ []) }
 
+-- A look of a subscription is to the history what a read of nothing is, whoever takes it: the event of the clock alone.
+abbrev pub left_by_look : Option (List (List Elem)) → ℕ → BookView FuseView → BookState
+left_by_look None reading book = state_of book
+left_by_look (Some patterns) reading book = left_by (look_event reading) book
+
+-- what it shows
+abbrev pub looked_at : Option (List (List Elem)) → ℕ → BookView FuseView → Result View Refusal
+looked_at look reading book = looked_by (left_by_look look reading book).failed (history_in book) reading look
+
 -- the state behind a Set
 abbrev pub state_after_set : Event → ScriptState → ScriptState
 state_after_set event state = let left = book_behind (Some event) state in
@@ -77,6 +88,8 @@ state_after_set event state = let left = book_behind (Some event) state in
       limits = state.limits;
       reading = state.reading;
       pending = nothing_pending;
+      subs = state.subs;
+      calls = state.calls;
       history = left.history;
       doubt = left.doubt;
       arming = left.arming;

@@ -16,12 +16,13 @@ use Rattle.base_kinds.specs.Step.{after_expiry}
 use Rattle.disk_model.specs.Arming.{Arming, unarmed}
 use Rattle.script_text.specs.declared.line.Line.{Line}
 use Rattle.script_text.specs.declared.line.Line.TheVariants as lines
+use Rattle.script_text.specs.Grammar.{IsLine}
 use Rattle.script_run.specs.AnswerLines.{line_answer}
 use Rattle.script_run.specs.ScriptStates.{ScriptState, fresh, rules_in, CountsAuthor, line_event, book_behind, state_after}
 use Rattle.script_text.specs.Lines.{lines_of}
 use Rattle.script_run.specs.Restarts.{Takes}
 use Rattle.script_run.specs.ScriptOctets.{within_limit}
-use Rattle.script_run.specs.Scripts.{IsScriptLine, RunsScript}
+use Rattle.script_run.specs.Scripts.{RunsScript}
 use Rattle.script_run.specs.declared.run.ScriptEnd.{ScriptEnd}
 
 -- the state behind these lines, where the disk stops in none of them
@@ -139,7 +140,7 @@ MakesSoundTrees =
 
 -- the octets are no line that lets the disk stop
 abbrev pub HasNoStop : List ℕ → Type 0
-HasNoStop octets = (line : Line) → IsScriptLine octets line → LetsRun line
+HasNoStop octets = (line : Line) → IsLine octets line → LetsRun line
 
 abbrev pub HaveNoStops : List ℕ → Type 0
 HaveNoStops script = AllByRecursion HasNoStop (lines_of (within_limit script))

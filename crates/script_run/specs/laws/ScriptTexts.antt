@@ -1,17 +1,19 @@
 -- What a script prints that has no line but those that scripts may have.
 use Rattle.std.specs.Prelude.{◌≡◌, ℕ, List, [], ◌∷◌, ◌++◌, false, codes, ⊤}
-use Rattle.std.specs.List.{flat_map}
+use Rattle.std.specs.List.{AllByRecursion, flat_map}
 use Rattle.base_kinds.specs.declared.entry.Limits.{Limits}
 use Rattle.base_kinds.specs.Events.{Event, event_answers, history_after_all}
 use Rattle.base_kinds.specs.Rules.{rules_of}
 use Rattle.base_kinds.specs.Schema.{SchemaNode}
 use Rattle.commit_report.specs.Logs.{log_text}
 use Rattle.script_text.specs.declared.line.Line.{Line}
+use Rattle.script_text.specs.declared.line.Line.TheVariants as kinds
 use Rattle.script_text.specs.Lines.{lines_of}
+use Rattle.script_text.specs.Grammar.{IsLine}
 use Rattle.script_run.specs.AnswerLines.{answer_lines, line_text}
 use Rattle.script_run.specs.ScriptOctets.{is_too_long}
 use Rattle.script_run.specs.ScriptStates.{ScriptState, fresh, state_after}
-use Rattle.script_run.specs.Scripts.{IsScriptLine, RunsScript}
+use Rattle.script_run.specs.Scripts.{RunsScript}
 use Rattle.script_run.specs.declared.run.ScriptEnd.{ScriptEnd}
 use Rattle.script_run.specs.declared.run.ScriptEnd.TheVariants.{Whole}
 use Rattle.script_run.specs.laws.ScriptLaws.{LetPass, LetRun, script_events, state_behind}
@@ -22,7 +24,7 @@ AreScriptLines [] [] = ⊤
 AreScriptLines [] (line ∷ lines) = ⊥
 AreScriptLines (octets ∷ others) [] = ⊥
 AreScriptLines (octets ∷ others) (line ∷ lines) =
-    IsScriptLine octets line × AreScriptLines others lines
+    IsLine octets line × AreScriptLines others lines
 
 -- what is printed at these lines, one after another
 abbrev pub texts_of : List Line → ScriptState → List ℕ
@@ -49,9 +51,22 @@ events_text schema limits events =
     flat_map answer_lines (event_answers (rules_of schema limits) [] events)
     ++ (codes "log\n" ++ log_text (history_after_all (rules_of schema limits) [] events))
 
--- where no line lets the disk fail or stop, what is printed are the answers to the events that the lines are
+-- the line is none of a subscription
+abbrev pub IsPlain : Line → Type 0
+IsPlain (kinds.Sub line) = ⊥
+IsPlain (kinds.Open author name mode only) = ⊥
+IsPlain (kinds.Turn name) = ⊥
+IsPlain (kinds.Poll name) = ⊥
+IsPlain (kinds.End name) = ⊥
+IsPlain _ = Unit {0}
+
+abbrev pub ArePlain : List Line → Type 0
+ArePlain = AllByRecursion IsPlain
+
+-- where no line lets the disk fail or stop, and none is of a subscription, what is printed are the answers to the events that the
+-- lines are
 abbrev pub AnswersEvents : Type 0
 AnswersEvents =
-    (schema : List SchemaNode) (limits : Limits) (lines : List Line) → LetPass lines →
+    (schema : List SchemaNode) (limits : Limits) (lines : List Line) → LetPass lines → ArePlain lines →
     whole_text schema limits lines
     ≡ events_text schema limits (script_events lines (fresh schema limits))

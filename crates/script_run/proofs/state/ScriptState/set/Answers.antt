@@ -10,5 +10,5 @@ returns-clause-reply c =
     let inside = c.self.inside in
     let reply = c.in_ok-reply.reply in
     let asked = c.in_ok-request.ensures ∙ ap (set_ask c.args.action) c.replace-pending.ensures.value in
-    let is = replied inside.book inside.reading inside.pending c.args.author c.args.action c.in_ok-request.request reply asked c.in_ok-reply.ensures.reply in
+    let is = replied inside.book inside.reading inside.pending inside.subs inside.calls.items c.args.author c.args.action c.in_ok-request.request reply asked c.in_ok-reply.ensures.reply in
     ap (λ r. Some (replies.Set r)) (subst (λ (s : ScriptState). reply ≡ set_reply s c.args.author c.args.action) c.self.view_is is)
