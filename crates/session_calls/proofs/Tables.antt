@@ -9,61 +9,34 @@ use Rattle.std.proofs.lemmas.List.{append-nil}
 use Rattle.std.proofs.lemmas.List.Sums.{fold-append}
 use Rattle.h2_events.specs.declared.event.RecvEvent.{RecvEvent}
 use Rattle.session_calls.specs.declared.request.Request.{Request}
-use Rattle.session_calls.specs.declared.request.Asked.{Asked}
 use Rattle.session_calls.specs.declared.open_call.OpenCall.{OpenCall}
-use Rattle.session_calls.specs.declared.open_call.Step.{Step}
-use Rattle.session_calls.specs.declared.open_call.Step.TheVariants as steps
-use Rattle.session_calls.specs.Calls.{Call, stream_of, call_after, asked_by}
-use Rattle.session_calls.specs.Requests.{is_on, unless_asked, still_open, open_after, open_call, request_of, request_on, request_with, requests_after, requests}
-use Rattle.session_calls.specs.inner.Tables.{KeepsCall, KeepsAll, IsStep}
+use Rattle.session_calls.specs.Calls.{Call, stream_of, call_after}
+use Rattle.session_calls.specs.Requests.{is_on, still_open, open_after, open_call, asks_more, requests_of, requests_on, requests_with, requests_after, requests}
+use Rattle.session_calls.specs.inner.Tables.{KeepsCall, KeepsAll}
 
-more_after : (before events : List RecvEvent) (event : RecvEvent) → requests_after before (events ++ event ∷ []) ≡ requests_after before events ++ request_with (before ++ events) event
-more_after before [] event = append-nil (request_with before event) ∙ sym (ap (λ (heard : List RecvEvent). request_with heard event) (append-nil before))
+more_after : (before events : List RecvEvent) (event : RecvEvent) → requests_after before (events ++ event ∷ []) ≡ requests_after before events ++ requests_with (before ++ events) event
+more_after before [] event = append-nil (requests_with before event) ∙ sym (ap (λ (heard : List RecvEvent). requests_with heard event) (append-nil before))
 more_after before (e ∷ events) event =
-    ap (λ (rs : List Request). request_with before e ++ rs) (more_after (before ++ e ∷ []) events event)
-    ∙ sym (append_assoc (request_with before e) (requests_after (before ++ e ∷ []) events) (request_with ((before ++ e ∷ []) ++ events) event))
-    ∙ ap (λ (heard : List RecvEvent). (request_with before e ++ requests_after (before ++ e ∷ []) events) ++ request_with heard event) (append_assoc before (e ∷ []) events)
+    ap (λ (rs : List Request). requests_with before e ++ rs) (more_after (before ++ e ∷ []) events event)
+    ∙ sym (append_assoc (requests_with before e) (requests_after (before ++ e ∷ []) events) (requests_with ((before ++ e ∷ []) ++ events) event))
+    ∙ ap (λ (heard : List RecvEvent). (requests_with before e ++ requests_after (before ++ e ∷ []) events) ++ requests_with heard event) (append_assoc before (e ∷ []) events)
 
-pub requests_more : (heard : List RecvEvent) (event : RecvEvent) → requests (heard ++ event ∷ []) ≡ requests heard ++ request_with heard event
+pub requests_more : (heard : List RecvEvent) (event : RecvEvent) → requests (heard ++ event ∷ []) ≡ requests heard ++ requests_with heard event
 requests_more heard event = more_after [] heard event
 
 pub open_more : (stream : ℕ) (heard : List RecvEvent) (event : RecvEvent) → open_call stream (heard ++ event ∷ []) ≡ open_after stream (open_call stream heard) event
 open_more stream heard event = fold-append (open_after stream) None heard (event ∷ [])
-
--- ---- a step
-
-abbrev pub kept_of : Step → Option OpenCall
-kept_of steps.None = None
-kept_of (steps.Open kept) = Some kept
-kept_of (steps.Asked what) = None
-
-abbrev pub requested : ℕ → Step → List Request
-requested stream steps.None = []
-requested stream (steps.Open kept) = []
-requested stream (steps.Asked what) = record { stream = stream; asked = what } ∷ []
-
-pub step_kept : (step : Step) (call : Option Call) → IsStep step call → KeepsCall (kept_of step) (still_open call)
-step_kept steps.None call is = subst (λ (c : Option Call). KeepsCall None (still_open c)) (sym is) tt
-step_kept (steps.Open kept) None is = is
-step_kept (steps.Open kept) (Some call) is = subst (λ (a : Option Asked). KeepsCall (Some kept) (unless_asked a (Some call))) (sym is.1) is
-step_kept (steps.Asked what) call is = subst (λ (a : Option Asked). KeepsCall None (unless_asked a call)) (sym is) tt
-
-pub step_requested : (stream : ℕ) (step : Step) (call : Option Call) → IsStep step call → request_of stream (asked_by call) ≡ requested stream step
-step_requested stream steps.None call is = ap (λ (c : Option Call). request_of stream (asked_by c)) is
-step_requested stream (steps.Open kept) None is = refl
-step_requested stream (steps.Open kept) (Some call) is = ap (request_of stream) is.1
-step_requested stream (steps.Asked what) call is = ap (request_of stream) is
 
 -- ---- the table
 
 same_key : (s q : ℕ) → is_eq (nat_cmp s q) ≡ nat_eq s q
 same_key s q = grind (arith, common_steps)
 
-pub request_at : (heard : List RecvEvent) (event : RecvEvent) (stream : ℕ) → stream_of event ≡ Some stream → request_with heard event ≡ request_of stream (asked_by (call_after event (open_call stream heard)))
-request_at heard event stream is = ap (request_on heard event) is
+pub requests_at : (heard : List RecvEvent) (event : RecvEvent) (stream : ℕ) → stream_of event ≡ Some stream → requests_with heard event ≡ requests_of stream (asks_more event (open_call stream heard))
+requests_at heard event stream is = ap (requests_on heard event) is
 
-pub request_nowhere : (heard : List RecvEvent) (event : RecvEvent) → stream_of event ≡ None → request_with heard event ≡ []
-request_nowhere heard event is = ap (request_on heard event) is
+pub requests_nowhere : (heard : List RecvEvent) (event : RecvEvent) → stream_of event ≡ None → requests_with heard event ≡ []
+requests_nowhere heard event is = ap (requests_on heard event) is
 
 -- the call of a stream behind one event more
 abbrev after_on : ℕ → Option ℕ → RecvEvent → Option Call → Option Call

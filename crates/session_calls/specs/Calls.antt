@@ -1,5 +1,5 @@
 -- A call as it is heard, and what it asks for (gRPC over HTTP/2, "Requests").
-use Rattle.std.specs.Prelude.{ℕ, List, [], ◌∷◌, ◌++◌, Bool, true, false, ◌||◌, if◌then◌else◌, Option, Some, None, option_map}
+use Rattle.std.specs.Prelude.{ℕ, List, [], ◌∷◌, ◌++◌, Bool, true, false, ◌||◌, Option, Some, None, option_map}
 use Rattle.base_kinds.specs.declared.refusal.Refusal.{Refusal}
 use Rattle.base_kinds.specs.declared.refusal.Refusal.TheVariants as refusals
 use Rattle.hpack_block.specs.declared.header.Header.{Header}
@@ -15,6 +15,7 @@ use Rattle.grpc_core.specs.Messages.{Cut, cut}
 use Rattle.grpc_core.specs.Heads.{head_of}
 use Rattle.session_calls.specs.declared.request.Asked.{Asked}
 use Rattle.session_calls.specs.declared.request.Asked.TheVariants as asks
+use Rattle.session_calls.specs.declared.request.Later.TheVariants as later
 
 -- the headers that opened the stream, if their list wasn't too long, the octets of its DATA so far, and whether the peer
 -- has ended the stream
@@ -52,64 +53,96 @@ refusal_of faults.Compressed = refusals.Compressed
 refusal_of faults.TooLarge = refusals.TooLarge
 refusal_of faults.NoMemory = refusals.NoMemory
 
--- A unary call has just one message, and a Subscribe call begins with its first one, whatever follows (gNMI 3.5.1.1).
+-- ---- a unary call
+
+-- it has just one message
 abbrev pub one_message : Method → List (List ℕ) → List ℕ → Asked
 one_message method (message ∷ []) [] = asks.Call method message
 one_message method _ _ = asks.Refused refusals.BadMessage
 
-abbrev pub first_message : List (List ℕ) → Refusal → Asked
-first_message [] refusal = asks.Refused refusal
-first_message (message ∷ messages) refusal = asks.Subscribe message
+-- what it asks when it is over, for a fault if there is one
+abbrev pub unary_end : Method → List (List ℕ) → List ℕ → Option Refusal → Asked
+unary_end method messages rest (Some refusal) = asks.Refused refusal
+unary_end method messages rest None = one_message method messages rest
 
--- what a call asks for with these messages and the octets behind them, once all of it that matters was heard
-abbrev pub whole_call : Method → List (List ℕ) → List ℕ → Asked
-whole_call methods.Capabilities messages rest = one_message methods.Capabilities messages rest
-whole_call methods.Get messages rest = one_message methods.Get messages rest
-whole_call methods.Set messages rest = one_message methods.Set messages rest
-whole_call methods.Subscribe messages rest = first_message messages refusals.BadSubscribe
-
--- and what with a fault behind these messages
-abbrev pub faulty_call : Method → List (List ℕ) → Refusal → Asked
-faulty_call methods.Capabilities messages refusal = asks.Refused refusal
-faulty_call methods.Get messages refusal = asks.Refused refusal
-faulty_call methods.Set messages refusal = asks.Refused refusal
-faulty_call methods.Subscribe messages refusal = first_message messages refusal
+-- ---- a Subscribe call (gNMI 3.5.1.1)
 
 abbrev pub has_message : List (List ℕ) → Bool
 has_message [] = false
 has_message (message ∷ messages) = true
 
--- All that matters was heard when the peer has ended the stream, and of a Subscribe call with its first message.
-abbrev pub is_whole : Method → List (List ℕ) → Bool → Bool
-is_whole methods.Capabilities messages ended = ended
-is_whole methods.Get messages ended = ended
-is_whole methods.Set messages ended = ended
-is_whole methods.Subscribe messages ended = ended || has_message messages
+-- what it asks with these messages, of which the first one begins it, unless it has begun
+abbrev pub further : Bool → List (List ℕ) → List Asked
+further begun [] = []
+further false (message ∷ messages) = asks.Subscribe message ∷ further true messages
+further true (message ∷ messages) = asks.Later (later.Message message) ∷ further true messages
 
--- A fault is answered as soon as it stands, and a message when the call is whole.
-abbrev pub asked_in : Method → Cut → Option SplitFault → Bool → Option Asked
-asked_in method messages (Some fault) ended =
-    Some (faulty_call method messages.messages (refusal_of fault))
-asked_in method messages None ended =
-    if is_whole method messages.messages ended
-    then Some (whole_call method messages.messages messages.rest) else None
+-- What its end asks, for a fault if there is one. A call that hasn't begun is refused.
+abbrev pub subscribe_end : Bool → Option Refusal → Asked
+subscribe_end true (Some refusal) = asks.Later (later.Fault refusal)
+subscribe_end true None = asks.Later later.End
+subscribe_end false (Some refusal) = asks.Refused refusal
+subscribe_end false None = asks.Refused refusals.BadSubscribe
 
-abbrev pub asked_of : Method → Cut → Bool → Option Asked
-asked_of method messages ended = asked_in method messages messages.fault ended
+-- ---- a call with these messages
 
-abbrev pub asked_at : CallHead → List ℕ → Bool → Option Asked
-asked_at (heads.Call method) octets ended = asked_of method (cut octets) ended
-asked_at (heads.Http status) octets ended = Some (asks.Http status)
-asked_at (heads.Refused refusal) octets ended = Some (asks.Refused refusal)
+-- while it goes on,
+abbrev pub asks_open : Method → Bool → List (List ℕ) → List Asked
+asks_open methods.Capabilities begun messages = []
+asks_open methods.Get begun messages = []
+asks_open methods.Set begun messages = []
+asks_open methods.Subscribe begun messages = further begun messages
 
-abbrev pub asked_with : Option (List Header) → List ℕ → Bool → Option Asked
-asked_with None octets ended = Some (asks.Refused refusals.TooLarge)
-asked_with (Some headers) octets ended = asked_at (head_of headers) octets ended
+-- and when it is over
+abbrev pub asks_over : Method → Bool → List (List ℕ) → List ℕ → Option Refusal → List Asked
+asks_over methods.Capabilities begun messages rest fault =
+    unary_end methods.Capabilities messages rest fault ∷ []
+asks_over methods.Get begun messages rest fault = unary_end methods.Get messages rest fault ∷ []
+asks_over methods.Set begun messages rest fault = unary_end methods.Set messages rest fault ∷ []
+asks_over methods.Subscribe begun messages rest fault =
+    further begun messages ++ subscribe_end (begun || has_message messages) fault ∷ []
 
--- what a call asks for, if all of it that matters was heard
-abbrev pub asked : Call → Option Asked
-asked call = asked_with call.headers call.octets call.ended
+-- It is over with a fault of its messages, or when the peer has ended the stream.
+abbrev pub asks_of : Method → Bool → List (List ℕ) → List ℕ → Option SplitFault → Bool → List Asked
+asks_of method begun messages rest (Some fault) ended =
+    asks_over method begun messages rest (Some (refusal_of fault))
+asks_of method begun messages rest None true = asks_over method begun messages rest None
+asks_of method begun messages rest None false = asks_open method begun messages
 
-abbrev pub asked_by : Option Call → Option Asked
-asked_by None = None
-asked_by (Some call) = asked call
+-- ---- any call
+
+abbrev pub asks_in : Method → Cut → Bool → List Asked
+asks_in method c ended = asks_of method false c.messages c.rest c.fault ended
+
+abbrev pub asks_at : CallHead → List ℕ → Bool → List Asked
+asks_at (heads.Call method) octets ended = asks_in method (cut octets) ended
+asks_at (heads.Http status) octets ended = asks.Http status ∷ []
+asks_at (heads.Refused refusal) octets ended = asks.Refused refusal ∷ []
+
+abbrev pub asks_with : Option (List Header) → List ℕ → Bool → List Asked
+asks_with None octets ended = asks.Refused refusals.TooLarge ∷ []
+asks_with (Some headers) octets ended = asks_at (head_of headers) octets ended
+
+-- what a call asks with what was heard of it
+abbrev pub asks_by : Option Call → List Asked
+asks_by None = []
+asks_by (Some call) = asks_with call.headers call.octets call.ended
+
+-- ---- its end
+
+abbrev pub ends_with : Option SplitFault → Bool → Bool
+ends_with (Some fault) ended = true
+ends_with None ended = ended
+
+abbrev pub is_over_at : CallHead → List ℕ → Bool → Bool
+is_over_at (heads.Call method) octets ended = ends_with (cut octets).fault ended
+is_over_at (heads.Http status) octets ended = true
+is_over_at (heads.Refused refusal) octets ended = true
+
+abbrev pub is_over_with : Option (List Header) → List ℕ → Bool → Bool
+is_over_with None octets ended = true
+is_over_with (Some headers) octets ended = is_over_at (head_of headers) octets ended
+
+-- A call is over when it asks for nothing more, whatever is heard.
+abbrev pub is_over : Call → Bool
+is_over call = is_over_with call.headers call.octets call.ended

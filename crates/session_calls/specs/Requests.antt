@@ -1,22 +1,19 @@
--- The requests of a connection, in the order in which they are whole.
-use Rattle.std.specs.Prelude.{ℕ, ◌==◌, List, [], ◌∷◌, ◌++◌, Bool, false, if◌then◌else◌, Option, Some, None}
+-- The requests of a connection, in order.
+use Rattle.std.specs.Prelude.{ℕ, ◌==◌, List, [], ◌∷◌, ◌++◌, length, drop, map, Bool, false, if◌then◌else◌, Option, Some, None}
 use Rattle.std.specs.List.{fold}
 use Rattle.h2_events.specs.declared.event.RecvEvent.{RecvEvent}
+use Rattle.h2_events.specs.declared.event.RecvEvent.TheVariants as events
 use Rattle.session_calls.specs.declared.request.Asked.{Asked}
 use Rattle.session_calls.specs.declared.request.Request.{Request}
-use Rattle.session_calls.specs.Calls.{Call, stream_of, call_after, asked_by}
+use Rattle.session_calls.specs.Calls.{Call, stream_of, call_after, asks_by, is_over}
 
 abbrev pub is_on : ℕ → Option ℕ → Bool
 is_on stream None = false
 is_on stream (Some other) = other == stream
 
--- A call is open until it is known what it asks for.
-abbrev pub unless_asked : Option Asked → Option Call → Option Call
-unless_asked None call = call
-unless_asked (Some asked) call = None
-
 abbrev pub still_open : Option Call → Option Call
-still_open call = unless_asked (asked_by call) call
+still_open None = None
+still_open (Some call) = if is_over call then None else Some call
 
 abbrev pub open_after : ℕ → Option Call → RecvEvent → Option Call
 open_after stream call event = if is_on stream (stream_of event) then still_open (call_after event call) else call
@@ -25,22 +22,31 @@ open_after stream call event = if is_on stream (stream_of event) then still_open
 abbrev pub open_call : ℕ → List RecvEvent → Option Call
 open_call stream heard = fold (open_after stream) None heard
 
-abbrev pub request_of : ℕ → Option Asked → List Request
-request_of stream None = []
-request_of stream (Some asked) = record { stream = stream; asked = asked } ∷ []
+-- what it had asked before an event, with which a call may begin
+abbrev pub asked_before : RecvEvent → Option Call → List Asked
+asked_before (events.Call stream headers ended) call = []
+asked_before (events.TooLong stream) call = []
+asked_before _ call = asks_by call
 
--- the request that is whole with an event, behind the events before it
-abbrev pub request_on : List RecvEvent → RecvEvent → Option ℕ → List Request
-request_on heard event None = []
-request_on heard event (Some stream) = request_of stream (asked_by (call_after event (open_call stream heard)))
+-- what it asks with the event
+abbrev pub asks_more : RecvEvent → Option Call → List Asked
+asks_more event call = drop (length (asked_before event call)) (asks_by (call_after event call))
 
-abbrev pub request_with : List RecvEvent → RecvEvent → List Request
-request_with heard event = request_on heard event (stream_of event)
+abbrev pub requests_of : ℕ → List Asked → List Request
+requests_of stream asks = map (λ asked. record { stream = stream; asked = asked }) asks
+
+-- the requests that come with an event, behind the events before it
+abbrev pub requests_on : List RecvEvent → RecvEvent → Option ℕ → List Request
+requests_on heard event None = []
+requests_on heard event (Some stream) = requests_of stream (asks_more event (open_call stream heard))
+
+abbrev pub requests_with : List RecvEvent → RecvEvent → List Request
+requests_with heard event = requests_on heard event (stream_of event)
 
 -- the requests of events behind others
 abbrev pub requests_after : List RecvEvent → List RecvEvent → List Request
 requests_after heard [] = []
-requests_after heard (event ∷ events) = request_with heard event ++ requests_after (heard ++ event ∷ []) events
+requests_after heard (event ∷ events) = requests_with heard event ++ requests_after (heard ++ event ∷ []) events
 
 abbrev pub requests : List RecvEvent → List Request
 requests events = requests_after [] events

@@ -6,5 +6,5 @@ mod open_call;
 mod request;
 mod table;
 
-pub use request::{Asked, Request};
+pub use request::{Asked, Later, Request, Requests};
 pub use table::CallTable;

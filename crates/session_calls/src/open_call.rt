@@ -1,10 +1,11 @@
-ghost use Rattle.std.specs.Prelude.{◌≡◌, ℕ, List, [], length, take, IfOk, Some, Option, option_map};
-ghost use Rattle.session_calls.specs.Calls.{Call, with_piece, call_after, is_whole, one_message, first_message, whole_call, faulty_call};
-ghost use Rattle.session_calls.specs.inner.Tables.{Keeps, KeepsCall, IsStep};
+ghost use Rattle.std.specs.Prelude.{◌≡◌, ℕ, List, [], ◌∷◌, ◌++◌, ◌||◌, length, drop, take, IfOk, Some, None, Option, option_map};
+ghost use Rattle.session_calls.specs.Calls.{Call, with_piece, asks_by, asks_with, asks_over, asks_open, further, has_message, one_message, subscribe_end, unary_end};
+ghost use Rattle.session_calls.specs.Requests.{still_open};
+ghost use Rattle.session_calls.specs.inner.Tables.{Keeps, KeepsCall, IsStep, kept_messages};
 
-use crate::request::Asked;
+use crate::request::{Asked, Later};
 use base_kinds::Refusal;
-use base_lists::{Bytes, NoMemory};
+use base_lists::{Bytes, NoMemory, Seq};
 use grpc_core::{CallHead, Messages, Method, SplitFault, Splitter, head_of};
 use h2_events::RecvEvent;
 use hpack_block::Headers;
@@ -15,16 +16,40 @@ use std::alloc::Global;
 pub(crate) struct OpenCall {
     pub(crate) method: Method,
     pub(crate) splitter: Splitter,
-    /// Its messages so far, two of them at most.
+    /// Of a unary call its messages so far, two of them at most.
     pub(crate) messages: Messages,
+    /// Whether it had a message.
+    pub(crate) begun: bool,
 }
 
-/// What becomes of a call with an event on its stream.
+/// What becomes of a call with an event, and what it asks then.
 #[derive(Drop)]
-pub(crate) enum Step {
-    None,
-    Open(OpenCall),
-    Asked(Asked),
+pub(crate) struct Step {
+    pub(crate) call: Option<OpenCall>,
+    pub(crate) asked: Seq<Asked>,
+}
+
+/// Nothing is asked.
+fn silent(alloc: Global, call: Option<OpenCall>) -> Step
+    ensures call { result.call ≡ call }
+    ensures asked { result.asked ≡ [] }
+{
+    Step {
+        call,
+        asked: Seq::empty(alloc),
+    }
+}
+
+/// This is asked, and then nothing more.
+fn asks_once(alloc: Global, asked: Asked) -> Result<Step, NoMemory>
+    ensures { IfOk result (λ step. (step.call ≡ None) × (step.asked ≡ asked ∷ [])) }
+{
+    let mut all = Seq::empty(alloc);
+    all.push(asked)?;
+    Ok(Step {
+        call: None,
+        asked: all,
+    })
 }
 
 /// The call of a stream after an event on it.
@@ -34,51 +59,47 @@ pub(crate) fn call_after(
     event: &RecvEvent,
 ) -> Result<Step, NoMemory>
     ensures { (before : Option Call) → KeepsCall call before
-        → IfOk result (λ step. IsStep step (call_after event.now before)) }
+        → IfOk result (λ step. IsStep step event.now before) }
 {
     match event {
-        RecvEvent::Call(_, headers, ended) => Ok(opened(alloc, headers, *ended)),
-        RecvEvent::TooLong(_) => Ok(Step::Asked(Asked::Refused(Refusal::TooLarge))),
+        RecvEvent::Call(_, headers, ended) => opened(alloc, headers, *ended),
+        RecvEvent::TooLong(_) => asks_once(alloc, Asked::Refused(Refusal::TooLarge)),
         RecvEvent::Piece(_, octets, _, ended) => continued(alloc, call, octets.items(), *ended),
         RecvEvent::Trailers(_) => continued(alloc, call, &[], true),
-        RecvEvent::Reset(_) => Ok(Step::None),
-        RecvEvent::StreamFault(_, _) => Ok(Step::None),
-        RecvEvent::Settings(_, _) => Ok(unchanged(call)),
-        RecvEvent::SettingsAck => Ok(unchanged(call)),
-        RecvEvent::Ping(_) => Ok(unchanged(call)),
-        RecvEvent::Window(_, _) => Ok(unchanged(call)),
-        RecvEvent::GoAway => Ok(unchanged(call)),
-    }
-}
-
-fn unchanged(call: Option<OpenCall>) -> Step
-    ensures { (before : Option Call) → KeepsCall call before → IsStep result before }
-{
-    match call {
-        None => Step::None,
-        Some(call) => Step::Open(call),
+        RecvEvent::Reset(_) => Ok(silent(alloc, None)),
+        RecvEvent::StreamFault(_, _) => Ok(silent(alloc, None)),
+        RecvEvent::Settings(_, _) => Ok(silent(alloc, call)),
+        RecvEvent::SettingsAck => Ok(silent(alloc, call)),
+        RecvEvent::Ping(_) => Ok(silent(alloc, call)),
+        RecvEvent::Window(_, _) => Ok(silent(alloc, call)),
+        RecvEvent::GoAway => Ok(silent(alloc, call)),
     }
 }
 
 /// The call that headers open.
-fn opened(alloc: Global, headers: &Headers, ended: bool) -> Step
-    ensures { IsStep result
-        (Some (record { headers = Some headers.now; octets = []; ended = ended })) }
+fn opened(alloc: Global, headers: &Headers, ended: bool) -> Result<Step, NoMemory>
+    ensures kept { IfOk result (λ step. KeepsCall step.call (still_open
+        (Some (record { headers = Some headers.now; octets = []; ended = ended })))) }
+    ensures asked { IfOk result (λ step. step.asked ≡ asks_with (Some headers.now) [] ended) }
 {
     match head_of(headers) {
         CallHead::Call(method) => {
             if ended {
-                Step::Asked(whole_call(method, Messages::empty(alloc), 0))
+                over(alloc, method, false, Messages::empty(alloc), 0, None)
             } else {
-                Step::Open(OpenCall {
-                    method,
-                    splitter: Splitter::make(alloc),
-                    messages: Messages::empty(alloc),
-                })
+                Ok(silent(
+                    alloc,
+                    Some(OpenCall {
+                        method,
+                        splitter: Splitter::make(alloc),
+                        messages: Messages::empty(alloc),
+                        begun: false,
+                    }),
+                ))
             }
         }
-        CallHead::Http(status) => Step::Asked(Asked::Http(status)),
-        CallHead::Refused(refusal) => Step::Asked(Asked::Refused(refusal)),
+        CallHead::Http(status) => asks_once(alloc, Asked::Http(status)),
+        CallHead::Refused(refusal) => asks_once(alloc, Asked::Refused(refusal)),
     }
 }
 
@@ -88,11 +109,13 @@ fn continued(
     octets: &[u8],
     ended: bool,
 ) -> Result<Step, NoMemory>
-    ensures { (before : Option Call) → KeepsCall call before
-        → IfOk result (λ step. IsStep step (option_map (with_piece octets.now ended) before)) }
+    ensures { (before : Option Call) → KeepsCall call before → IfOk result (λ step.
+        KeepsCall step.call (still_open (option_map (with_piece octets.now ended) before))
+        × (step.asked ≡ drop (length (asks_by before))
+        (asks_by (option_map (with_piece octets.now ended) before)))) }
 {
     match call {
-        None => Ok(Step::None),
+        None => Ok(silent(alloc, None)),
         Some(call) => call.with_piece(alloc, octets, ended),
     }
 }
@@ -100,32 +123,32 @@ fn continued(
 impl OpenCall {
     /// The call with the next piece of its octets, and whether the peer ends it with them.
     fn with_piece(self, alloc: Global, octets: &[u8], ended: bool) -> Result<Step, NoMemory>
-        ensures { (call : Call) → Keeps self call
-            → IfOk result (λ step. IsStep step (Some (with_piece octets.now ended call))) }
+        ensures { (call : Call) → Keeps self call → IfOk result (λ step.
+            KeepsCall step.call (still_open (Some (with_piece octets.now ended call)))
+            × (step.asked ≡ drop (length (asks_by (Some call)))
+            (asks_by (Some (with_piece octets.now ended call))))) }
     {
         let OpenCall {
             method,
             mut splitter,
             mut messages,
+            begun,
         } = self;
         match splitter.feed(alloc, octets, &mut messages) {
+            Err(SplitFault::NoMemory) => Err(NoMemory),
             Err(SplitFault::Compressed) => {
-                Ok(Step::Asked(faulty_call(method, messages, Refusal::Compressed)))
+                let fault = Some(Refusal::Compressed);
+                over(alloc, method, begun, messages, 0, fault)
             }
             Err(SplitFault::TooLarge) => {
-                Ok(Step::Asked(faulty_call(method, messages, Refusal::TooLarge)))
+                let fault = Some(Refusal::TooLarge);
+                over(alloc, method, begun, messages, 0, fault)
             }
-            Err(SplitFault::NoMemory) => Err(NoMemory),
             Ok(()) => {
-                if is_whole(method, messages.items(), ended) {
-                    Ok(Step::Asked(whole_call(method, messages, splitter.held())))
+                if ended {
+                    over(alloc, method, begun, messages, splitter.held(), None)
                 } else {
-                    let messages = first_two(messages);
-                    Ok(Step::Open(OpenCall {
-                        method,
-                        splitter,
-                        messages,
-                    }))
+                    going_on(alloc, method, begun, messages, splitter)
                 }
             }
         }
@@ -141,18 +164,6 @@ fn first_two(messages: Messages) -> Messages
     Messages::from_vec(messages)
 }
 
-/// Whether all of a call was heard that matters.
-fn is_whole(method: Method, messages: &[Bytes], ended: bool) -> bool
-    ensures { result ≡ is_whole method messages.now ended }
-{
-    match method {
-        Method::Capabilities => ended,
-        Method::Get => ended,
-        Method::Set => ended,
-        Method::Subscribe => ended || !messages.is_empty(),
-    }
-}
-
 /// What a unary call asks for that the peer has ended, with so many octets behind its messages.
 fn one_message(method: Method, messages: Messages, held: usize) -> Asked
     ensures { (rest : List ℕ) → length rest ≡ held → result ≡ one_message method messages rest }
@@ -164,36 +175,152 @@ fn one_message(method: Method, messages: Messages, held: usize) -> Asked
     }
 }
 
-/// What a Subscribe call asks for: its first message, and where it has none it is refused with this.
-fn first_message(messages: Messages, refusal: Refusal) -> Asked
-    ensures { result ≡ first_message messages refusal }
+/// What a unary call asks for that is over, for a fault where there is one.
+fn unary_end(method: Method, messages: Messages, held: usize, fault: Option<Refusal>) -> Asked
+    ensures { (rest : List ℕ) → length rest ≡ held
+        → result ≡ unary_end method messages rest fault }
 {
-    match messages.into_vec().into_iter().next() {
-        Some(message) => Asked::Subscribe(message),
-        None => Asked::Refused(refusal),
+    match fault {
+        Some(refusal) => Asked::Refused(refusal),
+        None => one_message(method, messages, held),
     }
 }
 
-/// What a call asks for of which all was heard that matters, with so many octets behind its messages.
-fn whole_call(method: Method, messages: Messages, held: usize) -> Asked
-    ensures { (rest : List ℕ) → length rest ≡ held → result ≡ whole_call method messages rest }
+/// What a Subscribe call asks with further messages: the first one begins it, unless it has begun.
+fn further(alloc: Global, begun: bool, messages: Messages) -> Result<Seq<Asked>, NoMemory>
+    ensures { IfOk result (λ asked. asked ≡ further begun messages) }
 {
-    match method {
-        Method::Capabilities => one_message(method, messages, held),
-        Method::Get => one_message(method, messages, held),
-        Method::Set => one_message(method, messages, held),
-        Method::Subscribe => first_message(messages, Refusal::BadSubscribe),
+    let mut asked = Seq::empty(alloc);
+    let mut begun = begun;
+    for message in messages.into_vec() {
+        if begun {
+            asked.push(Asked::Later(Later::Message(message)))?;
+        } else {
+            asked.push(Asked::Subscribe(message))?;
+        }
+        begun = true;
+    }
+    Ok(asked)
+}
+
+/// What the end of a Subscribe call asks, for a fault where there is one, behind the beginning of the call or before it.
+fn subscribe_end(begun: bool, fault: Option<Refusal>) -> Asked
+    ensures { result ≡ subscribe_end begun fault }
+{
+    match fault {
+        Some(refusal) => {
+            if begun {
+                Asked::Later(Later::Fault(refusal))
+            } else {
+                Asked::Refused(refusal)
+            }
+        }
+        None => {
+            if begun {
+                Asked::Later(Later::End)
+            } else {
+                Asked::Refused(Refusal::BadSubscribe)
+            }
+        }
     }
 }
 
-/// What a call asks for that has a fault behind its messages.
-fn faulty_call(method: Method, messages: Messages, refusal: Refusal) -> Asked
-    ensures { result ≡ faulty_call method messages refusal }
+/// A Subscribe call that is over with these messages.
+fn subscribe_over(
+    alloc: Global,
+    begun: bool,
+    messages: Messages,
+    fault: Option<Refusal>,
+) -> Result<Step, NoMemory>
+    ensures { IfOk result (λ step. (step.call ≡ None)
+        × (step.asked ≡ further begun messages ++ subscribe_end (begun || has_message messages) fault ∷ [])) }
+{
+    let begins = begun || !messages.is_empty();
+    let mut asked = further(alloc, begun, messages)?;
+    asked.push(subscribe_end(begins, fault))?;
+    Ok(Step { call: None, asked })
+}
+
+/// A call that is over with these messages, and so many octets behind them.
+fn over(
+    alloc: Global,
+    method: Method,
+    begun: bool,
+    messages: Messages,
+    held: usize,
+    fault: Option<Refusal>,
+) -> Result<Step, NoMemory>
+    ensures { (rest : List ℕ) → length rest ≡ held → IfOk result (λ step. (step.call ≡ None)
+        × (step.asked ≡ asks_over method begun messages rest fault)) }
 {
     match method {
-        Method::Capabilities => Asked::Refused(refusal),
-        Method::Get => Asked::Refused(refusal),
-        Method::Set => Asked::Refused(refusal),
-        Method::Subscribe => first_message(messages, refusal),
+        Method::Capabilities => asks_once(alloc, unary_end(method, messages, held, fault)),
+        Method::Get => asks_once(alloc, unary_end(method, messages, held, fault)),
+        Method::Set => asks_once(alloc, unary_end(method, messages, held, fault)),
+        Method::Subscribe => subscribe_over(alloc, begun, messages, fault),
     }
+}
+
+/// A call that goes on.
+fn going_on(
+    alloc: Global,
+    method: Method,
+    begun: bool,
+    messages: Messages,
+    splitter: Splitter,
+) -> Result<Step, NoMemory>
+    ensures { IfOk result (λ step. (step.asked ≡ asks_open method begun messages)
+        × (step.call ≡ Some (record {
+          method = method;
+          splitter = splitter;
+          messages = kept_messages method messages;
+          begun = begun || has_message messages;
+        }))) }
+{
+    match method {
+        Method::Capabilities => Ok(unary_going_on(alloc, method, begun, messages, splitter)),
+        Method::Get => Ok(unary_going_on(alloc, method, begun, messages, splitter)),
+        Method::Set => Ok(unary_going_on(alloc, method, begun, messages, splitter)),
+        Method::Subscribe => {
+            let begins = begun || !messages.is_empty();
+            let asked = further(alloc, begun, messages)?;
+            let call = OpenCall {
+                method,
+                splitter,
+                messages: Messages::empty(alloc),
+                begun: begins,
+            };
+            Ok(Step {
+                call: Some(call),
+                asked,
+            })
+        }
+    }
+}
+
+fn unary_going_on(
+    alloc: Global,
+    method: Method,
+    begun: bool,
+    messages: Messages,
+    splitter: Splitter,
+) -> Step
+    ensures { (result.asked ≡ []) × (result.call ≡ Some (record {
+      method = method;
+      splitter = splitter;
+      messages = take 2 messages;
+      begun = begun || has_message messages;
+    })) }
+{
+    let begun = begun || !messages.is_empty();
+    let messages = first_two(messages);
+    silent(
+        alloc,
+        Some(OpenCall {
+            method,
+            splitter,
+            messages,
+            begun,
+        }),
+    )
 }

@@ -1,14 +1,25 @@
 use base_kinds::Refusal;
-use base_lists::Bytes;
+use base_lists::{Bytes, Seq};
 use grpc_core::Method;
 
-/// What a call asks for, once all of it that matters was heard.
+/// What comes behind the first message of a Subscribe call.
+#[derive(Debug, Drop)]
+pub enum Later {
+    Message(Bytes),
+    /// A fault of its messages, for which the call is refused.
+    Fault(Refusal),
+    /// The peer has ended the call.
+    End,
+}
+
+/// Something that a call asks for.
 #[derive(Debug, Drop)]
 pub enum Asked {
     /// A unary method, and the message for it.
     Call(Method, Bytes),
     /// The first message of a Subscribe call.
     Subscribe(Bytes),
+    Later(Later),
     /// No call of gRPC: it is answered with this HTTP status alone.
     Http(u16),
     Refused(Refusal),
@@ -20,3 +31,5 @@ pub struct Request {
     pub stream: u32,
     pub asked: Asked,
 }
+
+pub type Requests = Seq<Request>;

@@ -1,12 +1,12 @@
-ghost use Rattle.std.specs.Prelude.{◌≡◌, [], ◌∷◌, ◌++◌, option_to_list, List, OnOk, OnErr, IfOk, IfSome};
+ghost use Rattle.std.specs.Prelude.{◌≡◌, [], ◌∷◌, ◌++◌, List, OnOk, OnErr, IfOk};
 ghost use Rattle.h2_events.specs.declared.event.RecvEvent.{RecvEvent as Event};
 ghost use Rattle.session_calls.specs.Calls.{stream_of};
-ghost use Rattle.session_calls.specs.Requests.{requests, request_with};
+ghost use Rattle.session_calls.specs.Requests.{requests, requests_of, requests_with};
 ghost use Rattle.session_calls.specs.inner.Tables.{KeepsAll};
 
 use crate::open_call::{OpenCall, Step, call_after};
-use crate::request::Request;
-use base_lists::{NoMemory, Remembered};
+use crate::request::{Asked, Request, Requests};
+use base_lists::{NoMemory, Remembered, Seq};
 use h2_events::RecvEvent;
 use std::alloc::Global;
 use std::collections::BTreeMap;
@@ -43,17 +43,17 @@ impl CallTable {
         }
     }
 
-    /// Hears the next event, and answers the request that is whole with it. Where memory ran out all calls are lost.
-    pub fn hear(&mut self, alloc: Global, event: &RecvEvent) -> Result<Option<Request>, NoMemory>
+    /// Hears the next event, and answers the requests that come with it. Where memory ran out all calls are lost.
+    pub fn hear(&mut self, alloc: Global, event: &RecvEvent) -> Result<Requests, NoMemory>
         ensures heard { OnOk result (self.new ≡ self.old ++ event.now ∷ []) }
-        ensures request { IfOk result (λ request.
-            requests (self.old ++ event.now ∷ []) ≡ requests self.old ++ option_to_list request) }
+        ensures request { IfOk result (λ more.
+            requests (self.old ++ event.now ∷ []) ≡ requests self.old ++ more) }
         ensures lost { OnErr result (self.new ≡ []) }
     {
         match hear_in(alloc, &mut self.calls, event) {
-            Ok(request) => {
+            Ok(more) => {
                 self.heard.remember(event);
-                Ok(request)
+                Ok(more)
             }
             Err(fault) => {
                 self.calls = BTreeMap::new(alloc);
@@ -64,28 +64,39 @@ impl CallTable {
     }
 }
 
+/// What is asked on a stream.
+fn requests_of(alloc: Global, stream: u32, asked: Seq<Asked>) -> Result<Requests, NoMemory>
+    ensures { IfOk result (λ more. more ≡ requests_of stream asked) }
+{
+    let mut more = Requests::empty(alloc);
+    for asked in asked.into_vec() {
+        more.push(Request { stream, asked })?;
+    }
+    Ok(more)
+}
+
 fn hear_in(
     alloc: Global,
     calls: &mut BTreeMap<u32, OpenCall>,
     event: &RecvEvent,
-) -> Result<Option<Request>, NoMemory>
+) -> Result<Requests, NoMemory>
     ensures keeps { (heard : List Event) → KeepsAll heard calls.old
         → OnOk result (KeepsAll (heard ++ event.now ∷ []) calls.new) }
     ensures request { (heard : List Event) → KeepsAll heard calls.old
-        → IfOk result (λ request. option_to_list request ≡ request_with heard event.now) }
+        → IfOk result (λ more. more ≡ requests_with heard event.now) }
 {
     let Some(stream) = stream_of(event) else {
-        return Ok(None);
+        return Ok(Requests::empty(alloc));
     };
     let call = calls.remove(&stream);
-    match call_after(alloc, call, event)? {
-        Step::None => Ok(None),
-        Step::Open(call) => {
+    let Step { call, asked } = call_after(alloc, call, event)?;
+    match call {
+        None => {}
+        Some(call) => {
             calls.insert(stream, call)?;
-            Ok(None)
         }
-        Step::Asked(asked) => Ok(Some(Request { stream, asked })),
     }
+    requests_of(alloc, stream, asked)
 }
 
 /// The stream of an event of a call.

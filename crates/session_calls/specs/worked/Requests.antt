@@ -1,5 +1,5 @@
 -- Calls as they are heard, and the requests that they make.
-use Rattle.std.specs.Prelude.{◌≡◌, refl, ℕ, List, [], ◌∷◌, true, false, codes}
+use Rattle.std.specs.Prelude.{◌≡◌, refl, ℕ, List, [], ◌∷◌, ◌++◌, true, false, codes}
 use Rattle.base_kinds.specs.declared.refusal.Refusal.TheVariants as refusals
 use Rattle.hpack_block.specs.declared.header.Header.{Header}
 use Rattle.hpack_block.specs.StaticTable.{pair}
@@ -7,6 +7,7 @@ use Rattle.h2_events.specs.declared.event.RecvEvent.TheVariants.{Call, TooLong, 
 use Rattle.grpc_core.specs.declared.method.Method.TheVariants as methods
 use Rattle.session_calls.specs.declared.request.Asked.{Asked}
 use Rattle.session_calls.specs.declared.request.Asked.TheVariants as asks
+use Rattle.session_calls.specs.declared.request.Later.TheVariants as later
 use Rattle.session_calls.specs.declared.request.Request.{Request}
 use Rattle.session_calls.specs.Requests.{requests}
 
@@ -60,16 +61,21 @@ reset = refl
 abbrev subscribe : List Header
 subscribe = headers_to (codes "/gnmi.gNMI/Subscribe")
 
--- A Subscribe call asks with its first message, before the peer ends the stream, and whatever stands behind it.
-pub first_message :
-    requests (Call 1 subscribe false ∷ Piece 1 (0 ∷ 0 ∷ 0 ∷ 0 ∷ 1 ∷ 7 ∷ []) 6 false ∷ Piece 1 (0 ∷ 0 ∷ 0 ∷ 0 ∷ 0 ∷ []) 5 true ∷ [])
-    ≡ asks_for 1 (asks.Subscribe (7 ∷ []))
-first_message = refl
+-- A Subscribe call asks with its first message, before the peer ends the stream, with each one behind it, and with its end.
+pub first_and_later :
+    requests (Call 1 subscribe false ∷ Piece 1 (0 ∷ 0 ∷ 0 ∷ 0 ∷ 1 ∷ 7 ∷ []) 6 false ∷ Piece 1 (0 ∷ 0 ∷ 0 ∷ 0 ∷ 0 ∷ 0 ∷ []) 6 false ∷ Piece 1 (0 ∷ 0 ∷ 0 ∷ 1 ∷ 8 ∷ []) 5 true ∷ [])
+    ≡ asks_for 1 (asks.Subscribe (7 ∷ [])) ++ asks_for 1 (asks.Later (later.Message [])) ++ asks_for 1 (asks.Later (later.Message (8 ∷ []))) ++ asks_for 1 (asks.Later later.End)
+first_and_later = refl
 
 pub fault_behind_it :
-    requests (Call 1 subscribe false ∷ Piece 1 (0 ∷ 0 ∷ 0 ∷ 0 ∷ 1 ∷ 7 ∷ 1 ∷ 0 ∷ 0 ∷ 0 ∷ 9 ∷ []) 11 false ∷ [])
-    ≡ asks_for 1 (asks.Subscribe (7 ∷ []))
+    requests (Call 1 subscribe false ∷ Piece 1 (0 ∷ 0 ∷ 0 ∷ 0 ∷ 1 ∷ 7 ∷ 1 ∷ 0 ∷ 0 ∷ 0 ∷ 9 ∷ []) 11 false ∷ Piece 1 (0 ∷ 0 ∷ 0 ∷ 0 ∷ 0 ∷ []) 5 true ∷ [])
+    ≡ asks_for 1 (asks.Subscribe (7 ∷ [])) ++ asks_for 1 (asks.Later (later.Fault refusals.Compressed))
 fault_behind_it = refl
+
+pub ended_within_a_later_one :
+    requests (Call 1 subscribe false ∷ Piece 1 (0 ∷ 0 ∷ 0 ∷ 0 ∷ 1 ∷ 7 ∷ 0 ∷ 0 ∷ []) 8 true ∷ [])
+    ≡ asks_for 1 (asks.Subscribe (7 ∷ [])) ++ asks_for 1 (asks.Later later.End)
+ended_within_a_later_one = refl
 
 pub fault_before_it :
     requests (Call 1 subscribe false ∷ Piece 1 (1 ∷ 0 ∷ 0 ∷ 0 ∷ 9 ∷ []) 5 false ∷ Piece 1 (0 ∷ 0 ∷ 0 ∷ 0 ∷ 0 ∷ []) 5 true ∷ [])

@@ -1,8 +1,7 @@
 use Rattle.std.proofs.Common.{◌≡◌, List, ◌++◌, sym, ap, ◌∙◌}
-use Rattle.std.specs.Prelude.{option_to_list}
 use Rattle.h2_events.specs.declared.event.RecvEvent.{RecvEvent}
 use Rattle.session_calls.specs.declared.request.Request.{Request}
-use Rattle.session_calls.specs.Requests.{requests, request_with}
+use Rattle.session_calls.specs.Requests.{requests, requests_with}
 use Rattle.session_calls.proofs.Tables.{requests_more}
 use Rattle.session_calls.proofs.table.CallTable.hear.Goals as goal
 
@@ -12,5 +11,5 @@ returns-in-Ok-clause-request c =
     let event = c.args.event.now in
     let view = c.self.view_is in
     let same : heard ≡ c.self.inside.heard = cc in
-    let more : option_to_list c.in-Ok.request ≡ request_with heard event = c.in-Ok.ensures.request c.self.inside.heard c.self.invariant ∙ ap (λ (hs : List RecvEvent). request_with hs event) (sym same) in
+    let more : c.in-Ok.more ≡ requests_with heard event = c.in-Ok.ensures.request c.self.inside.heard c.self.invariant ∙ ap (λ (hs : List RecvEvent). requests_with hs event) (sym same) in
     requests_more heard event ∙ ap (λ (rs : List Request). requests heard ++ rs) (sym more)
