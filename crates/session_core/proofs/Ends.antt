@@ -26,7 +26,7 @@ use Rattle.book_port.specs.Ports.{PortView}
 use Rattle.session_core.specs.declared.how.How.{How}
 use Rattle.session_core.specs.declared.how.How.TheVariants as hows
 use Rattle.session_core.specs.Runs.{Outside, SessionRun, outside_of, start_of}
-use Rattle.session_core.specs.Serving.{Start, IsServed}
+use Rattle.session_core.specs.Serving.{Start, IsServed, standing_of}
 use Rattle.session_core.specs.Writing.{IsWritten}
 use Rattle.session_core.specs.inner.Ends.{how_of}
 use Rattle.session_core.specs.inner.Places.{IsNew, IsWrittenSoFar, IsServing, HasStopped, course_of, place_of}
@@ -55,6 +55,8 @@ module _ {S : Type 0} (seen : S → Output) (schema : List SchemaNode) (before :
         inputs = e.inputs;
         waiting = e.waiting;
         owed = e.owed;
+        calls = e.calls;
+        round = e.round;
         given = stopped.given;
         partly = e.partly;
         made = e.made;
@@ -78,6 +80,8 @@ module _ {S : Type 0} (seen : S → Output) (schema : List SchemaNode) (before :
         inputs = e.inputs;
         waiting = e.waiting;
         owed = e.owed;
+        calls = e.calls;
+        round = e.round;
         given = stopped.given;
         partly = e.partly;
         made = e.made;
@@ -99,6 +103,8 @@ module _ {S : Type 0} (seen : S → Output) (schema : List SchemaNode) (before :
         inputs = e.inputs;
         waiting = e.waiting;
         owed = e.owed;
+        calls = e.calls;
+        round = e.round;
         given = stopped.given;
         partly = e.partly;
         made = e.partly;
@@ -152,14 +158,19 @@ nothing_read = record {
   part = part_of_nothing;
 }
 
-nothing_asked : (start : Start) → IsServed start (course_of [] [] [] [] start.port start.readings)
+nothing_asked : (start : Start) → IsServed start (course_of [] [] [] [] (standing_of start.port [] start.readings []))
 nothing_asked start = record {
-  answers = [];
+  rounds = [];
+  last = [];
+  given = refl;
+  frame = tt;
+  whole = tt;
+  recent = tt;
   asked = refl;
-  answered = refl;
+  done = refl;
+  timely = tt;
   clock = sym (append-nil start.readings);
   said = λ stream. inl refl;
-  timely = tt;
   opened = λ stream. tt;
   one_order = refl;
 }
@@ -167,7 +178,7 @@ nothing_asked start = record {
 module _ {S : Type 0} (seen : S → Output) (schema : List SchemaNode) (source : Source) (port : PortView) (readings : List ℕ) where
   pub begins : (recv : State) (count : ℕ) (heard : List RecvEvent) (old new : WireView S) → recv ≡ Ok new_reader → count ≡ 0 → IsNew old → heard ≡ []
       → (old.condition ≡ condition.New → Does seen false condition.Open [] (greeted old.line) (Ok tt) old new)
-      → IsServing seen schema (outside_of source (seen old.sink) port readings) source count (place_of recv new heard [] [] port readings)
+      → IsServing seen schema (outside_of source (seen old.sink) port readings) source count (place_of recv new heard [] [] (standing_of port [] readings []))
   begins recv count heard old new recv_is none is_new silent greets =
       let does = greets is_new.condition_is in
       let inputs_are : new.inputs ≡ [] = ap (λ (w : WireView S). w.inputs) does.1 ∙ append-nil old.inputs ∙ is_new.none_given in
@@ -191,10 +202,9 @@ module _ {S : Type 0} (seen : S → Output) (schema : List SchemaNode) (source :
               wrote = subst (λ (is : List Input). Wrote (octets_of (frames_of is)) (seen old.sink) (seen new.sink)) (sym inputs_are) does.0;
             };
             heard_is = silent;
-            served = subst (λ (is : List Input). IsServed start (course_of [] is [] [] port readings)) (sym inputs_are) (nothing_asked start);
+            served = subst (λ (is : List Input). IsServed start (course_of [] is [] [] (standing_of port [] readings []))) (sym inputs_are) (nothing_asked start);
           };
-          none_owed = refl;
-          behind = tt;
+          rest = record { none_owed = refl; behind = tt; turned = tt };
         };
       }
 
@@ -206,6 +216,8 @@ module _ {S : Type 0} (seen : S → Output) (schema : List SchemaNode) (source :
     inputs = [];
     waiting = [];
     owed = [];
+    calls = [];
+    round = [];
     given = Read-nothing source;
     partly = record { front = []; behind = []; joined = refl; frames = (new_reader, nothing_read) };
     made = record { front = []; behind = []; joined = refl; frames = (new_reader, nothing_read) };

@@ -4,7 +4,13 @@ pub mod Opening
 pub mod Orders
 pub mod Reading
 pub mod Words
-pub mod Timing
+pub mod Rounds
+pub mod Keeping
+pub mod Apart
+pub mod Moves
+pub mod CallTurns
+pub mod Laters
+pub mod Turning
 pub mod Serving
 pub mod Steps
 pub mod Frames
@@ -15,3 +21,4 @@ pub mod Streams
 pub mod Opened
 pub mod Subscribing
 pub mod OnceRuns
+pub mod StreamRuns

@@ -1,5 +1,5 @@
 -- What a ONCE call says is a run of a stream.
-use Rattle.std.proofs.Common.{◌≡◌, inl, inr, ℕ, List, [], ◌∷◌, ◌++◌, length, refl, sym, ap, ◌∙◌, subst, append_assoc, append-nil}
+use Rattle.std.proofs.Common.{◌≡◌, inl, inr, ℕ, List, [], ◌∷◌, ◌++◌, length, true, refl, sym, ap, ◌∙◌, subst, append_assoc, append-nil}
 use Rattle.std.specs.Prelude.{Some, Result, Ok, Err, take}
 use Rattle.std.specs.List.{AllByRecursion}
 use Rattle.std.proofs.Math.Nat.{le_refl}
@@ -14,7 +14,6 @@ use Rattle.book_port.specs.Follows.{Turn}
 use Rattle.book_port.specs.Ports.{PortView, LooksOnce, TakesTurn, TakesOne, TakesTurns}
 use Rattle.gnmi_kinds.specs.declared.reply.SubReply.{SubReply}
 use Rattle.rpc_desk.specs.declared.subscribe_steps.SubscribeStep.{SubscribeStep}
-use Rattle.session_calls.specs.declared.request.Asked.{Asked}
 use Rattle.session_calls.specs.declared.request.Asked.TheVariants as asks
 use Rattle.sub_plan.specs.declared.plan.Plan.{Plan}
 use Rattle.sub_plan.specs.Groups.{patterns_of}
@@ -24,7 +23,7 @@ use Rattle.stream_laws.specs.Follows.{first_moment, started_messages}
 use Rattle.stream_laws.proofs.Following.{runs_begin, starts_say, runs_stay}
 use Rattle.subscribe_calls.specs.Calls.{CallView, new_call, replies_octets}
 use Rattle.subscribe_calls.specs.Turns.{Answers}
-use Rattle.session_core.specs.Answers.{Answer, IsOnce, IsBegun, IsStepped, IsAnswer, IsAnswerTo, AreAnswered, told, told_all, turns_of}
+use Rattle.session_core.specs.Deeds.{Deed, Doing, Service, IsOnce, IsBegun, IsFirst, IsAnswer, IsDeed, IsDone, AreDone, told, told_all, said_once, turns_in}
 use Rattle.session_core.specs.laws.RunLaws.{AsksOnce, SaysState, SaysStateOrEnds}
 use Rattle.session_core.proofs.History.{turns_taken}
 
@@ -36,11 +35,11 @@ turn_goes_on old new turn result taken = (
   ap (λ (p : PortView). p.seen) taken.new_is ∙ taken.goes_on ∙ ap (λ (h : List Entry). h ++ taken.more) taken.begins.whole ∙ append_assoc old.seen taken.begins.others taken.more,
 )
 
-one_goes_on : (old new : PortView) (turn : Turn) → TakesOne old turn new → (more : List Entry) × (new.seen ≡ old.seen ++ more)
+pub one_goes_on : (old new : PortView) (turn : Turn) → TakesOne old turn new → (more : List Entry) × (new.seen ≡ old.seen ++ more)
 one_goes_on old new turn (inl (result, taken)) = turn_goes_on old new turn result taken
 one_goes_on old new turn (inr (result, taken)) = turn_goes_on old new turn result taken
 
-turns_go_on : (old new : PortView) (turns : List Turn) → TakesTurns old turns new → (more : List Entry) × (new.seen ≡ old.seen ++ more)
+pub turns_go_on : (old new : PortView) (turns : List Turn) → TakesTurns old turns new → (more : List Entry) × (new.seen ≡ old.seen ++ more)
 turns_go_on old new [] same = ([], ap (λ (p : PortView). p.seen) same ∙ sym (append-nil old.seen))
 turns_go_on old new (turn ∷ turns) (next, one, rest) =
     let first = one_goes_on old next turn one in
@@ -58,7 +57,7 @@ take_whole (item ∷ items) = ap (λ (rest : _). item ∷ rest) (take_whole item
 at_end : (plan : Plan) (h : List Entry) → view_at plan.lines h (length h) ≡ view_of h (patterns_of plan.lines)
 at_end plan h = ap (λ (front : List Entry). view_of front (patterns_of plan.lines)) (take_whole h)
 
-module _ (schema : List SchemaNode) (plan : Plan) (h : List Entry) (answer : Answer) (turn : Turn) (taken : answer.turn ≡ Some turn) (more : List Entry) (goes_on : h ≡ turn.left ++ more) where
+module _ (schema : List SchemaNode) (plan : Plan) (h : List Entry) (deed : Deed) (turn : Turn) (taken : deed.turn ≡ Some turn) (more : List Entry) (goes_on : h ≡ turn.left ++ more) where
   begins : IsStreamRun plan (first_moment turn.reading (length turn.left)) [] (started_messages plan (view_of turn.left (patterns_of plan.lines))) h
   begins =
       let first = first_moment turn.reading (length turn.left) in
@@ -68,55 +67,55 @@ module _ (schema : List SchemaNode) (plan : Plan) (h : List Entry) (answer : Ans
       (sym (starts_say plan view) ∙ ap (started_messages plan) (at_end plan turn.left))
       (subst (λ (h : List Entry). IsStreamRun plan first [] (first_messages plan.updates_only view) h) (sym goes_on) at.run)
 
-  says : (octets : List (List ℕ)) → octets ≡ replies_octets schema plan (started_messages plan (view_of turn.left (patterns_of plan.lines))) → answer.said ≡ told_all (Ok octets) → SaysState schema plan h answer
+  says : (octets : List (List ℕ)) → octets ≡ replies_octets schema plan (started_messages plan (view_of turn.left (patterns_of plan.lines))) → deed.said ≡ told_all octets true → SaysState schema plan h deed
   says octets written told = record {
     turn = turn;
     taken = taken;
     messages = started_messages plan (view_of turn.left (patterns_of plan.lines));
     run = begins;
-    told = told ∙ ap (λ (o : List (List ℕ)). told_all (Ok o)) written;
+    told = told ∙ ap (λ (o : List (List ℕ)). told_all o true) written;
   }
 
 -- a look is refused for a fault of the disk, or for want of memory
-refused_so : (schema : List SchemaNode) (plan : Plan) (h : List Entry) (answer : Answer) (from to : PortView) (now : ℕ) (refusal : Refusal) → LooksOnce from now (patterns_of plan.lines) (Err refusal) to
-    → answer.said ≡ told_all (Err refusal) → SaysStateOrEnds schema plan h answer
-refused_so schema plan h answer from to now DiskFault looks told = inr (inl told)
-refused_so schema plan h answer from to now NoMemory looks told = inr (inr told)
-refused_so schema plan h answer from to now refusal looks told = absurd looks.answer
+refused_so : (schema : List SchemaNode) (plan : Plan) (h : List Entry) (deed : Deed) (from to : PortView) (now : ℕ) (refusal : Refusal) → LooksOnce from now (patterns_of plan.lines) (Err refusal) to
+    → deed.said ≡ said_once (Err refusal) → SaysStateOrEnds schema plan h deed
+refused_so schema plan h deed from to now DiskFault looks told = inr (inl told)
+refused_so schema plan h deed from to now NoMemory looks told = inr (inr told)
+refused_so schema plan h deed from to now refusal looks told = absurd looks.answer
 
-answered_so : (schema : List SchemaNode) (plan : Plan) (h : List Entry) (answer : Answer) (from to : PortView) (now : ℕ) (call : CallView) (look : Result View Refusal) (result : Result (List (List ℕ)) Refusal)
-    → (looks : LooksOnce from now (patterns_of plan.lines) look to) → answer.turn ≡ Some looks.turn → (more : List Entry) → h ≡ looks.turn.left ++ more
-    → Answers schema (new_call plan) now look result call → answer.said ≡ told_all result → SaysStateOrEnds schema plan h answer
-answered_so schema plan h answer from to now call (Ok view) (Ok octets) looks taken more goes_on answers told =
-    inl (says schema plan h answer looks.turn taken more goes_on octets (answers.0 ∙ ap (λ (v : View). replies_octets schema plan (started_messages plan v)) looks.answer.0) told)
-answered_so schema plan h answer from to now call (Ok view) (Err NoMemory) looks taken more goes_on answers told = inr (inr told)
-answered_so schema plan h answer from to now call (Ok view) (Err refusal) looks taken more goes_on answers told = absurd answers
-answered_so schema plan h answer from to now call (Err refusal) (Ok octets) looks taken more goes_on answers told = absurd answers
-answered_so schema plan h answer from to now call (Err refusal) (Err other) looks taken more goes_on answers told =
-    refused_so schema plan h answer from to now refusal looks (told ∙ ap (λ (r : Refusal). told_all (Err r)) answers.0)
+answered_so : (schema : List SchemaNode) (plan : Plan) (h : List Entry) (deed : Deed) (from to : PortView) (now : ℕ) (call : CallView) (look : Result View Refusal) (result : Result (List (List ℕ)) Refusal)
+    → (looks : LooksOnce from now (patterns_of plan.lines) look to) → deed.turn ≡ Some looks.turn → (more : List Entry) → h ≡ looks.turn.left ++ more
+    → Answers schema (new_call plan) now look result call → deed.said ≡ said_once result → SaysStateOrEnds schema plan h deed
+answered_so schema plan h deed from to now call (Ok view) (Ok octets) looks taken more goes_on answers told =
+    inl (says schema plan h deed looks.turn taken more goes_on octets (answers.0 ∙ ap (λ (v : View). replies_octets schema plan (started_messages plan v)) looks.answer.0) told)
+answered_so schema plan h deed from to now call (Ok view) (Err NoMemory) looks taken more goes_on answers told = inr (inr told)
+answered_so schema plan h deed from to now call (Ok view) (Err refusal) looks taken more goes_on answers told = absurd answers
+answered_so schema plan h deed from to now call (Err refusal) (Ok octets) looks taken more goes_on answers told = absurd answers
+answered_so schema plan h deed from to now call (Err refusal) (Err other) looks taken more goes_on answers told =
+    refused_so schema plan h deed from to now refusal looks (told ∙ ap (λ (r : Refusal). said_once (Err r)) answers.0)
 
-once_so : (schema : List SchemaNode) (plan : Plan) (answer : Answer) (old next last : PortView) (more : List Entry) → IsOnce schema plan answer old next → last.seen ≡ next.seen ++ more → SaysStateOrEnds schema plan last.seen answer
-once_so schema plan answer old next last more is goes_on =
-    answered_so schema plan last.seen answer old next is.now is.call is.turns.look is.result is.turns.looks is.turned more
-    (goes_on ∙ ap (λ (p : PortView). p.seen ++ more) is.turns.looks.taken.new_is) is.turns.answers is.told
+once_so : (schema : List SchemaNode) (plan : Plan) (deed : Deed) (old next : Service) (last : PortView) (more : List Entry) → IsOnce schema plan deed old next → last.seen ≡ next.port.seen ++ more → SaysStateOrEnds schema plan last.seen deed
+once_so schema plan deed old next last more is goes_on =
+    answered_so schema plan last.seen deed old.port next.port is.turn.now is.after is.turn.turns.look is.result is.turn.turns.looks is.turn.turned more
+    (goes_on ∙ ap (λ (p : PortView). p.seen ++ more) is.turn.turns.looks.taken.new_is) is.turn.turns.answers is.turn.says
 
--- ---- an answer to a ONCE call
+-- ---- a deed for a ONCE call
 
-asked_so : (schema : List SchemaNode) (plan : Plan) (answer : Answer) (old next last : PortView) (more : List Entry) (asks_once : AsksOnce plan answer) → IsAnswerTo schema (asks.Subscribe asks_once.body) answer old next → last.seen ≡ next.seen ++ more
-    → SaysStateOrEnds schema plan last.seen answer
-asked_so schema plan answer old next last more asks_once (inr plain) goes_on = inr (inr plain.says)
-asked_so schema plan answer old next last more asks_once (inl stepped) goes_on =
-    let begun : IsBegun schema plan plan.mode answer old next = subst (λ (s : Result SubscribeStep Refusal). IsStepped schema s answer old next) asks_once.begins stepped in
-    once_so schema plan answer old next last more (subst (λ (m : ListMode). IsBegun schema plan m answer old next) asks_once.once begun) goes_on
+asked_so : (schema : List SchemaNode) (plan : Plan) (deed : Deed) (old next : Service) (last : PortView) (more : List Entry) (asks_once : AsksOnce plan deed) → IsAnswer schema (asks.Subscribe asks_once.body) deed old next → last.seen ≡ next.port.seen ++ more
+    → SaysStateOrEnds schema plan last.seen deed
+asked_so schema plan deed old next last more asks_once (inr plain) goes_on = inr (inr plain.says)
+asked_so schema plan deed old next last more asks_once (inl first) goes_on =
+    let begun : IsBegun schema plan plan.mode deed old next = subst (λ (s : Result SubscribeStep Refusal). IsFirst schema s deed old next) asks_once.begins first in
+    once_so schema plan deed old next last more (subst (λ (m : ListMode). IsBegun schema plan m deed old next) asks_once.once begun) goes_on
 
-one_so : (schema : List SchemaNode) (answer : Answer) (old next last : PortView) (more : List Entry) → IsAnswer schema answer old next → last.seen ≡ next.seen ++ more
-    → (plan : Plan) → AsksOnce plan answer → SaysStateOrEnds schema plan last.seen answer
-one_so schema answer old next last more is goes_on plan asks_once =
-    asked_so schema plan answer old next last more asks_once (subst (λ (a : Asked). IsAnswerTo schema a answer old next) asks_once.asked is) goes_on
+one_so : (schema : List SchemaNode) (deed : Deed) (old next : Service) (last : PortView) (more : List Entry) → IsDeed schema deed old next → last.seen ≡ next.port.seen ++ more
+    → (plan : Plan) → AsksOnce plan deed → SaysStateOrEnds schema plan last.seen deed
+one_so schema deed old next last more is goes_on plan asks_once =
+    asked_so schema plan deed old next last more asks_once (subst (λ (doing : Doing). IsDone schema doing deed old next) asks_once.asked is) goes_on
 
-pub once_calls : (schema : List SchemaNode) (old last : PortView) (answers : List Answer) → AreAnswered schema old answers last
-    → AllByRecursion (λ answer. (plan : Plan) → AsksOnce plan answer → SaysStateOrEnds schema plan last.seen answer) answers
+pub once_calls : (schema : List SchemaNode) (old last : Service) (deeds : List Deed) → AreDone schema old deeds last
+    → AllByRecursion (λ deed. (plan : Plan) → AsksOnce plan deed → SaysStateOrEnds schema plan last.port.seen deed) deeds
 once_calls schema old last [] is = tt
-once_calls schema old last (answer ∷ answers) (next, is, rest) =
-    let later = turns_go_on next last (turns_of answers) (turns_taken schema next last answers rest) in
-    (one_so schema answer old next last later.0 is later.1, once_calls schema next last answers rest)
+once_calls schema old last (deed ∷ deeds) (next, is, rest) =
+    let later = turns_go_on next.port last.port (turns_in deeds) (turns_taken schema next last deeds rest) in
+    (one_so schema deed old next last.port later.0 is later.1, once_calls schema next last deeds rest)

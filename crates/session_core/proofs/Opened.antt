@@ -1,31 +1,26 @@
 -- What the book of a port was opened with stays.
-use Rattle.std.proofs.Common.{◌≡◌, inl, inr, ℕ, List, [], ◌∷◌, Option, Some, None, Result, ap, ◌∙◌}
-use Rattle.base_kinds.specs.declared.refusal.Refusal.{Refusal}
+use Rattle.std.proofs.Common.{◌≡◌, inl, inr, List, [], ◌∷◌, ap, ◌∙◌}
 use Rattle.base_kinds.specs.Schema.{SchemaNode}
-use Rattle.book_port.specs.Follows.{Turn}
-use Rattle.book_port.specs.Ports.{PortView}
-use Rattle.rpc_desk.specs.Answers.{Moves}
-use Rattle.session_calls.specs.declared.request.Asked.{Asked}
-use Rattle.session_calls.specs.declared.request.Asked.TheVariants as asks
-use Rattle.session_core.specs.Answers.{Answer, IsAnswerTo, AreAnswered}
-use Rattle.session_core.proofs.Subscribing.{IsPlainOrOnce, subscribed_so}
+use Rattle.book_port.specs.Ports.{PortView, TakesOne}
+use Rattle.session_core.specs.declared.how.How.{How}
+use Rattle.session_core.specs.Deeds.{Deed, Service, AreDone}
+use Rattle.session_core.specs.Runs.{Outside, SessionRun, start_of}
+use Rattle.session_core.specs.Serving.{deeds_in, first_service, service_of, standing_of}
+use Rattle.session_core.proofs.Moves.{Moved, moves}
 
-moved : (old new : PortView) (now : ℕ) (turn : Option Turn) (result : Result (List ℕ) Refusal) → Moves old now turn result new → new.opened ≡ old.opened
-moved old new now None result moves = ap (λ (p : PortView). p.opened) moves
-moved old new now (Some turn) result moves = ap (λ (p : PortView). p.opened) moves.1.new_is
+one_opened : (old new : PortView) (turn : _) → TakesOne old turn new → new.opened ≡ old.opened
+one_opened old new turn (inl (result, taken)) = ap (λ (p : PortView). p.opened) taken.new_is
+one_opened old new turn (inr (result, taken)) = ap (λ (p : PortView). p.opened) taken.new_is
 
-subscribed : (schema : List SchemaNode) (answer : Answer) (old new : PortView) → IsPlainOrOnce schema answer old new → new.opened ≡ old.opened
-subscribed schema answer old new (inl (said, is)) = ap (λ (p : PortView). p.opened) is.untouched
-subscribed schema answer old new (inr (plan, is)) = ap (λ (p : PortView). p.opened) is.turns.looks.taken.new_is
+pub moved_opened : (deed : Deed) (old new : PortView) → Moved deed old new → new.opened ≡ old.opened
+moved_opened deed old new (inl still) = ap (λ (p : PortView). p.opened) still.same
+moved_opened deed old new (inr moved) = one_opened old new moved.turn moved.takes
 
-answered_once : (schema : List SchemaNode) (asked : Asked) (answer : Answer) (old new : PortView) → IsAnswerTo schema asked answer old new → new.opened ≡ old.opened
-answered_once schema (asks.Call method body) answer old new reply = moved old new reply.now reply.answered.turn reply.result reply.answered.moves
-answered_once schema (asks.Subscribe body) answer old new is = subscribed schema answer old new (subscribed_so schema body answer old new is)
-answered_once schema (asks.Http status) answer old new plain = ap (λ (p : PortView). p.opened) plain.untouched
-answered_once schema (asks.Refused refusal) answer old new plain = ap (λ (p : PortView). p.opened) plain.untouched
+-- deeds leave what the book of the port was opened with
+pub deeds_opened : (schema : List SchemaNode) (old : Service) (deeds : List Deed) (new : Service) → AreDone schema old deeds new → new.port.opened ≡ old.port.opened
+deeds_opened schema old [] new same = ap (λ (s : Service). s.port.opened) same
+deeds_opened schema old (deed ∷ deeds) new (next, first, rest) =
+    deeds_opened schema next deeds new rest ∙ moved_opened deed old.port next.port (moves schema deed old next deed.doing first)
 
--- answers leave what the book of the port was opened with
-pub answered_all : (schema : List SchemaNode) (old : PortView) (answers : List Answer) (new : PortView) → AreAnswered schema old answers new → new.opened ≡ old.opened
-answered_all schema old [] new same = ap (λ (p : PortView). p.opened) same
-answered_all schema old (answer ∷ answers) new (next, first, rest) =
-    answered_all schema next answers new rest ∙ answered_once schema answer.request.asked answer old next first
+pub run_opened : (schema : List SchemaNode) (old : Outside) (how : How) (new : Outside) → SessionRun schema old how new → new.port.opened ≡ old.port.opened
+run_opened schema old how new run = deeds_opened schema (first_service (start_of schema old)) (deeds_in run.served) (service_of (standing_of new.port run.calls new.readings run.round)) run.served.done

@@ -1,5 +1,5 @@
 -- Streams that were opened: requests come on them alone, and none is opened twice.
-use Rattle.std.proofs.Common.{◌≡◌, ◌⊎◌, inl, inr, ℕ, ◌==◌, ◌<◌, ◌≤◌, List, [], ◌∷◌, ◌++◌, Bool, true, false, ◌||◌, refl, sym, ap, ◌∙◌, subst, cond, arith, append_assoc}
+use Rattle.std.proofs.Common.{◌≡◌, ◌⊎◌, inl, inr, ℕ, ◌==◌, ◌<◌, ◌≤◌, List, [], ◌∷◌, ◌++◌, zero, suc, length, drop, Bool, true, false, ◌||◌, refl, sym, ap, ◌∙◌, subst, cond, arith, append_assoc}
 use Rattle.std.specs.Prelude.{Option, Some, None}
 use Rattle.std.specs.List.{AllByRecursion, fold, list_any}
 use Rattle.std.proofs.lemmas.Bool.{eqb-true, eq-eqb, false≢true}
@@ -12,8 +12,8 @@ use Rattle.session_core.specs.Saying.{any_opens}
 use Rattle.std.specs.Prelude.{option_map}
 use Rattle.session_calls.specs.declared.request.Asked.{Asked}
 use Rattle.session_calls.specs.declared.request.Request.{Request}
-use Rattle.session_calls.specs.Calls.{Call, stream_of, call_after, asked, asked_by, with_piece}
-use Rattle.session_calls.specs.Requests.{is_on, still_open, unless_asked, open_after, open_call, request_of, request_on, request_with, requests_after, requests}
+use Rattle.session_calls.specs.Calls.{Call, stream_of, call_after, asks_by, with_piece}
+use Rattle.session_calls.specs.Requests.{is_on, still_open, asked_before, open_after, open_call, requests_of, requests_on, requests_with, requests_after, requests}
 
 or_right : (a b : Bool) → b ≡ true → (a || b) ≡ true
 or_right true b is = refl
@@ -113,14 +113,14 @@ either_opens s stream (event.Ping octets) call at same is = inl is
 either_opens s stream (event.Window on by) call at same is = inl is
 either_opens s stream event.GoAway call at same is = inl is
 
-unless : (asked : Option Asked) (call : Option Call) → IsCall (unless_asked asked call) → IsCall call
-unless None call is = is
-unless (Some asked) call is = absurd is
+unless : (call : Option Call) → IsCall (still_open call) → IsCall call
+unless None is = is
+unless (Some call) is = tt
 
 after_one : (s : ℕ) (at : Option ℕ) (b : Bool) (x : RecvEvent) (call : Option Call) → stream_of x ≡ at → is_on s at ≡ b
     → IsCall (cond b (still_open (call_after x call)) call) → IsCall call ⊎ (opens s x ≡ true)
 after_one s None true x call at same is = absurd (false≢true same)
-after_one s (Some stream) true x call at same is = either_opens s stream x call at same (unless (asked_by (call_after x call)) (call_after x call) is)
+after_one s (Some stream) true x call at same is = either_opens s stream x call at same (unless (call_after x call) is)
 after_one s at false x call at_is same is = inl is
 
 then_opened : (s : ℕ) (x : RecvEvent) (xs : List RecvEvent) (call : Option Call) → (IsCall call ⊎ (opens s x ≡ true)) ⊎ (any_opens s xs ≡ true) → IsCall call ⊎ (any_opens s (x ∷ xs) ≡ true)
@@ -153,16 +153,23 @@ asked_opened s heard x (inr is) = any_opens-append s heard (x ∷ []) ∙ or_rig
 same_itself : (n : ℕ) → (n == n) ≡ true
 same_itself n = eq-eqb n n refl
 
-one_opened : (s : ℕ) (heard : List RecvEvent) (x : RecvEvent) (call : Option Call) (asks : Option Asked) → stream_of x ≡ Some s → call_after x (open_call s heard) ≡ call → asked_by call ≡ asks
-    → AllByRecursion (IsOpened (heard ++ x ∷ [])) (request_of s asks)
-one_opened s heard x call None at is asks = tt
-one_opened s heard x None (Some what) at is asks = absurd cc
-one_opened s heard x (Some call) (Some what) at is asks =
-    (asked_opened s heard x (either_opens s s x (open_call s heard) at (same_itself s) (subst IsCall (sym is) tt)), tt)
+all_on : (s : ℕ) (events : List RecvEvent) (asks : List Asked) → any_opens s events ≡ true → AllByRecursion (IsOpened events) (requests_of s asks)
+all_on s events [] is = tt
+all_on s events (what ∷ asks) is = (is, all_on s events asks is)
 
-request_opened : (heard : List RecvEvent) (x : RecvEvent) (at : Option ℕ) → stream_of x ≡ at → AllByRecursion (IsOpened (heard ++ x ∷ [])) (request_on heard x at)
+none_on : (s : ℕ) (events : List RecvEvent) (n : ℕ) → AllByRecursion (IsOpened events) (requests_of s (drop n []))
+none_on s events zero = tt
+none_on s events (suc n) = tt
+
+asks_opened : (s : ℕ) (heard : List RecvEvent) (x : RecvEvent) (n : ℕ) (call : Option Call) → stream_of x ≡ Some s → call_after x (open_call s heard) ≡ call
+    → AllByRecursion (IsOpened (heard ++ x ∷ [])) (requests_of s (drop n (asks_by call)))
+asks_opened s heard x n None at is = none_on s (heard ++ x ∷ []) n
+asks_opened s heard x n (Some call) at is =
+    all_on s (heard ++ x ∷ []) (drop n (asks_by (Some call))) (asked_opened s heard x (either_opens s s x (open_call s heard) at (same_itself s) (subst IsCall (sym is) tt)))
+
+request_opened : (heard : List RecvEvent) (x : RecvEvent) (at : Option ℕ) → stream_of x ≡ at → AllByRecursion (IsOpened (heard ++ x ∷ [])) (requests_on heard x at)
 request_opened heard x None at = tt
-request_opened heard x (Some s) at = one_opened s heard x (call_after x (open_call s heard)) (asked_by (call_after x (open_call s heard))) at refl refl
+request_opened heard x (Some s) at = asks_opened s heard x (length (asked_before x (open_call s heard))) (call_after x (open_call s heard)) at refl
 
 all_joined : {X : Type 0} (P : X → Type 0) (xs ys : List X) → AllByRecursion P xs → AllByRecursion P ys → AllByRecursion P (xs ++ ys)
 all_joined P [] ys p q = q
@@ -180,10 +187,10 @@ opened_after : (heard xs : List RecvEvent) → AllByRecursion (IsOpened (heard +
 opened_after heard [] = tt
 opened_after heard (x ∷ xs) =
     let all : (heard ++ x ∷ []) ++ xs ≡ heard ++ x ∷ xs = append_assoc heard (x ∷ []) xs in
-    let first = subst (λ (es : List RecvEvent). AllByRecursion (IsOpened es) (request_with heard x)) all
-    (more_opened (heard ++ x ∷ []) xs (request_with heard x) (request_opened heard x (stream_of x) refl)) in
+    let first = subst (λ (es : List RecvEvent). AllByRecursion (IsOpened es) (requests_with heard x)) all
+    (more_opened (heard ++ x ∷ []) xs (requests_with heard x) (request_opened heard x (stream_of x) refl)) in
     let later = subst (λ (es : List RecvEvent). AllByRecursion (IsOpened es) (requests_after (heard ++ x ∷ []) xs)) all (opened_after (heard ++ x ∷ []) xs) in
-    all_joined (IsOpened (heard ++ x ∷ xs)) (request_with heard x) (requests_after (heard ++ x ∷ []) xs) first later
+    all_joined (IsOpened (heard ++ x ∷ xs)) (requests_with heard x) (requests_after (heard ++ x ∷ []) xs) first later
 
 pub requests_opened : (events : List RecvEvent) → AllByRecursion (IsOpened events) (requests events)
 requests_opened events = opened_after [] events

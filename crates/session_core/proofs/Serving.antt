@@ -1,6 +1,6 @@
 -- A session goes on: an event is read, a request answered, something said.
 use Rattle.std.proofs.Common.{◌≡◌, ℕ, ◌==◌, List, [], ◌∷◌, ◌++◌, Bool, true, false, ◌||◌, ◌&&◌, not, refl, sym, ap, ◌∙◌, subst, cond, inl, inr, append_assoc, append-nil}
-use Rattle.std.specs.Prelude.{Option, Some, None}
+use Rattle.std.specs.Prelude.{Some, None}
 use Rattle.std.specs.List.{AllByRecursion}
 use Rattle.std.proofs.lemmas.Bool.{eqb-true, false≢true}
 use Rattle.base_kinds.specs.Schema.{SchemaNode}
@@ -18,17 +18,16 @@ use Rattle.h2_send.specs.Inputs.{Input, Event, Speech}
 use Rattle.h2_send.specs.Orders.{order_of}
 use Rattle.session_calls.specs.declared.request.Request.{Request}
 use Rattle.session_calls.specs.Requests.{requests}
-use Rattle.book_port.specs.Ports.{PortView}
 use Rattle.session_core.specs.declared.waiting.Waiting.{Waiting}
-use Rattle.session_core.specs.Answers.{Answer, IsAnswer, AreAnswered, requests_of, readings_of, said_to}
+use Rattle.session_core.specs.Deeds.{Deed, Service, IsDeed, AreDone, asked_in, requests_in, readings_in, said_to}
+use Rattle.session_core.specs.Rounds.{Round, AreTimely, HadTurns, IsRecent, IsTimely, IsWhole, deeds_of, inputs_of, is_turn}
+use Rattle.session_core.specs.Runs.{IsAtRest}
 use Rattle.session_core.specs.Saying.{waits_on, any_opens, IsOver, IsSaid, AreBehind}
-use Rattle.session_core.specs.Timing.{IsUpToDate}
-use Rattle.session_core.specs.Serving.{Start, IsServed}
-use Rattle.book_port.specs.Follows.{Turn}
+use Rattle.session_core.specs.Serving.{Start, Standing, IsServed, first_service, service_of, standing_of}
 use Rattle.session_core.specs.inner.Places.{course_of}
-use Rattle.session_core.specs.inner.Steps.{answer_with}
 use Rattle.session_core.specs.inner.Words.{words}
-use Rattle.session_core.proofs.Timing.{timely_more, timely_speech, timely_event}
+use Rattle.session_core.proofs.Rounds.{all_more, inputs_one_more, all_closed, later_frame, frame_more, whole_more, recent_more}
+use Rattle.session_core.proofs.Keeping.{deeds_keep}
 use Rattle.session_core.proofs.Orders.{said_by_event, said_by_speech, heard_by_event, heard_by_speech, read_by_event, read_by_speech, can_say_more}
 use Rattle.session_core.proofs.Opening.{OpensAbove, IsOpened, opened_once, once_more, still_opened, requests_opened, all_front}
 
@@ -60,11 +59,11 @@ over_by_event s moments inputs event one new over =
           ∙ or_false (opens s event) (opened_once s event (events_of moments) before new);
     }
 
-said_event : (s : ℕ) (moments : List Moment) (inputs : List Input) (event : RecvEvent) (waiting : List Waiting) (answers : List Answer) → as_read (order_of inputs) ≡ reads_of moments → OpensAbove (highest_of (events_of moments)) event
-    → IsSaid s waiting (order_of inputs) answers → IsSaid s waiting (order_of (inputs ++ Event event ∷ [])) answers
-said_event s moments inputs event waiting answers one new (inl all) =
+said_event : (s : ℕ) (moments : List Moment) (inputs : List Input) (event : RecvEvent) (waiting : List Waiting) (deeds : List Deed) → as_read (order_of inputs) ≡ reads_of moments → OpensAbove (highest_of (events_of moments)) event
+    → IsSaid s waiting (order_of inputs) deeds → IsSaid s waiting (order_of (inputs ++ Event event ∷ [])) deeds
+said_event s moments inputs event waiting deeds one new (inl all) =
     inl (ap (λ t. t ++ waits_on s waiting) (said_by_event s inputs event) ∙ all)
-said_event s moments inputs event waiting answers one new (inr (over, front)) =
+said_event s moments inputs event waiting deeds one new (inr (over, front)) =
     inr (over_by_event s moments inputs event one new over, record { rest = front.rest; joined = front.joined ∙ ap (λ t. t ++ front.rest) (sym (said_by_event s inputs event)) })
 
 opened_event : (s : ℕ) (moments : List Moment) (inputs : List Input) (event : RecvEvent) → as_read (order_of inputs) ≡ reads_of moments → OpensAbove (highest_of (events_of moments)) event
@@ -74,53 +73,76 @@ opened_event s moments inputs event one new once =
     subst (λ (es : List RecvEvent). IsOpenedOnce s es) (sym (heard_by_event inputs event))
     (once_more s (heard (order_of inputs)) event once (λ before. opened_once s event (events_of moments) (ap (any_opens s) (sym same) ∙ before) new))
 
--- between two frames, where nothing is owed, all is up to date
-up_to_date : (start : Start) (moments : List Moment) (inputs : List Input) (waiting : List Waiting) (port : PortView) (readings : List ℕ) → AreBehind inputs waiting
-    → (served : IsServed start (course_of moments inputs waiting [] port readings)) → IsUpToDate served.answers inputs
-up_to_date start moments inputs waiting port readings behind served = record {
-  front = served.answers;
-  rest = [];
-  joined = sym (append-nil served.answers);
-  asked = sym (append-nil (requests_of served.answers)) ∙ served.asked ∙ ap requests (sym (same_events moments (order_of inputs) served.one_order));
-  waiting = waiting;
-  said = served.said;
-  behind = behind;
-}
+-- the round that goes on
+abbrev round_in : {start : Start} {moments : List Moment} {inputs : List Input} {waiting : List Waiting} {owed : List Request} (at : Standing) → IsServed start (course_of moments inputs waiting owed at) → Round
+round_in at served = record { deeds = at.round; inputs = served.last }
 
-pub event_served : (start : Start) (moments : List Moment) (inputs : List Input) (waiting : List Waiting) (owed : List Request) (port : PortView) (readings : List ℕ) (frame : Frame) (event : RecvEvent)
+-- between two frames it is whole
+round_whole : (start : Start) (moments : List Moment) (inputs : List Input) (waiting : List Waiting) (at : Standing) → IsAtRest [] inputs waiting at
+    → (served : IsServed start (course_of moments inputs waiting [] at)) → IsWhole start.schema (first_service start) served.rounds (round_in at served)
+round_whole start moments inputs waiting at rest served =
+    let deeds : List Deed = deeds_of served.rounds ++ at.round in
+    record {
+      end = service_of at;
+      done = served.done;
+      asked = sym (append-nil (requests_in deeds)) ∙ served.asked ∙ ap requests (sym (same_events moments (order_of inputs) served.one_order)) ∙ ap (λ (is : List Input). requests (heard (order_of is))) served.given;
+      frame = served.frame;
+      recent = subst (λ (is : List Input). AllByRecursion (IsRecent is) at.round) served.given served.recent;
+      waiting = waiting;
+      said = λ s. subst (λ (is : List Input). IsSaid s waiting (order_of is) deeds) served.given (served.said s);
+      behind = subst (λ (is : List Input). AreBehind is waiting) served.given rest.behind;
+      turned = subst (λ (is : List Input). AllByRecursion (HadTurns at.round is) at.calls) served.given rest.turned;
+    }
+
+pub event_served : (start : Start) (moments : List Moment) (inputs : List Input) (waiting : List Waiting) (owed : List Request) (at : Standing) (frame : Frame) (event : RecvEvent)
     → requests (events_of moments ++ event ∷ []) ≡ requests (events_of moments) ++ owed
     → OpensAbove (highest_of (events_of moments)) event
-    → AreBehind inputs waiting
-    → IsServed start (course_of moments inputs waiting [] port readings)
-    → IsServed start (course_of (moments ++ read frame (Some event) ∷ []) (inputs ++ Event event ∷ []) waiting owed port readings)
-event_served start moments inputs waiting owed port readings frame event grown new behind served = record {
-  answers = served.answers;
-  asked = ap (λ t. t ++ owed) (sym (append-nil (requests_of served.answers)) ∙ served.asked) ∙ sym grown
-      ∙ ap requests (sym (calls.events_joined moments (read frame (Some event) ∷ [])));
-  answered = served.answered;
-  clock = served.clock;
-  said = λ s. said_event s moments inputs event waiting served.answers served.one_order new (served.said s);
-  timely = timely_event served.answers [] inputs event served.timely (up_to_date start moments inputs waiting port readings behind served);
-  opened = λ s. opened_event s moments inputs event served.one_order new (served.opened s);
-  one_order = read_by_event inputs event ∙ ap (λ t. t ++ item.Event event ∷ []) served.one_order
-      ∙ sym (calls.reads_joined moments (read frame (Some event) ∷ []));
-}
+    → IsAtRest [] inputs waiting at
+    → IsServed start (course_of moments inputs waiting [] at)
+    → IsServed start (course_of (moments ++ read frame (Some event) ∷ []) (inputs ++ Event event ∷ []) waiting owed (standing_of at.port at.calls at.readings []))
+event_served start moments inputs waiting owed at frame event grown new rest served =
+    let round = round_in at served in
+    let deeds : List Deed = deeds_of served.rounds ++ at.round in
+    let same : deeds_of (served.rounds ++ round ∷ []) ++ [] ≡ deeds = all_closed served.rounds round in
+    record {
+      rounds = served.rounds ++ round ∷ [];
+      last = Event event ∷ [];
+      given = ap (λ (is : List Input). is ++ Event event ∷ []) (served.given ∙ sym (inputs_one_more served.rounds round));
+      frame = later_frame served.rounds round event;
+      whole = whole_more start.schema (first_service start) [] served.rounds round served.whole (round_whole start moments inputs waiting at rest served);
+      recent = tt;
+      asked = ap (λ (ds : List Deed). requests_in ds ++ owed) same
+          ∙ ap (λ t. t ++ owed) (sym (append-nil (requests_in deeds)) ∙ served.asked) ∙ sym grown
+          ∙ ap requests (sym (calls.events_joined moments (read frame (Some event) ∷ [])));
+      done = subst (λ (ds : List Deed). AreDone start.schema (first_service start) ds (service_of at)) (sym same) served.done;
+      timely = subst (λ (ds : List Deed). AreTimely [] ds) (sym same) served.timely;
+      clock = served.clock ∙ ap (λ (ds : List Deed). start.readings ++ readings_in ds) (sym same);
+      said = λ s. subst (λ (ds : List Deed). IsSaid s waiting (order_of (inputs ++ Event event ∷ [])) ds) (sym same) (said_event s moments inputs event waiting deeds served.one_order new (served.said s));
+      opened = λ s. opened_event s moments inputs event served.one_order new (served.opened s);
+      one_order = read_by_event inputs event ∙ ap (λ t. t ++ item.Event event ∷ []) served.one_order
+          ∙ sym (calls.reads_joined moments (read frame (Some event) ∷ []));
+    }
 
 -- frames that mean nothing
-pub silence_served : (start : Start) (moments more : List Moment) (inputs : List Input) (waiting : List Waiting) (owed : List Request) (port : PortView) (readings : List ℕ)
+pub silence_served : (start : Start) (moments more : List Moment) (inputs : List Input) (waiting : List Waiting) (owed : List Request) (at : Standing)
     → reads_of more ≡ []
-    → IsServed start (course_of moments inputs waiting owed port readings)
-    → IsServed start (course_of (moments ++ more) inputs waiting owed port readings)
-silence_served start moments more inputs waiting owed port readings silent served =
+    → IsServed start (course_of moments inputs waiting owed at)
+    → IsServed start (course_of (moments ++ more) inputs waiting owed at)
+silence_served start moments more inputs waiting owed at silent served =
     let same : reads_of (moments ++ more) ≡ reads_of moments = calls.reads_joined moments more ∙ ap (λ t. reads_of moments ++ t) silent ∙ append-nil (reads_of moments) in
     let events : events_of (moments ++ more) ≡ events_of moments = sym (events_are (moments ++ more)) ∙ ap events_read same ∙ events_are moments in
     record {
-      answers = served.answers;
+      rounds = served.rounds;
+      last = served.last;
+      given = served.given;
+      frame = served.frame;
+      whole = served.whole;
+      recent = served.recent;
       asked = served.asked ∙ ap requests (sym events);
-      answered = served.answered;
+      done = served.done;
+      timely = served.timely;
       clock = served.clock;
       said = served.said;
-      timely = served.timely;
       opened = served.opened;
       one_order = served.one_order ∙ sym same;
     }
@@ -129,20 +151,20 @@ pub silent_events : (moments more : List Moment) → reads_of more ≡ [] → ev
 silent_events moments more silent =
     sym (events_are (moments ++ more)) ∙ ap events_read (calls.reads_joined moments more ∙ ap (λ t. reads_of moments ++ t) silent ∙ append-nil (reads_of moments)) ∙ events_are moments
 
--- ---- a request is answered
+-- ---- a deed is done
 
-requests_more : (answers : List Answer) (a : Answer) → requests_of (answers ++ a ∷ []) ≡ requests_of answers ++ a.request ∷ []
-requests_more [] a = refl
-requests_more (b ∷ answers) a = ap (λ t. b.request ∷ t) (requests_more answers a)
+requests_more : (deeds : List Deed) (d : Deed) → requests_in (deeds ++ d ∷ []) ≡ requests_in deeds ++ asked_in d.stream d.doing
+requests_more [] d = append-nil (asked_in d.stream d.doing)
+requests_more (e ∷ deeds) d = ap (λ t. asked_in e.stream e.doing ++ t) (requests_more deeds d) ∙ sym (append_assoc (asked_in e.stream e.doing) (requests_in deeds) (asked_in d.stream d.doing))
 
-readings_more : (answers : List Answer) (a : Answer) → readings_of (answers ++ a ∷ []) ≡ readings_of answers ++ a.readings
-readings_more [] a = append-nil a.readings
-readings_more (b ∷ answers) a = ap (λ t. b.readings ++ t) (readings_more answers a) ∙ sym (append_assoc b.readings (readings_of answers) a.readings)
+readings_more : (deeds : List Deed) (d : Deed) → readings_in (deeds ++ d ∷ []) ≡ readings_in deeds ++ d.readings
+readings_more [] d = append-nil d.readings
+readings_more (e ∷ deeds) d = ap (λ t. e.readings ++ t) (readings_more deeds d) ∙ sym (append_assoc e.readings (readings_in deeds) d.readings)
 
-answered_more : (schema : List SchemaNode) (old mid new : PortView) (answers : List Answer) (a : Answer) → AreAnswered schema old answers mid → IsAnswer schema a mid new
-    → AreAnswered schema old (answers ++ a ∷ []) new
-answered_more schema old mid new [] a is then = (new, subst (λ (p : PortView). IsAnswer schema a p new) is then, refl)
-answered_more schema old mid new (b ∷ answers) a is then = (is.0, is.1, answered_more schema is.0 mid new answers a is.2 then)
+done_more : (schema : List SchemaNode) (old mid new : Service) (deeds : List Deed) (d : Deed) → AreDone schema old deeds mid → IsDeed schema d mid new
+    → AreDone schema old (deeds ++ d ∷ []) new
+done_more schema old mid new [] d is then = (new, subst (λ (p : Service). IsDeed schema d p new) is then, refl)
+done_more schema old mid new (e ∷ deeds) d is then = (is.0, is.1, done_more schema is.0 mid new deeds d is.2 then)
 
 cond_appends : {A : Type 0} (b : Bool) (x xs ys : List A) → cond b (x ++ (xs ++ ys)) (xs ++ ys) ≡ cond b (x ++ xs) xs ++ ys
 cond_appends true x xs ys = sym (append_assoc x xs ys)
@@ -152,13 +174,13 @@ cond_append : {A : Type 0} (b : Bool) (x : A) (xs ys : List A) → cond b (x ∷
 cond_append true x xs ys = refl
 cond_append false x xs ys = refl
 
-said_to-append : (s : ℕ) (xs ys : List Answer) → said_to s (xs ++ ys) ≡ said_to s xs ++ said_to s ys
+said_to-append : (s : ℕ) (xs ys : List Deed) → said_to s (xs ++ ys) ≡ said_to s xs ++ said_to s ys
 said_to-append s [] ys = refl
 said_to-append s (a ∷ xs) ys =
-    ap (λ t. cond (a.request.stream == s) (a.said ++ t) t) (said_to-append s xs ys) ∙ cond_appends (a.request.stream == s) a.said (said_to s xs) (said_to s ys)
+    ap (λ t. cond (a.stream == s) (a.said ++ t) t) (said_to-append s xs ys) ∙ cond_appends (a.stream == s) a.said (said_to s xs) (said_to s ys)
 
-said_to-one : (s : ℕ) (a : Answer) → said_to s (a ∷ []) ≡ cond (a.request.stream == s) a.said []
-said_to-one s a = elim (a.request.stream == s) as (λ c. cond c (a.said ++ []) [] ≡ cond c a.said []) [ true ↦ append-nil a.said | false ↦ refl ]
+said_to-one : (s : ℕ) (a : Deed) → said_to s (a ∷ []) ≡ cond (a.stream == s) a.said []
+said_to-one s a = elim (a.stream == s) as (λ c. cond c (a.said ++ []) [] ≡ cond c a.said []) [ true ↦ append-nil a.said | false ↦ refl ]
 
 waits_on-append : (s : ℕ) (xs ys : List Waiting) → waits_on s (xs ++ ys) ≡ waits_on s xs ++ waits_on s ys
 waits_on-append s [] ys = refl
@@ -177,35 +199,63 @@ waits_on-words : (s on : ℕ) (said : List Said) → waits_on s (words on said) 
 waits_on-words s on [] = cond_none (on == s)
 waits_on-words s on (word ∷ others) = ap (λ t. cond (on == s) (word ∷ t) t) (waits_on-words s on others) ∙ cond_twice (on == s) word others
 
-said_more : (s : ℕ) (waiting : List Waiting) (order : List Item) (answers : List Answer) (a : Answer) → IsSaid s waiting order answers → IsSaid s (waiting ++ words a.request.stream a.said) order (answers ++ a ∷ [])
-said_more s waiting order answers a (inl all) =
-    inl (ap (λ t. said_on s order ++ t) (waits_on-append s waiting (words a.request.stream a.said))
-    ∙ sym (append_assoc (said_on s order) (waits_on s waiting) (waits_on s (words a.request.stream a.said)))
-    ∙ ap (λ t. t ++ waits_on s (words a.request.stream a.said)) all
-    ∙ ap (λ t. said_to s answers ++ t) (waits_on-words s a.request.stream a.said ∙ sym (said_to-one s a))
-    ∙ sym (said_to-append s answers (a ∷ [])))
-said_more s waiting order answers a (inr (over, front)) =
+said_more : (s : ℕ) (waiting : List Waiting) (order : List Item) (deeds : List Deed) (a : Deed) → IsSaid s waiting order deeds → IsSaid s (waiting ++ words a.stream a.said) order (deeds ++ a ∷ [])
+said_more s waiting order deeds a (inl all) =
+    inl (ap (λ t. said_on s order ++ t) (waits_on-append s waiting (words a.stream a.said))
+    ∙ sym (append_assoc (said_on s order) (waits_on s waiting) (waits_on s (words a.stream a.said)))
+    ∙ ap (λ t. t ++ waits_on s (words a.stream a.said)) all
+    ∙ ap (λ t. said_to s deeds ++ t) (waits_on-words s a.stream a.said ∙ sym (said_to-one s a))
+    ∙ sym (said_to-append s deeds (a ∷ [])))
+said_more s waiting order deeds a (inr (over, front)) =
     inr (
       over,
       record {
         rest = front.rest ++ said_to s (a ∷ []);
-        joined = said_to-append s answers (a ∷ []) ∙ ap (λ t. t ++ said_to s (a ∷ [])) front.joined ∙ append_assoc (said_on s order) front.rest (said_to s (a ∷ []));
+        joined = said_to-append s deeds (a ∷ []) ∙ ap (λ t. t ++ said_to s (a ∷ [])) front.joined ∙ append_assoc (said_on s order) front.rest (said_to s (a ∷ []));
       },
     )
 
-pub answer_served : (start : Start) (moments : List Moment) (inputs : List Input) (waiting : List Waiting) (request : Request) (port next : PortView) (readings later more : List ℕ) (turn : Option Turn) (said : List Said)
-    → IsAnswer start.schema (answer_with request more turn said) port next → later ≡ readings ++ more
-    → IsServed start (course_of moments inputs waiting (request ∷ []) port readings)
-    → IsServed start (course_of moments inputs (waiting ++ words request.stream said) [] next later)
-answer_served start moments inputs waiting request port next readings later more turn said answer taken served =
-    let a = answer_with request more turn said in
+timely_more : (before deeds : List Deed) (d : Deed) → AreTimely before deeds → (is_turn d.doing ≡ true → IsTimely (before ++ deeds) d) → AreTimely before (deeds ++ d ∷ [])
+timely_more before [] d are turns = (subst (λ (ds : List Deed). is_turn d.doing ≡ true → IsTimely ds d) (append-nil before) turns, tt)
+timely_more before (e ∷ deeds) d are turns =
+    (are.0, timely_more (before ++ e ∷ []) deeds d are.1 (subst (λ (ds : List Deed). is_turn d.doing ≡ true → IsTimely ds d) (sym (append_assoc before (e ∷ []) deeds)) turns))
+
+-- a turn at a stream that is free, where nothing is owed
+pub turn_timely : (start : Start) (moments : List Moment) (inputs : List Input) (waiting : List Waiting) (at : Standing) (deed : Deed) → deed.given ≡ inputs → waits_on deed.stream waiting ≡ [] → can_say deed.stream (order_of inputs) ≡ true
+    → (served : IsServed start (course_of moments inputs waiting [] at)) → IsTimely (deeds_of served.rounds ++ at.round) deed
+turn_timely start moments inputs waiting at deed given none can served =
+    let deeds : List Deed = deeds_of served.rounds ++ at.round in
     record {
-      answers = served.answers ++ a ∷ [];
-      asked = append-nil (requests_of (served.answers ++ a ∷ [])) ∙ requests_more served.answers a ∙ served.asked;
-      answered = answered_more start.schema start.port port next served.answers a served.answered answer;
-      clock = taken ∙ ap (λ t. t ++ more) served.clock ∙ append_assoc start.readings (readings_of served.answers) more ∙ ap (λ t. start.readings ++ t) (sym (readings_more served.answers a));
-      said = λ s. said_more s waiting (order_of inputs) served.answers a (served.said s);
-      timely = timely_more served.answers (a ∷ []) [] inputs served.timely;
+      answered = sym (append-nil (requests_in deeds)) ∙ served.asked ∙ ap requests (sym (same_events moments (order_of inputs) served.one_order)) ∙ ap (λ (is : List Input). requests (heard (order_of is))) (sym given);
+      said = ap (λ (is : List Input). said_on deed.stream (order_of is)) given ∙ all_said (served.said deed.stream);
+    } where
+      all_said : IsSaid deed.stream waiting (order_of inputs) (deeds_of served.rounds ++ at.round) → said_on deed.stream (order_of inputs) ≡ said_to deed.stream (deeds_of served.rounds ++ at.round)
+      all_said (inl all) = sym (append-nil (said_on deed.stream (order_of inputs))) ∙ ap (λ t. said_on deed.stream (order_of inputs) ++ t) (sym none) ∙ all
+      all_said (inr (over, front)) = absurd (false≢true (sym over.closed ∙ can))
+
+pub deed_served : (start : Start) (moments : List Moment) (inputs : List Input) (waiting : List Waiting) (owed : List Request) (at : Standing) (deed : Deed) (new : Service) (later : List ℕ)
+    → deed.given ≡ inputs → IsDeed start.schema deed (service_of at) new → later ≡ at.readings ++ deed.readings
+    → (served : IsServed start (course_of moments inputs waiting (asked_in deed.stream deed.doing ++ owed) at))
+    → (is_turn deed.doing ≡ true → IsTimely (deeds_of served.rounds ++ at.round) deed)
+    → IsServed start (course_of moments inputs (waiting ++ words deed.stream deed.said) owed (standing_of new.port new.calls later (at.round ++ deed ∷ [])))
+deed_served start moments inputs waiting owed at deed new later given is taken served turns =
+    let deeds : List Deed = deeds_of served.rounds ++ at.round in
+    let same : deeds ++ deed ∷ [] ≡ deeds_of served.rounds ++ (at.round ++ deed ∷ []) = append_assoc (deeds_of served.rounds) at.round (deed ∷ []) in
+    record {
+      rounds = served.rounds;
+      last = served.last;
+      given = served.given;
+      frame = served.frame;
+      whole = served.whole;
+      recent = all_more (IsRecent inputs) at.round deed served.recent (record { more = []; joined = sym given ∙ sym (append-nil deed.given); speeches = tt });
+      asked = ap (λ (ds : List Deed). requests_in ds ++ owed) (sym same) ∙ ap (λ t. t ++ owed) (requests_more deeds deed)
+          ∙ append_assoc (requests_in deeds) (asked_in deed.stream deed.doing) owed ∙ served.asked;
+      done = subst (λ (ds : List Deed). AreDone start.schema (first_service start) ds new) same
+          (done_more start.schema (first_service start) (service_of at) new deeds deed served.done is);
+      timely = subst (λ (ds : List Deed). AreTimely [] ds) same (timely_more [] deeds deed served.timely turns);
+      clock = taken ∙ ap (λ t. t ++ deed.readings) served.clock ∙ append_assoc start.readings (readings_in deeds) deed.readings
+          ∙ ap (λ t. start.readings ++ t) (sym (readings_more deeds deed)) ∙ ap (λ (ds : List Deed). start.readings ++ readings_in ds) same;
+      said = λ s. subst (λ (ds : List Deed). IsSaid s (waiting ++ words deed.stream deed.said) (order_of inputs) ds) same (said_more s waiting (order_of inputs) deeds deed (served.said s));
       opened = served.opened;
       one_order = served.one_order;
     }
@@ -232,10 +282,10 @@ over_by_speech s on inputs said over = record {
   closed = can_say_more s inputs (Speech on said) ∙ ap (λ b. b && not ((on == s) && is_last said)) over.closed;
 }
 
-said_speech : (s : ℕ) (b : Bool) (inputs : List Input) (still rest : List Waiting) (w : Waiting) (answers : List Answer) → (w.stream == s) ≡ b
+said_speech : (s : ℕ) (b : Bool) (inputs : List Input) (still rest : List Waiting) (w : Waiting) (deeds : List Deed) → (w.stream == s) ≡ b
     → waits_on w.stream still ≡ [] → can_say w.stream (order_of inputs) ≡ true
-    → IsSaid s (still ++ w ∷ rest) (order_of inputs) answers → IsSaid s (still ++ rest) (order_of (inputs ++ Speech w.stream w.said ∷ [])) answers
-said_speech s true inputs still rest w answers same none can (inl all) =
+    → IsSaid s (still ++ w ∷ rest) (order_of inputs) deeds → IsSaid s (still ++ rest) (order_of (inputs ++ Speech w.stream w.said ∷ [])) deeds
+said_speech s true inputs still rest w deeds same none can (inl all) =
     let at : w.stream ≡ s = eqb-true w.stream s same in
     let empty : waits_on s still ≡ [] = ap (λ n. waits_on n still) (sym at) ∙ none in
     let now = said_by_speech s w.stream inputs w.said ∙ ap (λ b. said_on s (order_of inputs) ++ cond b (w.said ∷ []) []) same in
@@ -243,27 +293,32 @@ said_speech s true inputs still rest w answers same none can (inl all) =
     let after : waits_on s (still ++ rest) ≡ waits_on s rest = waits_on-append s still rest ∙ ap (λ t. t ++ waits_on s rest) empty in
     inl (ap (λ t. t ++ waits_on s (still ++ rest)) now ∙ ap (λ t. (said_on s (order_of inputs) ++ w.said ∷ []) ++ t) after
     ∙ append_assoc (said_on s (order_of inputs)) (w.said ∷ []) (waits_on s rest) ∙ ap (λ t. said_on s (order_of inputs) ++ t) (sym before) ∙ all)
-said_speech s true inputs still rest w answers same none can (inr (over, front)) =
+said_speech s true inputs still rest w deeds same none can (inr (over, front)) =
     absurd (false≢true (sym over.closed ∙ ap (λ n. can_say n (order_of inputs)) (sym (eqb-true w.stream s same)) ∙ can))
-said_speech s false inputs still rest w answers same none can (inl all) =
+said_speech s false inputs still rest w deeds same none can (inl all) =
     let now = said_by_speech s w.stream inputs w.said ∙ ap (λ b. said_on s (order_of inputs) ++ cond b (w.said ∷ []) []) same ∙ append-nil (said_on s (order_of inputs)) in
     let before : waits_on s (still ++ w ∷ rest) ≡ waits_on s still ++ waits_on s rest = waits_on-append s still (w ∷ rest) ∙ ap (λ b. waits_on s still ++ cond b (w.said ∷ waits_on s rest) (waits_on s rest)) same in
     inl (ap (λ t. t ++ waits_on s (still ++ rest)) now ∙ ap (λ t. said_on s (order_of inputs) ++ t) (waits_on-append s still rest ∙ sym before) ∙ all)
-said_speech s false inputs still rest w answers same none can (inr (over, front)) =
+said_speech s false inputs still rest w deeds same none can (inr (over, front)) =
     let now = said_by_speech s w.stream inputs w.said ∙ ap (λ b. said_on s (order_of inputs) ++ cond b (w.said ∷ []) []) same ∙ append-nil (said_on s (order_of inputs)) in
     inr (over_by_speech s w.stream inputs w.said over, record { rest = front.rest; joined = front.joined ∙ ap (λ t. t ++ front.rest) (sym now) })
 
-pub speech_served : (start : Start) (moments : List Moment) (inputs : List Input) (still rest : List Waiting) (w : Waiting) (owed : List Request) (port : PortView) (readings : List ℕ)
+pub speech_served : (start : Start) (moments : List Moment) (inputs : List Input) (still rest : List Waiting) (w : Waiting) (owed : List Request) (at : Standing)
     → waits_on w.stream still ≡ [] → can_say w.stream (order_of inputs) ≡ true
-    → IsServed start (course_of moments inputs (still ++ w ∷ rest) owed port readings)
-    → IsServed start (course_of (moments ++ ends_with w.stream w.said) (inputs ++ Speech w.stream w.said ∷ []) (still ++ rest) owed port readings)
-speech_served start moments inputs still rest w owed port readings none can served = record {
-  answers = served.answers;
+    → IsServed start (course_of moments inputs (still ++ w ∷ rest) owed at)
+    → IsServed start (course_of (moments ++ ends_with w.stream w.said) (inputs ++ Speech w.stream w.said ∷ []) (still ++ rest) owed at)
+speech_served start moments inputs still rest w owed at none can served = record {
+  rounds = served.rounds;
+  last = served.last ++ Speech w.stream w.said ∷ [];
+  given = ap (λ (is : List Input). is ++ Speech w.stream w.said ∷ []) served.given ∙ append_assoc (inputs_of served.rounds) served.last (Speech w.stream w.said ∷ []);
+  frame = frame_more served.rounds served.last w.stream w.said served.frame;
+  whole = served.whole;
+  recent = recent_more inputs at.round w.stream w.said served.recent;
   asked = served.asked ∙ ap requests (sym (events_at_end moments w.stream w.said));
-  answered = served.answered;
+  done = served.done;
+  timely = served.timely;
   clock = served.clock;
-  said = λ s. said_speech s (w.stream == s) inputs still rest w served.answers refl none can (served.said s);
-  timely = timely_speech served.answers [] inputs w.stream w.said served.timely;
+  said = λ s. said_speech s (w.stream == s) inputs still rest w (deeds_of served.rounds ++ at.round) refl none can (served.said s);
   opened = λ s. subst (λ (es : List RecvEvent). IsOpenedOnce s es) (sym (heard_by_speech inputs w.stream w.said)) (served.opened s);
   one_order = read_by_speech inputs w.stream w.said ∙ ap (λ t. t ++ cond (is_last w.said) (item.Ended w.stream ∷ []) []) served.one_order
       ∙ ap (λ t. reads_of moments ++ t) (sym (end_reads (is_last w.said) w.stream)) ∙ sym (calls.reads_joined moments (ends_with w.stream w.said));
@@ -276,54 +331,72 @@ not_empty [] [] z said e = absurd cc
 not_empty [] (b ∷ y) z said e = absurd cc
 not_empty (a ∷ x) y z said e = absurd cc
 
-first_opened : (b : Bool) (s : ℕ) (events : List RecvEvent) (a : Answer) (answers : List Answer) (whole : List Said) → (a.request.stream == s) ≡ b → IsOpened events a.request
-    → cond b (a.said ++ said_to s answers) (said_to s answers) ≡ whole → (said_to s answers ≡ whole → any_opens s events ≡ true) → any_opens s events ≡ true
-first_opened true s events a answers whole same opened is rest = ap (λ n. any_opens n events) (sym (eqb-true a.request.stream s same)) ∙ opened
-first_opened false s events a answers whole same opened is rest = rest is
+-- the stream of the deed was opened by these events
+abbrev IsOpenedFor : List RecvEvent → Deed → Type 0
+IsOpenedFor events d = any_opens d.stream events ≡ true
 
-said_opened : (s : ℕ) (events : List RecvEvent) (answers : List Answer) (x y z : List Said) (said : Said) → AllByRecursion (IsOpened events) (requests_of answers)
-    → said_to s answers ≡ x ++ (y ++ said ∷ z) → any_opens s events ≡ true
+first_opened : (b : Bool) (s : ℕ) (events : List RecvEvent) (a : Deed) (deeds : List Deed) (whole : List Said) → (a.stream == s) ≡ b → (any_opens a.stream events ≡ true)
+    → cond b (a.said ++ said_to s deeds) (said_to s deeds) ≡ whole → (said_to s deeds ≡ whole → any_opens s events ≡ true) → any_opens s events ≡ true
+first_opened true s events a deeds whole same opened is rest = ap (λ n. any_opens n events) (sym (eqb-true a.stream s same)) ∙ opened
+first_opened false s events a deeds whole same opened is rest = rest is
+
+said_opened : (s : ℕ) (events : List RecvEvent) (deeds : List Deed) (x y z : List Said) (said : Said) → AllByRecursion (IsOpenedFor events) deeds
+    → said_to s deeds ≡ x ++ (y ++ said ∷ z) → any_opens s events ≡ true
 said_opened s events [] x y z said opened is = absurd (not_empty x y z said is)
-said_opened s events (a ∷ answers) x y z said opened is =
-    first_opened (a.request.stream == s) s events a answers (x ++ (y ++ said ∷ z)) refl opened.0 is (λ later. said_opened s events answers x y z said opened.1 later)
+said_opened s events (a ∷ deeds) x y z said opened is =
+    first_opened (a.stream == s) s events a deeds (x ++ (y ++ said ∷ z)) refl opened.0 is (λ later. said_opened s events deeds x y z said opened.1 later)
 
-said_gone : (s : ℕ) (b : Bool) (order : List Item) (still rest : List Waiting) (w : Waiting) (answers : List Answer) → (w.stream == s) ≡ b
-    → AllByRecursion (IsOpened (heard order)) (requests_of answers) → can_say w.stream order ≡ false
-    → IsSaid s (still ++ w ∷ rest) order answers → IsSaid s (still ++ rest) order answers
-said_gone s true order still rest w answers same opened gone (inl all) =
+said_gone : (s : ℕ) (b : Bool) (order : List Item) (still rest : List Waiting) (w : Waiting) (deeds : List Deed) → (w.stream == s) ≡ b
+    → AllByRecursion (IsOpenedFor (heard order)) deeds → can_say w.stream order ≡ false
+    → IsSaid s (still ++ w ∷ rest) order deeds → IsSaid s (still ++ rest) order deeds
+said_gone s true order still rest w deeds same opened gone (inl all) =
     let before : waits_on s (still ++ w ∷ rest) ≡ waits_on s still ++ w.said ∷ waits_on s rest = waits_on-append s still (w ∷ rest) ∙ ap (λ b. waits_on s still ++ cond b (w.said ∷ waits_on s rest) (waits_on s rest)) same in
     inr (
       record {
-        opened = said_opened s (heard order) answers (said_on s order) (waits_on s still) (waits_on s rest) w.said opened (sym all ∙ ap (λ t. said_on s order ++ t) before);
+        opened = said_opened s (heard order) deeds (said_on s order) (waits_on s still) (waits_on s rest) w.said opened (sym all ∙ ap (λ t. said_on s order ++ t) before);
         closed = ap (λ n. can_say n order) (sym (eqb-true w.stream s same)) ∙ gone;
       },
       record { rest = waits_on s (still ++ w ∷ rest); joined = sym all },
     )
-said_gone s true order still rest w answers same opened gone (inr (over, front)) = inr (over, front)
-said_gone s false order still rest w answers same opened gone (inl all) =
+said_gone s true order still rest w deeds same opened gone (inr (over, front)) = inr (over, front)
+said_gone s false order still rest w deeds same opened gone (inl all) =
     let before : waits_on s (still ++ w ∷ rest) ≡ waits_on s still ++ waits_on s rest = waits_on-append s still (w ∷ rest) ∙ ap (λ b. waits_on s still ++ cond b (w.said ∷ waits_on s rest) (waits_on s rest)) same in
     inl (ap (λ t. said_on s order ++ t) (waits_on-append s still rest ∙ sym before) ∙ all)
-said_gone s false order still rest w answers same opened gone (inr (over, front)) = inr (over, front)
+said_gone s false order still rest w deeds same opened gone (inr (over, front)) = inr (over, front)
 
-pub gone_served : (start : Start) (moments : List Moment) (inputs : List Input) (still rest : List Waiting) (w : Waiting) (owed : List Request) (port : PortView) (readings : List ℕ)
-    → can_say w.stream (order_of inputs) ≡ false
-    → IsServed start (course_of moments inputs (still ++ w ∷ rest) owed port readings)
-    → IsServed start (course_of moments inputs (still ++ rest) owed port readings)
-gone_served start moments inputs still rest w owed port readings gone served =
-    let same = same_events moments (order_of inputs) served.one_order in
+-- all that was done, was done on streams that were opened
+deeds_opened : (start : Start) (moments : List Moment) (inputs : List Input) (waiting : List Waiting) (owed : List Request) (at : Standing)
+    → (served : IsServed start (course_of moments inputs waiting owed at)) → AllByRecursion (IsOpenedFor (events_of moments)) (deeds_of served.rounds ++ at.round)
+deeds_opened start moments inputs waiting owed at served =
+    let deeds : List Deed = deeds_of served.rounds ++ at.round in
     let all = subst (λ (rs : List Request). AllByRecursion (IsOpened (events_of moments)) rs) (sym served.asked) (requests_opened (events_of moments)) in
-    let opened = subst (λ (es : List RecvEvent). AllByRecursion (IsOpened es) (requests_of served.answers)) (sym same) (all_front (IsOpened (events_of moments)) (requests_of served.answers) owed all) in
+    (deeds_keep (λ (stream : ℕ). any_opens stream (events_of moments) ≡ true) start.schema (first_service start) deeds (service_of at) served.done
+    (all_front (IsOpened (events_of moments)) (requests_in deeds) owed all) tt).0
+
+pub gone_served : (start : Start) (moments : List Moment) (inputs : List Input) (still rest : List Waiting) (w : Waiting) (owed : List Request) (at : Standing)
+    → can_say w.stream (order_of inputs) ≡ false
+    → IsServed start (course_of moments inputs (still ++ w ∷ rest) owed at)
+    → IsServed start (course_of moments inputs (still ++ rest) owed at)
+gone_served start moments inputs still rest w owed at gone served =
+    let same = same_events moments (order_of inputs) served.one_order in
+    let deeds : List Deed = deeds_of served.rounds ++ at.round in
+    let opened = subst (λ (es : List RecvEvent). AllByRecursion (IsOpenedFor es) deeds) (sym same) (deeds_opened start moments inputs (still ++ w ∷ rest) owed at served) in
     record {
-      answers = served.answers;
+      rounds = served.rounds;
+      last = served.last;
+      given = served.given;
+      frame = served.frame;
+      whole = served.whole;
+      recent = served.recent;
       asked = served.asked;
-      answered = served.answered;
-      clock = served.clock;
-      said = λ s. said_gone s (w.stream == s) (order_of inputs) still rest w served.answers refl opened gone (served.said s);
+      done = served.done;
       timely = served.timely;
+      clock = served.clock;
+      said = λ s. said_gone s (w.stream == s) (order_of inputs) still rest w deeds refl opened gone (served.said s);
       opened = served.opened;
       one_order = served.one_order;
     }
 
-pub waiting_served : (start : Start) (moments : List Moment) (inputs : List Input) (waiting other : List Waiting) (owed : List Request) (port : PortView) (readings : List ℕ)
-    → waiting ≡ other → IsServed start (course_of moments inputs waiting owed port readings) → IsServed start (course_of moments inputs other owed port readings)
-waiting_served start moments inputs waiting other owed port readings same served = subst (λ (w : List Waiting). IsServed start (course_of moments inputs w owed port readings)) same served
+pub waiting_served : (start : Start) (moments : List Moment) (inputs : List Input) (waiting other : List Waiting) (owed : List Request) (at : Standing)
+    → waiting ≡ other → IsServed start (course_of moments inputs waiting owed at) → IsServed start (course_of moments inputs other owed at)
+waiting_served start moments inputs waiting other owed at same served = subst (λ (w : List Waiting). IsServed start (course_of moments inputs w owed at)) same served

@@ -1,9 +1,8 @@
--- What a Subscribe call is answered.
-use Rattle.std.proofs.Common.{◌≡◌, ◌⊎◌, inl, inr, ℕ, ◌+◌, List, [], ◌∷◌, ◌++◌, refl, sym, ap, ◌∙◌, subst, append-nil, append_assoc, arith}
-use Rattle.std.specs.Prelude.{Option, Some, None, Result, Ok, Err, OnOk, map}
-use Rattle.base_kinds.specs.declared.entry.View.{View}
+-- What a Subscribe call is answered, and how it begins to be served.
+use Rattle.std.proofs.Common.{◌≡◌, ◌⊎◌, inl, inr, ℕ, List, [], ◌∷◌, ◌++◌, Bool, true, false, refl, sym, ap, ◌∙◌, subst, append-nil, append_assoc}
+use Rattle.std.specs.Prelude.{Option, Some, None, Result, Ok, Err, IfOk, MatchResult, OnOk, map}
 use Rattle.base_kinds.specs.declared.refusal.Refusal.{Refusal}
-use Rattle.base_kinds.specs.declared.refusal.Refusal.TheVariants.{DiskFault, NoMemory, Unsupported}
+use Rattle.base_kinds.specs.declared.refusal.Refusal.TheVariants.{NoMemory, Unsupported}
 use Rattle.base_kinds.specs.declared.request.ListMode.{ListMode}
 use Rattle.base_kinds.specs.declared.request.ListMode.TheVariants as modes
 use Rattle.base_kinds.specs.Schema.{SchemaNode}
@@ -11,8 +10,7 @@ use Rattle.base_lists.specs.Results.{IsUnlessMemory}
 use Rattle.h2_events.specs.declared.said.Said.{Said}
 use Rattle.h2_events.specs.declared.said.Said.TheVariants.{Message, Finish}
 use Rattle.session_calls.specs.declared.request.Asked.TheVariants as asks
-use Rattle.book_port.specs.Follows.{Turn}
-use Rattle.book_port.specs.Ports.{PortView, marks_after}
+use Rattle.book_port.specs.Ports.{PortView}
 use Rattle.gnmi_sub_msg.specs.declared.turns.SubTurn.{SubTurn}
 use Rattle.gnmi_sub_msg.specs.declared.turns.SubTurn.TheVariants as messages_of
 use Rattle.gnmi_sub_msg.specs.Turns.{turn_of}
@@ -22,11 +20,13 @@ use Rattle.rpc_desk.specs.declared.subscribe_steps.SubscribeStep.{SubscribeStep}
 use Rattle.rpc_desk.specs.declared.subscribe_steps.SubscribeStep.TheVariants.{Begin, Poll}
 use Rattle.sub_plan.specs.declared.plan.Plan.{Plan}
 use Rattle.subscribe_calls.specs.Calls.{CallView, new_call}
-use Rattle.subscribe_calls.specs.Turns.{Answers, TurnsOnce}
-use Rattle.session_core.specs.declared.answering.Reply.TheVariants as replies
+use Rattle.subscribe_calls.specs.Turns.{TurnsOnce}
+use Rattle.session_core.specs.declared.reply.Reply.{Reply}
+use Rattle.session_core.specs.declared.reply.Reply.TheVariants as replies
+use Rattle.session_core.specs.declared.served.Served.{Served}
 use Rattle.session_core.specs.declared.waiting.Waiting.{Waiting}
-use Rattle.session_core.specs.Answers.{Answer, told, told_all, IsPlain, IsOnce, IsBegun, IsStepped, IsSubscribed, fault_in}
-use Rattle.session_core.specs.inner.Steps.{IsReplied, answer_with}
+use Rattle.session_core.specs.Deeds.{Deed, Answering, IsPlain, IsOnce, IsBegun, IsFirst, IsAnswer, has_failed, new_served, others_than, said_once, told_all}
+use Rattle.session_core.specs.inner.Steps.{IsReplied, deed_with, said_in, service}
 use Rattle.session_core.specs.inner.Words.{words}
 
 -- ---- what waits
@@ -45,96 +45,112 @@ one_put stream message items rest first waiting next all split grown before =
     ∙ ap (λ (ms : List (List ℕ)). waiting ++ words stream (map Message ms)) (sym split)
     ∙ before
 
-end_put : (stream : ℕ) (messages : List (List ℕ)) (first waiting next : List Waiting) → waiting ≡ first ++ words stream (map Message messages) → next ≡ waiting ++ words stream (Finish None ∷ [])
-    → next ≡ first ++ words stream (told_all (Ok messages))
-end_put stream messages first waiting next put grown =
+-- the end was put behind the messages, where the call ends
+pub end_put : (stream : ℕ) (messages : List (List ℕ)) (ends : Bool) (first waiting next : List Waiting) → ends ≡ true → waiting ≡ first ++ words stream (map Message messages) → next ≡ waiting ++ words stream (Finish None ∷ [])
+    → next ≡ first ++ words stream (told_all messages ends)
+end_put stream messages ends first waiting next is put grown =
     grown ∙ ap (λ (ws : List Waiting). ws ++ words stream (Finish None ∷ [])) put
     ∙ append_assoc first (words stream (map Message messages)) (words stream (Finish None ∷ []))
     ∙ ap (λ (ws : List Waiting). first ++ ws) (sym (words-append stream (map Message messages) (Finish None ∷ [])))
+    ∙ ap (λ (b : Bool). first ++ words stream (told_all messages b)) (sym is)
 
-pub end_put_if : {E : Type 0} (result : Result (Unit {0}) E) (stream : ℕ) (messages : List (List ℕ)) (first waiting next : List Waiting) → waiting ≡ first ++ words stream (map Message messages)
-    → OnOk result (next ≡ waiting ++ words stream (Finish None ∷ [])) → OnOk result (next ≡ first ++ words stream (told_all (Ok messages)))
-end_put_if (Ok done) stream messages first waiting next put grown = end_put stream messages first waiting next put grown
-end_put_if (Err fault) stream messages first waiting next put grown = grown
+pub end_put_if : {E : Type 0} (result : Result (Unit {0}) E) (stream : ℕ) (messages : List (List ℕ)) (ends : Bool) (first waiting next : List Waiting) → ends ≡ true → waiting ≡ first ++ words stream (map Message messages)
+    → OnOk result (next ≡ waiting ++ words stream (Finish None ∷ [])) → OnOk result (next ≡ first ++ words stream (told_all messages ends))
+end_put_if (Ok done) stream messages ends first waiting next is put grown = end_put stream messages ends first waiting next is put grown
+end_put_if (Err fault) stream messages ends first waiting next is put grown = grown
+
+pub no_end_put : (stream : ℕ) (messages : List (List ℕ)) (ends : Bool) (first waiting : List Waiting) → ends ≡ false → waiting ≡ first ++ words stream (map Message messages)
+    → waiting ≡ first ++ words stream (told_all messages ends)
+no_end_put stream messages ends first waiting is put =
+    put ∙ ap (λ (said : List Said). first ++ words stream said) (sym (append-nil (map Message messages)))
+    ∙ ap (λ (b : Bool). first ++ words stream (told_all messages b)) (sym is)
 
 -- ---- what is answered
 
-module _ (schema : List SchemaNode) (body : List ℕ) (old new : PortView) (before after : List ℕ) where
-  plainly : (refusal : Refusal) → new ≡ old → after ≡ before
-      → ((answer : Answer) → IsPlain (told (Err refusal)) answer old new → IsSubscribed schema body answer old new)
-      → IsReplied schema (asks.Subscribe body) (replies.Of (Err refusal)) old new before after
-  plainly refusal same still answers = record {
+module _ (schema : List SchemaNode) (stream : ℕ) (body : List ℕ) (old new : PortView) (calls : List Served) (before after : List ℕ) where
+  plainly : (reply : Reply) (left : List Served) → new ≡ old → after ≡ before
+      → ((deed : Deed) → deed.stream ≡ stream → IsPlain (said_in reply) left deed (service old calls) (service new left) → IsAnswer schema (asks.Subscribe body) deed (service old calls) (service new left))
+      → IsReplied schema stream (asks.Subscribe body) reply (service old calls) (service new left) before after
+  plainly reply left same still answers = record {
     readings = [];
     turn = None;
+    failed = false;
     clock = still ∙ sym (append-nil before);
-    answer = λ stream. answers (answer_with (record { stream = stream; asked = asks.Subscribe body }) [] None (told (Err refusal)))
-        (record { says = refl; unread = refl; unturned = refl; untouched = same });
+    deed = λ given. answers (deed_with stream (Answering (asks.Subscribe body)) given [] None false (said_in reply)) refl
+        (record { says = refl; unread = refl; unturned = refl; unfailed = refl; new_is = ap (λ (p : PortView). service p left) same });
   }
 
-  pub starved : new ≡ old → after ≡ before → IsReplied schema (asks.Subscribe body) (replies.Of (Err NoMemory)) old new before after
-  starved same still = plainly NoMemory same still (λ answer plain. inr plain)
+  pub starved : new ≡ old → after ≡ before → IsReplied schema stream (asks.Subscribe body) (replies.Of (Err NoMemory)) (service old calls) (service new calls) before after
+  starved same still = plainly (replies.Of (Err NoMemory)) calls same still (λ deed on plain. inr plain)
 
-  stepped : (refusal : Refusal) (step : Result SubscribeStep Refusal) → new ≡ old → after ≡ before → subscribe_step None body ≡ step
-      → ((answer : Answer) → IsPlain (told (Err refusal)) answer old new → IsStepped schema step answer old new)
-      → IsReplied schema (asks.Subscribe body) (replies.Of (Err refusal)) old new before after
-  stepped refusal step same still is answers = plainly refusal same still
-      (λ answer plain. inl (subst (λ (s : Result SubscribeStep Refusal). IsStepped schema s answer old new) (sym is) (answers answer plain)))
+  stepped : (reply : Reply) (left : List Served) (step : Result SubscribeStep Refusal) → new ≡ old → after ≡ before → subscribe_step None body ≡ step
+      → ((deed : Deed) → deed.stream ≡ stream → IsPlain (said_in reply) left deed (service old calls) (service new left) → IsFirst schema step deed (service old calls) (service new left))
+      → IsReplied schema stream (asks.Subscribe body) reply (service old calls) (service new left) before after
+  stepped reply left step same still is answers = plainly reply left same still
+      (λ deed on plain. inl (subst (λ (s : Result SubscribeStep Refusal). IsFirst schema s deed (service old calls) (service new left)) (sym is) (answers deed on plain)))
 
   -- a refusal
-  pub turned_away : (refusal : Refusal) → new ≡ old → after ≡ before → subscribe_step None body ≡ Err refusal
-      → IsReplied schema (asks.Subscribe body) (replies.Of (Err refusal)) old new before after
-  turned_away refusal same still is = stepped refusal (Err refusal) same still is (λ answer plain. plain)
+  turned_away : (refusal : Refusal) → new ≡ old → after ≡ before → subscribe_step None body ≡ Err refusal
+      → IsReplied schema stream (asks.Subscribe body) (replies.Of (Err refusal)) (service old calls) (service new calls) before after
+  turned_away refusal same still is = stepped (replies.Of (Err refusal)) calls (Err refusal) same still is (λ deed on plain. plain)
 
   refused_by : (want : Refusal) (refusal : Refusal) → want ≡ NoMemory → new ≡ old → after ≡ before → IsUnlessMemory {A = SubscribeStep} want (Err refusal) (subscribe_step None body)
-      → IsReplied schema (asks.Subscribe body) (replies.Of (Err refusal)) old new before after
+      → IsReplied schema stream (asks.Subscribe body) (replies.Of (Err refusal)) (service old calls) (service new calls) before after
   refused_by want NoMemory is same still step = starved same still
   refused_by want refusal is same still step = turned_away refusal same still (step (λ e. absurd cc))
 
   pub refused : (refusal : Refusal) → new ≡ old → after ≡ before → IsUnlessMemory {A = SubscribeStep} NoMemory (Err refusal) (subscribe_step None body)
-      → IsReplied schema (asks.Subscribe body) (replies.Of (Err refusal)) old new before after
+      → IsReplied schema stream (asks.Subscribe body) (replies.Of (Err refusal)) (service old calls) (service new calls) before after
   refused refusal same still step = refused_by NoMemory refusal refl same still step
 
-  -- another mode
-  in_another_mode : (plan : Plan) (mode : ListMode) → new ≡ old → after ≡ before → subscribe_step None body ≡ Ok (Begin plan) → plan.mode ≡ mode
-      → ((answer : Answer) → IsPlain (told (Err Unsupported)) answer old new → IsBegun schema plan mode answer old new)
-      → IsReplied schema (asks.Subscribe body) (replies.Of (Err Unsupported)) old new before after
-  in_another_mode plan mode same still is in_mode answers = stepped Unsupported (Ok (Begin plan)) same still is
-      (λ answer plain. subst (λ (m : ListMode). IsBegun schema plan m answer old new) (sym in_mode) (answers answer plain))
-
-  pub streaming : (plan : Plan) → new ≡ old → after ≡ before → subscribe_step None body ≡ Ok (Begin plan) → plan.mode ≡ modes.Stream
-      → IsReplied schema (asks.Subscribe body) (replies.Of (Err Unsupported)) old new before after
-  streaming plan same still is in_mode = in_another_mode plan modes.Stream same still is in_mode (λ answer plain. plain)
-
-  pub polling : (plan : Plan) → new ≡ old → after ≡ before → subscribe_step None body ≡ Ok (Begin plan) → plan.mode ≡ modes.Poll
-      → IsReplied schema (asks.Subscribe body) (replies.Of (Err Unsupported)) old new before after
-  polling plan same still is in_mode = in_another_mode plan modes.Poll same still is in_mode (λ answer plain. plain)
-
+  -- a call that isn't of a mode that is known
   pub in_no_mode : (plan : Plan) → new ≡ old → after ≡ before → subscribe_step None body ≡ Ok (Begin plan) → plan.mode ≡ modes.Other
-      → IsReplied schema (asks.Subscribe body) (replies.Of (Err Unsupported)) old new before after
-  in_no_mode plan same still is in_mode = in_another_mode plan modes.Other same still is in_mode (λ answer plain. plain)
+      → IsReplied schema stream (asks.Subscribe body) (replies.Of (Err Unsupported)) (service old calls) (service new calls) before after
+  in_no_mode plan same still is in_mode = stepped (replies.Of (Err Unsupported)) calls (Ok (Begin plan)) same still is
+      (λ deed on plain. subst (λ (m : ListMode). IsBegun schema plan m deed (service old calls) (service new calls)) (sym in_mode) plain)
+
+  -- a call begins to be served
+  begins_in : (plan : Plan) (mode : ListMode) (left : List Served) → new ≡ old → after ≡ before → subscribe_step None body ≡ Ok (Begin plan) → plan.mode ≡ mode
+      → ((deed : Deed) → IsPlain [] (others_than deed.stream calls ++ new_served deed.stream plan ∷ []) deed (service old calls) (service new left) → IsBegun schema plan mode deed (service old calls) (service new left))
+      → left ≡ others_than stream calls ++ new_served stream plan ∷ []
+      → IsReplied schema stream (asks.Subscribe body) replies.Nothing (service old calls) (service new left) before after
+  begins_in plan mode left same still is in_mode begun grown = stepped replies.Nothing left (Ok (Begin plan)) same still is
+      (λ deed on plain. subst (λ (m : ListMode). IsBegun schema plan m deed (service old calls) (service new left)) (sym in_mode)
+      (begun deed (subst (λ (cs : List Served). IsPlain [] cs deed (service old calls) (service new left)) (grown ∙ ap (λ (s : ℕ). others_than s calls ++ new_served s plan ∷ []) (sym on)) plain)))
+
+  pub begins : (plan : Plan) (left : List Served) → new ≡ old → after ≡ before → subscribe_step None body ≡ Ok (Begin plan) → (plan.mode ≡ modes.Stream) ⊎ (plan.mode ≡ modes.Poll)
+      → left ≡ others_than stream calls ++ new_served stream plan ∷ []
+      → IsReplied schema stream (asks.Subscribe body) replies.Nothing (service old calls) (service new left) before after
+  begins plan left same still is (inl in_mode) grown = begins_in plan modes.Stream left same still is in_mode (λ deed plain. plain) grown
+  begins plan left same still is (inr in_mode) grown = begins_in plan modes.Poll left same still is in_mode (λ deed plain. plain) grown
 
   -- the turn of a ONCE call
-  pub once : (plan : Plan) (now : ℕ) (call : CallView) (result : Result (List (List ℕ)) Refusal) → subscribe_step None body ≡ Ok (Begin plan) → plan.mode ≡ modes.Once
-      → TurnsOnce schema now (new_call plan) old result call new → after ≡ before ++ now ∷ []
-      → IsReplied schema (asks.Subscribe body) (replies.Once result) old new before after
-  once plan now call result is in_mode turns read = record {
+  once : (plan : Plan) (now : ℕ) (call : CallView) (result : Result (List (List ℕ)) Refusal) (reply : Reply) → subscribe_step None body ≡ Ok (Begin plan) → plan.mode ≡ modes.Once
+      → TurnsOnce schema now (new_call plan) old result call new → after ≡ before ++ now ∷ [] → said_in reply ≡ said_once result
+      → IsReplied schema stream (asks.Subscribe body) reply (service old calls) (service new calls) before after
+  once plan now call result reply is in_mode turns read said = record {
     readings = now ∷ [];
     turn = Some turns.looks.turn;
+    failed = has_failed result;
     clock = read;
-    answer = λ stream.
-        let answer = answer_with (record { stream = stream; asked = asks.Subscribe body }) (now ∷ []) (Some turns.looks.turn) (told_all result) in
-        let said : IsOnce schema plan answer old new = record { now = now; result = result; call = call; turns = turns; read = refl; turned = refl; told = refl } in
-        inl (subst (λ (s : Result SubscribeStep Refusal). IsStepped schema s answer old new) (sym is)
-        (subst (λ (m : ListMode). IsBegun schema plan m answer old new) (sym in_mode) said));
+    deed = λ given.
+        let deed = deed_with stream (Answering (asks.Subscribe body)) given (now ∷ []) (Some turns.looks.turn) (has_failed result) (said_in reply) in
+        let answers : IsOnce schema plan deed (service old calls) (service new calls) = record {
+          result = result;
+          after = call;
+          turn = record { now = now; turns = turns; read = refl; turned = refl; failed = refl; says = said; calls_are = refl };
+        } in
+        inl (subst (λ (s : Result SubscribeStep Refusal). IsFirst schema s deed (service old calls) (service new calls)) (sym is)
+        (subst (λ (m : ListMode). IsBegun schema plan m deed (service old calls) (service new calls)) (sym in_mode) answers));
   }
 
   -- by a call that has just begun, with the schema of the desk
-  pub once_turned : (plan : Plan) (by : List SchemaNode) (fresh : CallView) (now : ℕ) (call : CallView) (result : Result (List (List ℕ)) Refusal) → subscribe_step None body ≡ Ok (Begin plan) → plan.mode ≡ modes.Once
-      → by ≡ schema → fresh ≡ new_call plan → TurnsOnce by now fresh old result call new → after ≡ before ++ now ∷ []
-      → IsReplied schema (asks.Subscribe body) (replies.Once result) old new before after
-  once_turned plan by fresh now call result is in_mode same anew turns read =
-      once plan now call result is in_mode
-      (subst (λ (c : CallView). TurnsOnce schema now c old result call new) anew (subst (λ (s : List SchemaNode). TurnsOnce s now fresh old result call new) same turns)) read
+  pub once_turned : (plan : Plan) (by : List SchemaNode) (fresh : CallView) (now : ℕ) (call : CallView) (result : Result (List (List ℕ)) Refusal) (reply : Reply) → subscribe_step None body ≡ Ok (Begin plan) → plan.mode ≡ modes.Once
+      → by ≡ schema → fresh ≡ new_call plan → TurnsOnce by now fresh old result call new → after ≡ before ++ now ∷ [] → said_in reply ≡ said_once result
+      → IsReplied schema stream (asks.Subscribe body) reply (service old calls) (service new calls) before after
+  once_turned plan by fresh now call result reply is in_mode same anew turns read said =
+      once plan now call result reply is in_mode
+      (subst (λ (c : CallView). TurnsOnce schema now c old result call new) anew (subst (λ (s : List SchemaNode). TurnsOnce s now fresh old result call new) same turns)) read said
 
 -- a first message is no Poll
 begun_is : (plan : Result Plan Refusal) → begun plan ≡ Ok Poll → ⊥
@@ -153,43 +169,7 @@ message_is (Some turn) is = first_is turn is
 pub no_poll_first : (body : List ℕ) → subscribe_step None body ≡ Ok Poll → ⊥
 no_poll_first body is = message_is (turn_of body) is
 
--- ---- what such an answer does
-
--- it takes no turn, or is that of a ONCE call
-abbrev pub IsPlainOrOnce : List SchemaNode → Answer → PortView → PortView → Type 0
-IsPlainOrOnce schema answer old new =
-    ((said : List Said) × IsPlain said answer old new) ⊎ ((plan : Plan) × IsOnce schema plan answer old new)
-
-begun_so : (schema : List SchemaNode) (plan : Plan) (mode : ListMode) (answer : Answer) (old new : PortView) → IsBegun schema plan mode answer old new → IsPlainOrOnce schema answer old new
-begun_so schema plan modes.Once answer old new is = inr (plan, is)
-begun_so schema plan modes.Stream answer old new is = inl (told (Err Unsupported), is)
-begun_so schema plan modes.Poll answer old new is = inl (told (Err Unsupported), is)
-begun_so schema plan modes.Other answer old new is = inl (told (Err Unsupported), is)
-
-stepped_so : (schema : List SchemaNode) (step : Result SubscribeStep Refusal) (answer : Answer) (old new : PortView) → IsStepped schema step answer old new → IsPlainOrOnce schema answer old new
-stepped_so schema (Ok (Begin plan)) answer old new is = begun_so schema plan plan.mode answer old new is
-stepped_so schema (Ok Poll) answer old new is = absurd is
-stepped_so schema (Err refusal) answer old new is = inl (told (Err refusal), is)
-
-pub subscribed_so : (schema : List SchemaNode) (body : List ℕ) (answer : Answer) (old new : PortView) → IsSubscribed schema body answer old new → IsPlainOrOnce schema answer old new
-subscribed_so schema body answer old new (inl is) = stepped_so schema (subscribe_step None body) answer old new is
-subscribed_so schema body answer old new (inr is) = inl (told (Err NoMemory), is)
-
--- ---- marks
-
-no_fault_told : (turn : Turn) (messages : List (List ℕ)) → fault_in (Some turn) (told_all (Ok messages)) ≡ 0
-no_fault_told turn [] = refl
-no_fault_told turn (m ∷ messages) = refl
-
-refusal_marks : (marks : ℕ) (turn : Turn) (refusal : Refusal) → marks_after {T = View} marks (Err refusal) ≡ marks + fault_in (Some turn) (told_all (Err refusal))
-refusal_marks marks turn DiskFault = refl
-refusal_marks marks turn refusal = omega arith
-
-pub once_marks : (schema : List SchemaNode) (marks now : ℕ) (turn : Turn) (call next : CallView) (look : Result View Refusal) (result : Result (List (List ℕ)) Refusal) → Answers schema call now look result next
-    → marks_after marks look ≡ marks + fault_in (Some turn) (told_all result)
-once_marks schema marks now turn call next (Ok view) (Ok messages) answers = let none = no_fault_told turn messages in omega (arith, none)
-once_marks schema marks now turn call next (Ok view) (Err NoMemory) answers = omega arith
-once_marks schema marks now turn call next (Ok view) (Err refusal) answers = absurd answers
-once_marks schema marks now turn call next (Err refusal) (Ok messages) answers = absurd answers
-once_marks schema marks now turn call next (Err refusal) (Err answer) answers =
-    refusal_marks marks turn refusal ∙ ap (λ (r : Refusal). marks + fault_in (Some turn) (told_all (Err r))) (sym answers.0)
+-- what holds of an answer, or nothing was done
+pub ok_or : {A E : Type 0} (P : A → Type 0) (Q : Type 0) (result : Result A E) → Q → IfOk result P → MatchResult result P (λ fault. Q)
+ok_or P Q (Ok value) q p = p
+ok_or P Q (Err fault) q p = q

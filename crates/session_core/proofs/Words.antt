@@ -29,11 +29,10 @@ use Rattle.h2_send.specs.declared.fault.WireFaultOut.TheVariants as faults
 use Rattle.h2_send.proofs.Closing.{line_after_one}
 use Rattle.h2_send.proofs.Orders.{output_grows}
 use Rattle.session_calls.specs.declared.request.Request.{Request}
-use Rattle.book_port.specs.Ports.{PortView}
 use Rattle.session_core.specs.declared.how.How.TheVariants as hows
 use Rattle.session_core.specs.declared.waiting.Waiting.{Waiting}
 use Rattle.session_core.specs.Saying.{AreBehind}
-use Rattle.session_core.specs.Serving.{Start, IsServed}
+use Rattle.session_core.specs.Serving.{Start, Standing, IsServed}
 use Rattle.session_core.specs.Writing.{IsBroken}
 use Rattle.session_core.specs.inner.Ends.{how_of}
 use Rattle.session_core.specs.inner.Places.{IsOpen, IsWriting, Stands, HasEnded, course_of, place_of}
@@ -118,21 +117,21 @@ told_so false stream recv reader is = is
 -- ---- the loop over what waits: `items` were not tried yet
 
 module _ {S : Type 0} (seen : S → Output) (start : Start) (output : Output) (octets : List ℕ) where
-  split_first : (place_recv : State) (wire : WireView S) (heard : List RecvEvent) (still items rest : List Waiting) (w : Waiting) (owed : List Request) (port : PortView) (readings : List ℕ)
-      → items ≡ w ∷ rest → Stands seen start output octets (place_of place_recv wire heard (still ++ items) owed port readings)
-      → Stands seen start output octets (place_of place_recv wire heard (still ++ w ∷ rest) owed port readings)
-  split_first recv wire heard still items rest w owed port readings first stands =
-      subst (λ (ws : List Waiting). Stands seen start output octets (place_of recv wire heard (still ++ ws) owed port readings)) first stands
+  split_first : (place_recv : State) (wire : WireView S) (heard : List RecvEvent) (still items rest : List Waiting) (w : Waiting) (owed : List Request) (at : Standing)
+      → items ≡ w ∷ rest → Stands seen start output octets (place_of place_recv wire heard (still ++ items) owed at)
+      → Stands seen start output octets (place_of place_recv wire heard (still ++ w ∷ rest) owed at)
+  split_first recv wire heard still items rest w owed at first stands =
+      subst (λ (ws : List Waiting). Stands seen start output octets (place_of recv wire heard (still ++ ws) owed at)) first stands
 
-  word_said : (recv next : State) (old new : WireView S) (heard : List RecvEvent) (still rest : List Waiting) (w : Waiting) (owed : List Request) (port : PortView) (readings : List ℕ)
+  word_said : (recv next : State) (old new : WireView S) (heard : List RecvEvent) (still rest : List Waiting) (w : Waiting) (owed : List Request) (at : Standing)
       → readiness old.condition w.stream old.line ≡ Free → AreBehind old.inputs still → AreAccepted first_line new.inputs → Says seen (Speech w.stream w.said) took.Taken old new → next ≡ told_of w.stream w.said recv
-      → Stands seen start output octets (place_of recv old heard (still ++ w ∷ rest) owed port readings)
-      → Stands seen start output octets (place_of next new heard (still ++ rest) owed port readings)
-  word_said recv next old new heard still rest w owed port readings free behind accepted says told stands =
+      → Stands seen start output octets (place_of recv old heard (still ++ w ∷ rest) owed at)
+      → Stands seen start output octets (place_of next new heard (still ++ rest) owed at)
+  word_said recv next old new heard still rest w owed at free behind accepted says told stands =
       let input = Speech w.stream w.said in
       let is_free = ready_by seen w.stream old old.inputs Free stands.writing.is_open free in
       let inputs_are : new.inputs ≡ old.inputs ++ input ∷ [] = ap (λ (v : WireView S). v.inputs) says.1 in
-      let served = speech_served start stands.moments old.inputs still rest w owed port readings (none_waits_there w.stream old.inputs still is_free behind) (free_says w.stream old.inputs is_free) stands.served in
+      let served = speech_served start stands.moments old.inputs still rest w owed at (none_waits_there w.stream old.inputs still is_free behind) (free_says w.stream old.inputs is_free) stands.served in
       record {
         moments = stands.moments ++ ends_with w.stream w.said;
         reader = reader_after (is_last w.said) w.stream stands.reader;
@@ -140,22 +139,22 @@ module _ {S : Type 0} (seen : S → Output) (start : Start) (output : Output) (o
         frames = frames_after (is_last w.said) w.stream octets stands.moments stands.reader stands.frames;
         writing = writes_on seen output old new input accepted stands.writing says.0 says.1;
         heard_is = stands.heard_is ∙ sym (events_at_end stands.moments w.stream w.said);
-        served = subst (λ (is : List Input). IsServed start (course_of (stands.moments ++ ends_with w.stream w.said) is (still ++ rest) owed port readings)) (sym inputs_are) served;
+        served = subst (λ (is : List Input). IsServed start (course_of (stands.moments ++ ends_with w.stream w.said) is (still ++ rest) owed at)) (sym inputs_are) served;
       }
 
-  pub word_taken : (recv next : State) (old new : WireView S) (heard : List RecvEvent) (still items rest : List Waiting) (w : Waiting) (owed : List Request) (port : PortView) (readings : List ℕ)
+  pub word_taken : (recv next : State) (old new : WireView S) (heard : List RecvEvent) (still items rest : List Waiting) (w : Waiting) (owed : List Request) (at : Standing)
       → items ≡ w ∷ rest → readiness old.condition w.stream old.line ≡ Free → AreBehind old.inputs still → AreAccepted first_line new.inputs → Says seen (Speech w.stream w.said) took.Taken old new → next ≡ told_of w.stream w.said recv
-      → Stands seen start output octets (place_of recv old heard (still ++ items) owed port readings)
-      → Stands seen start output octets (place_of next new heard (still ++ rest) owed port readings)
-  word_taken recv next old new heard still items rest w owed port readings first free behind accepted says told stands =
-      word_said recv next old new heard still rest w owed port readings free behind accepted says told (split_first recv old heard still items rest w owed port readings first stands)
+      → Stands seen start output octets (place_of recv old heard (still ++ items) owed at)
+      → Stands seen start output octets (place_of next new heard (still ++ rest) owed at)
+  word_taken recv next old new heard still items rest w owed at first free behind accepted says told stands =
+      word_said recv next old new heard still rest w owed at free behind accepted says told (split_first recv old heard still items rest w owed at first stands)
 
-  pub word_gone : (recv : State) (wire : WireView S) (heard : List RecvEvent) (still items rest : List Waiting) (w : Waiting) (owed : List Request) (port : PortView) (readings : List ℕ)
+  pub word_gone : (recv : State) (wire : WireView S) (heard : List RecvEvent) (still items rest : List Waiting) (w : Waiting) (owed : List Request) (at : Standing)
       → items ≡ w ∷ rest → readiness wire.condition w.stream wire.line ≡ Gone
-      → Stands seen start output octets (place_of recv wire heard (still ++ items) owed port readings)
-      → Stands seen start output octets (place_of recv wire heard (still ++ rest) owed port readings)
-  word_gone recv wire heard still items rest w owed port readings first gone stands =
-      let s = split_first recv wire heard still items rest w owed port readings first stands in
+      → Stands seen start output octets (place_of recv wire heard (still ++ items) owed at)
+      → Stands seen start output octets (place_of recv wire heard (still ++ rest) owed at)
+  word_gone recv wire heard still items rest w owed at first gone stands =
+      let s = split_first recv wire heard still items rest w owed at first stands in
       let is_gone = ready_by seen w.stream wire wire.inputs Gone s.writing.is_open gone in
       record {
         moments = s.moments;
@@ -164,30 +163,32 @@ module _ {S : Type 0} (seen : S → Output) (start : Start) (output : Output) (o
         frames = s.frames;
         writing = s.writing;
         heard_is = s.heard_is;
-        served = gone_served start s.moments wire.inputs still rest w owed port readings (gone_says w.stream wire.inputs is_gone) s.served;
+        served = gone_served start s.moments wire.inputs still rest w owed at (gone_says w.stream wire.inputs is_gone) s.served;
       }
 
-  pub word_kept : (recv : State) (wire : WireView S) (heard : List RecvEvent) (still more items rest : List Waiting) (w : Waiting) (owed : List Request) (port : PortView) (readings : List ℕ)
+  pub word_kept : (recv : State) (wire : WireView S) (heard : List RecvEvent) (still more items rest : List Waiting) (w : Waiting) (owed : List Request) (at : Standing)
       → items ≡ w ∷ rest → more ≡ still ++ w ∷ []
-      → Stands seen start output octets (place_of recv wire heard (still ++ items) owed port readings)
-      → Stands seen start output octets (place_of recv wire heard (more ++ rest) owed port readings)
-  word_kept recv wire heard still more items rest w owed port readings first grown stands =
-      let s = split_first recv wire heard still items rest w owed port readings first stands in
-      subst (λ (ws : List Waiting). Stands seen start output octets (place_of recv wire heard ws owed port readings))
+      → Stands seen start output octets (place_of recv wire heard (still ++ items) owed at)
+      → Stands seen start output octets (place_of recv wire heard (more ++ rest) owed at)
+  word_kept recv wire heard still more items rest w owed at first grown stands =
+      let s = split_first recv wire heard still items rest w owed at first stands in
+      subst (λ (ws : List Waiting). Stands seen start output octets (place_of recv wire heard ws owed at))
       (sym (ap (λ (m : List Waiting). m ++ rest) grown ∙ append_assoc still (w ∷ []) rest)) s
 
   -- ---- exits
 
   -- memory is wanting: what was served so far stands
-  pub starved : (recv : State) (old new : WireView S) (heard : List RecvEvent) (waiting : List Waiting) (owed : List Request) (port : PortView) (readings : List ℕ)
+  pub starved : (recv : State) (old new : WireView S) (heard : List RecvEvent) (waiting : List Waiting) (owed : List Request) (at : Standing)
       → seen new.sink ≡ seen old.sink
-      → Stands seen start output octets (place_of recv old heard waiting owed port readings)
-      → HasEnded seen hows.NoMemory start octets output new port readings
-  starved recv old new heard waiting owed port readings same stands = record {
+      → Stands seen start output octets (place_of recv old heard waiting owed at)
+      → HasEnded seen hows.NoMemory start octets output new at.port at.readings
+  starved recv old new heard waiting owed at same stands = record {
     moments = stands.moments;
     inputs = old.inputs;
     waiting = waiting;
     owed = owed;
+    calls = at.calls;
+    round = at.round;
     partly = wholly_read octets stands.moments stands.reader stands.frames;
     made = wholly_read octets stands.moments stands.reader stands.frames;
     served = stands.served;
@@ -197,11 +198,11 @@ module _ {S : Type 0} (seen : S → Output) (start : Start) (output : Output) (o
     closing = tt;
   }
 
-  word_breaks : (recv : State) (old new : WireView S) (heard : List RecvEvent) (still rest : List Waiting) (w : Waiting) (owed : List Request) (port : PortView) (readings : List ℕ)
+  word_breaks : (recv : State) (old new : WireView S) (heard : List RecvEvent) (still rest : List Waiting) (w : Waiting) (owed : List Request) (at : Standing)
       → readiness old.condition w.stream old.line ≡ Free → AreBehind old.inputs still → AreAccepted first_line new.inputs → Says seen (Speech w.stream w.said) took.WriteFault old new
-      → Stands seen start output octets (place_of recv old heard (still ++ w ∷ rest) owed port readings)
-      → HasEnded seen hows.WriteFault start octets output new port readings
-  word_breaks recv old new heard still rest w owed port readings free behind accepted says stands =
+      → Stands seen start output octets (place_of recv old heard (still ++ w ∷ rest) owed at)
+      → HasEnded seen hows.WriteFault start octets output new at.port at.readings
+  word_breaks recv old new heard still rest w owed at free behind accepted says stands =
       let is_free = ready_by seen w.stream old old.inputs Free stands.writing.is_open free in
       let frames = frames_after (is_last w.said) w.stream octets stands.moments stands.reader stands.frames in
       record {
@@ -209,24 +210,26 @@ module _ {S : Type 0} (seen : S → Output) (start : Start) (output : Output) (o
         inputs = old.inputs ++ Speech w.stream w.said ∷ [];
         waiting = still ++ rest;
         owed = owed;
+        calls = at.calls;
+        round = at.round;
         partly = wholly_read octets (stands.moments ++ ends_with w.stream w.said) (reader_after (is_last w.said) w.stream stands.reader) frames;
         made = wholly_read octets (stands.moments ++ ends_with w.stream w.said) (reader_after (is_last w.said) w.stream stands.reader) frames;
-        served = speech_served start stands.moments old.inputs still rest w owed port readings (none_waits_there w.stream old.inputs still is_free behind) (free_says w.stream old.inputs is_free) stands.served;
+        served = speech_served start stands.moments old.inputs still rest w owed at (none_waits_there w.stream old.inputs still is_free behind) (free_says w.stream old.inputs is_free) stands.served;
         settled = tt;
         accepted = subst (λ (is : List Input). AreAccepted first_line is) says.1 accepted;
         wrote = breaks_off seen octets (stands.moments ++ ends_with w.stream w.said) output old new (Speech w.stream w.said) stands.writing says.0;
         closing = tt;
       }
 
-  pub word_fails : (fault : WireFaultOut) (recv : State) (old new : WireView S) (heard : List RecvEvent) (still items rest : List Waiting) (w : Waiting) (owed : List Request) (port : PortView) (readings : List ℕ)
+  pub word_fails : (fault : WireFaultOut) (recv : State) (old new : WireView S) (heard : List RecvEvent) (still items rest : List Waiting) (w : Waiting) (owed : List Request) (at : Standing)
       → items ≡ w ∷ rest → readiness old.condition w.stream old.line ≡ Free → AreBehind old.inputs still → Speaks seen w.stream w.said (Err fault) old new
-      → Stands seen start output octets (place_of recv old heard (still ++ items) owed port readings)
-      → HasEnded seen (how_of fault) start octets output new port readings
-  word_fails faults.WriteFault recv old new heard still items rest w owed port readings first free behind speaks stands =
-      word_breaks recv old new heard still rest w owed port readings free behind speaks.0 speaks.1 (split_first recv old heard still items rest w owed port readings first stands)
-  word_fails faults.NoMemory recv old new heard still items rest w owed port readings first free behind speaks stands =
-      starved recv old new heard (still ++ items) owed port readings speaks stands
-  word_fails faults.Overflow recv old new heard still items rest w owed port readings first free behind speaks stands = absurd speaks
+      → Stands seen start output octets (place_of recv old heard (still ++ items) owed at)
+      → HasEnded seen (how_of fault) start octets output new at.port at.readings
+  word_fails faults.WriteFault recv old new heard still items rest w owed at first free behind speaks stands =
+      word_breaks recv old new heard still rest w owed at free behind speaks.0 speaks.1 (split_first recv old heard still items rest w owed at first stands)
+  word_fails faults.NoMemory recv old new heard still items rest w owed at first free behind speaks stands =
+      starved recv old new heard (still ++ items) owed at speaks stands
+  word_fails faults.Overflow recv old new heard still items rest w owed at first free behind speaks stands = absurd speaks
 
 -- ---- as it is said
 

@@ -1,9 +1,9 @@
-pub mod Answers
+pub mod Deeds
 pub mod Reading
+pub mod Rounds
 pub mod Runs
 pub mod Saying
 pub mod Serving
-pub mod Timing
 pub mod Writing
 pub mod inner
 pub mod laws

@@ -1,5 +1,6 @@
 -- A whole connection: what was read, asked, answered, said and written, from its preface to its end.
 use Rattle.std.specs.Prelude.{◌≡◌, ℕ, List, []}
+use Rattle.std.specs.List.{AllByRecursion}
 use Rattle.edge_traits.specs.Input.{Input as Source}
 use Rattle.edge_traits.specs.Output.{Output}
 use Rattle.base_kinds.specs.Schema.{SchemaNode}
@@ -11,10 +12,13 @@ use Rattle.session_calls.specs.declared.request.Request.{Request}
 use Rattle.book_port.specs.Ports.{PortView}
 use Rattle.session_core.specs.declared.how.How.{How}
 use Rattle.session_core.specs.declared.how.How.TheVariants as hows
+use Rattle.session_core.specs.declared.served.Served.{Served}
 use Rattle.session_core.specs.declared.waiting.Waiting.{Waiting}
+use Rattle.session_core.specs.Deeds.{Deed}
 use Rattle.session_core.specs.Reading.{IsGiven, IsMadeOf, IsReadPartly}
+use Rattle.session_core.specs.Rounds.{HadTurns}
 use Rattle.session_core.specs.Saying.{AreBehind}
-use Rattle.session_core.specs.Serving.{Start, IsServed}
+use Rattle.session_core.specs.Serving.{Start, Standing, IsServed, standing_of}
 use Rattle.session_core.specs.Writing.{IsWritten}
 
 -- what is seen of what a session is handed: its source, its sink, its port of a book, and the readings that its clock gave
@@ -32,11 +36,18 @@ abbrev pub start_of : List SchemaNode → Outside → Start
 start_of schema outside =
     record { schema = schema; port = outside.port; readings = outside.readings }
 
--- Every request is answered, and what waits, waits for the peer: it needn't be so where the output failed or memory ran out.
-abbrev pub IsSettled : How → List Request → List Input → List Waiting → Type 0
-IsSettled hows.WriteFault owed inputs waiting = Unit {0}
-IsSettled hows.NoMemory owed inputs waiting = Unit {0}
-IsSettled _ owed inputs waiting = (owed ≡ []) × AreBehind inputs waiting
+-- Every request is answered, what waits, waits for the peer, and each call that is served has had its turns: it needn't be so where
+-- the output failed or memory ran out.
+pub record IsAtRest (owed : List Request) (inputs : List Input) (waiting : List Waiting)
+    (standing : Standing) : Type 0 where
+  pub none_owed : owed ≡ []
+  pub behind : AreBehind inputs waiting
+  pub turned : AllByRecursion (HadTurns standing.round inputs) standing.calls
+
+abbrev pub IsSettled : How → List Request → List Input → List Waiting → Standing → Type 0
+IsSettled hows.WriteFault owed inputs waiting standing = Unit {0}
+IsSettled hows.NoMemory owed inputs waiting standing = Unit {0}
+IsSettled _ owed inputs waiting standing = IsAtRest owed inputs waiting standing
 
 -- A session that was handed objects like `old`, ended like this, and left them like `new`. The desk answers by this schema.
 pub record SessionRun (schema : List SchemaNode) (old : Outside) (how : How) (new : Outside)
@@ -49,6 +60,9 @@ pub record SessionRun (schema : List SchemaNode) (old : Outside) (how : How) (ne
   -- what was not said, and not answered
   pub waiting : List Waiting
   pub owed : List Request
+  -- the calls that were served at the end, and what was done since the last frame
+  pub calls : List Served
+  pub round : List Deed
   -- RFC 9113 sections 3.4 and 6: what was read
   pub given : IsGiven how octets old.input new.input
   pub partly : IsReadPartly octets moments
@@ -61,9 +75,8 @@ pub record SessionRun (schema : List SchemaNode) (old : Outside) (how : How) (ne
     inputs = inputs;
     waiting = waiting;
     owed = owed;
-    port = new.port;
-    readings = new.readings;
+    standing = standing_of new.port calls new.readings round;
   })
-  pub settled : IsSettled how owed inputs waiting
+  pub settled : IsSettled how owed inputs waiting (standing_of new.port calls new.readings round)
   -- RFC 9113 sections 5.2, 5.4 and 6: what was written
   pub written : IsWritten how octets moments inputs old.output new.output

@@ -11,7 +11,7 @@ use Rattle.h2_send.specs.Lines.{first_line}
 use Rattle.h2_send.specs.Offers.{ready_on}
 use Rattle.h2_send.specs.Orders.{line_after}
 use Rattle.session_core.specs.declared.waiting.Waiting.{Waiting}
-use Rattle.session_core.specs.Answers.{Answer, said_to}
+use Rattle.session_core.specs.Deeds.{Deed, said_to}
 
 -- what waits to be said on a stream
 abbrev pub waits_on : ℕ → List Waiting → List Said
@@ -33,11 +33,11 @@ pub record IsFront (front whole : List Said) : Type 0 where
   pub rest : List Said
   pub joined : whole ≡ front ++ rest
 
--- What was said on a stream, and what waits there, is what the answers say. Where the stream is over, the first of it was said.
-abbrev pub IsSaid : ℕ → List Waiting → List Item → List Answer → Type 0
-IsSaid stream waiting order answers =
-    (said_on stream order ++ waits_on stream waiting ≡ said_to stream answers)
-    ⊎ (IsOver stream order × IsFront (said_on stream order) (said_to stream answers))
+-- What was said on a stream, and what waits there, is what the deeds say. Where the stream is over, the first of it was said.
+abbrev pub IsSaid : ℕ → List Waiting → List Item → List Deed → Type 0
+IsSaid stream waiting order deeds =
+    (said_on stream order ++ waits_on stream waiting ≡ said_to stream deeds)
+    ⊎ (IsOver stream order × IsFront (said_on stream order) (said_to stream deeds))
 
 -- What waits, waits behind octets of its stream that the peer's windows don't let through.
 abbrev pub AreBehind : List Input → List Waiting → Type 0

@@ -1,5 +1,6 @@
 -- What a session has done so far: what was asked, what the book did, and what was said.
 use Rattle.std.specs.Prelude.{◌≡◌, ℕ, List, [], ◌++◌}
+use Rattle.std.specs.List.{AllByRecursion}
 use Rattle.base_kinds.specs.Schema.{SchemaNode}
 use Rattle.h2_events.specs.Items.{as_read, heard}
 use Rattle.h2_calls.specs.Calls.{Moment, events_of, reads_of}
@@ -9,16 +10,25 @@ use Rattle.h2_send.specs.Orders.{order_of}
 use Rattle.session_calls.specs.declared.request.Request.{Request}
 use Rattle.session_calls.specs.Requests.{requests}
 use Rattle.book_port.specs.Ports.{PortView}
+use Rattle.session_core.specs.declared.served.Served.{Served}
 use Rattle.session_core.specs.declared.waiting.Waiting.{Waiting}
-use Rattle.session_core.specs.Answers.{Answer, AreAnswered, requests_of, readings_of}
+use Rattle.session_core.specs.Deeds.{Deed, Service, AreDone, requests_in, readings_in}
+use Rattle.session_core.specs.Rounds.{Round, AreTimely, AreWhole, IsOfOneFrame, IsRecent, deeds_of, inputs_of}
 use Rattle.session_core.specs.Saying.{IsSaid}
-use Rattle.session_core.specs.Timing.{AreTimely}
 
 -- what a session begins with: the schema that its desk answers by, its port, and the readings that its clock gave before
 pub record Start : Type 0 where
   pub schema : List SchemaNode
   pub port : PortView
   pub readings : List ℕ
+
+-- Where a session stands: its port, the calls that it serves, the readings that its clock gave, and what it has done since the last
+-- frame.
+pub record Standing : Type 0 where
+  pub port : PortView
+  pub calls : List Served
+  pub readings : List ℕ
+  pub round : List Deed
 
 pub record Course : Type 0 where
   -- the frames that were read, with this side's ends of streams between them
@@ -29,18 +39,40 @@ pub record Course : Type 0 where
   pub waiting : List Waiting
   -- the requests that are whole and not answered
   pub owed : List Request
-  pub port : PortView
-  pub readings : List ℕ
+  pub standing : Standing
+
+abbrev pub standing_of : PortView → List Served → List ℕ → List Deed → Standing
+standing_of port calls readings round =
+    record { port = port; calls = calls; readings = readings; round = round }
+
+abbrev pub first_service : Start → Service
+first_service start = record { port = start.port; calls = [] }
+
+abbrev pub service_of : Standing → Service
+service_of standing = record { port = standing.port; calls = standing.calls }
 
 -- The requests of the events were answered in their order, each once, but for those that are owed. What a frame causes stands
--- before the next frame (`timely`), and the wire's order and the reader's are one. The peer
--- opens a stream once at most.
+-- before the next frame (`whole`), turns come behind the answers (`timely`), and the wire's order and the reader's are one. The peer opens a stream once at most.
 pub record IsServed (start : Start) (course : Course) : Type 0 where
-  pub answers : List Answer
-  pub asked : requests_of answers ++ course.owed ≡ requests (events_of course.moments)
-  pub answered : AreAnswered start.schema start.port answers course.port
-  pub clock : course.readings ≡ start.readings ++ readings_of answers
-  pub said : (stream : ℕ) → IsSaid stream course.waiting (order_of course.inputs) answers
-  pub timely : AreTimely answers [] course.inputs
+  -- the rounds that are over, and what the sending half was given in the one that goes on
+  pub rounds : List Round
+  pub last : List Input
+  pub given : course.inputs ≡ inputs_of rounds ++ last
+  pub frame : IsOfOneFrame rounds last
+  pub whole : AreWhole start.schema (first_service start) [] rounds
+  pub recent : AllByRecursion (IsRecent course.inputs) course.standing.round
+  pub asked : requests_in (deeds_of rounds ++ course.standing.round) ++ course.owed
+      ≡ requests (events_of course.moments)
+  pub done : AreDone start.schema (first_service start) (deeds_of rounds ++ course.standing.round)
+      (service_of course.standing)
+  pub timely : AreTimely [] (deeds_of rounds ++ course.standing.round)
+  pub clock : course.standing.readings
+      ≡ start.readings ++ readings_in (deeds_of rounds ++ course.standing.round)
+  pub said : (stream : ℕ) → IsSaid stream course.waiting (order_of course.inputs)
+      (deeds_of rounds ++ course.standing.round)
   pub opened : (stream : ℕ) → IsOpenedOnce stream (heard (order_of course.inputs))
   pub one_order : as_read (order_of course.inputs) ≡ reads_of course.moments
+
+-- all that was done
+abbrev pub deeds_in : {start : Start} {course : Course} → IsServed start course → List Deed
+deeds_in {start} {course} served = deeds_of served.rounds ++ course.standing.round

@@ -1,17 +1,23 @@
-//! Requests are answered by the desk, at the port of a book.
-ghost use Rattle.std.specs.Prelude.{◌≡◌, ℕ, List, [], ◌∷◌, ◌++◌, map, OnOk, None, Ok};
-ghost use Rattle.base_kinds.specs.declared.request.ListMode.TheVariants.{Once};
+//! Requests are answered by the desk, at the port of a book, and calls of the modes STREAM and POLL begin to be served.
+ghost use Rattle.std.specs.Prelude.{◌≡◌, ◌⊎◌, ℕ, List, [], ◌∷◌, ◌++◌, map, IfOk, MatchResult, OnOk, None, Ok};
+ghost use Rattle.base_kinds.specs.Schema.{SchemaNode};
+ghost use Rattle.base_kinds.specs.declared.request.ListMode.TheVariants as modes;
 ghost use Rattle.h2_events.specs.declared.said.Said.TheVariants.{Message};
+ghost use Rattle.book_port.specs.Ports.{PortView};
 ghost use Rattle.rpc_desk.specs.Subscribes.{subscribe_step};
 ghost use Rattle.rpc_desk.specs.declared.subscribe_steps.SubscribeStep.TheVariants.{Begin};
 ghost use Rattle.session_calls.specs.declared.request.Asked.TheVariants as asks;
-ghost use Rattle.session_core.specs.Answers.{told_all};
-ghost use Rattle.session_core.specs.inner.Steps.{IsReplied, said_in};
+ghost use Rattle.session_core.specs.declared.served.Served.{Served as Serving};
+ghost use Rattle.session_core.specs.Deeds.{others_than, told_all};
+ghost use Rattle.session_core.specs.inner.Steps.{IsReplied, said_in, service};
 ghost use Rattle.session_core.specs.inner.Words.{words};
 
+use crate::later::answer_later;
+use crate::reply::{Answered, Reply};
+use crate::served::{Served, ServedCalls};
 use crate::waiting::{Waiting, Waitings};
 use base_kinds::{ListMode, Refusal};
-use base_lists::{Bytes, NoMemory};
+use base_lists::NoMemory;
 use book_port::BookPort;
 use h2_events::Said;
 use rpc_desk::{Desk, SubscribeStep};
@@ -21,15 +27,6 @@ use sub_plan::Plan;
 use subscribe_calls::{Messages, SubscribeCall};
 use time_traits::Clock;
 
-/// What is answered to what was asked.
-#[derive(Debug, Drop)]
-pub(crate) enum Reply {
-    Of(Result<Bytes, Refusal>),
-    /// What the turn of a ONCE call says.
-    Once(Result<Messages, Refusal>),
-    Http(u16),
-}
-
 /// The answer to a ONCE call with this plan, at a reading of the clock.
 fn answer_once<P: BookPort, C: Clock>(
     alloc: Global,
@@ -38,9 +35,10 @@ fn answer_once<P: BookPort, C: Clock>(
     clock: &mut C,
     plan: Plan,
 ) -> Reply
-    ensures replied { (body : List ℕ) → subscribe_step None body ≡ Ok (Begin plan)
-        → plan.mode ≡ Once
-        → IsReplied desk.now (asks.Subscribe body) result (P.port book.old) (P.port book.new)
+    ensures replied { (stream : ℕ) (body : List ℕ) (calls : List Serving)
+        → subscribe_step None body ≡ Ok (Begin plan) → plan.mode ≡ modes.Once
+        → IsReplied desk.now stream (asks.Subscribe body) result
+        (service (P.port book.old) calls) (service (P.port book.new) calls)
         (C.readings clock.old) (C.readings clock.new) }
     ensures opened { (P.port book.new).opened ≡ (P.port book.old).opened }
 {
@@ -49,7 +47,53 @@ fn answer_once<P: BookPort, C: Clock>(
         Err(_) => return Reply::Of(Err(Refusal::NoMemory)),
     };
     let now = clock.now();
-    Reply::Once(call.turn(alloc, desk.schema(), now, book))
+    match call.turn(alloc, desk.schema(), now, book) {
+        Ok(messages) => Reply::Say(messages, true),
+        Err(refusal) => Reply::Of(Err(refusal)),
+    }
+}
+
+/// The calls that aren't on the stream.
+fn others_than(alloc: Global, calls: ServedCalls, stream: u32) -> Result<ServedCalls, NoMemory>
+    ensures { IfOk result (λ others. others ≡ others_than stream calls) }
+{
+    let mut others = ServedCalls::empty(alloc);
+    for served in calls.into_vec() {
+        if served.stream != stream {
+            others.push(served)?;
+        }
+    }
+    Ok(others)
+}
+
+/// A call of mode STREAM or POLL is served from now on.
+fn begin(alloc: Global, calls: ServedCalls, stream: u32, plan: Plan) -> Result<Answered, NoMemory>
+    ensures { (schema : List SchemaNode) (body : List ℕ) (port : PortView) (readings : List ℕ)
+        → subscribe_step None body ≡ Ok (Begin plan)
+        → (plan.mode ≡ modes.Stream) ⊎ (plan.mode ≡ modes.Poll)
+        → IfOk result (λ done. IsReplied schema stream (asks.Subscribe body) done.reply
+        (service port calls) (service port done.calls) readings readings) }
+{
+    let call = match SubscribeCall::of(alloc, plan) {
+        Ok(call) => call,
+        Err(_) => {
+            return Ok(Answered {
+                reply: Reply::Of(Err(Refusal::NoMemory)),
+                calls,
+            });
+        }
+    };
+    let mut calls = others_than(alloc, calls, stream)?;
+    calls.push(Served {
+        stream,
+        call,
+        polls: 0,
+        ended: false,
+    })?;
+    Ok(Answered {
+        reply: Reply::Nothing,
+        calls,
+    })
 }
 
 /// The answer to a Subscribe call that begins with this plan.
@@ -58,18 +102,30 @@ fn answer_plan<P: BookPort, C: Clock>(
     desk: &Desk,
     book: &mut P,
     clock: &mut C,
+    calls: ServedCalls,
+    stream: u32,
     plan: Plan,
-) -> Reply
+) -> Result<Answered, NoMemory>
     ensures replied { (body : List ℕ) → subscribe_step None body ≡ Ok (Begin plan)
-        → IsReplied desk.now (asks.Subscribe body) result (P.port book.old) (P.port book.new)
-        (C.readings clock.old) (C.readings clock.new) }
+        → MatchResult result
+        (λ done. IsReplied desk.now stream (asks.Subscribe body) done.reply
+        (service (P.port book.old) calls) (service (P.port book.new) done.calls)
+        (C.readings clock.old) (C.readings clock.new))
+        (λ _. (P.port book.new ≡ P.port book.old)
+        × (C.readings clock.new ≡ C.readings clock.old)) }
     ensures opened { (P.port book.new).opened ≡ (P.port book.old).opened }
 {
     match plan.mode {
-        ListMode::Once => answer_once(alloc, desk, book, clock, plan),
-        ListMode::Stream => Reply::Of(Err(Refusal::Unsupported)),
-        ListMode::Poll => Reply::Of(Err(Refusal::Unsupported)),
-        ListMode::Other => Reply::Of(Err(Refusal::Unsupported)),
+        ListMode::Once => Ok(Answered {
+            reply: answer_once(alloc, desk, book, clock, plan),
+            calls,
+        }),
+        ListMode::Stream => begin(alloc, calls, stream, plan),
+        ListMode::Poll => begin(alloc, calls, stream, plan),
+        ListMode::Other => Ok(Answered {
+            reply: Reply::Of(Err(Refusal::Unsupported)),
+            calls,
+        }),
     }
 }
 
@@ -79,41 +135,73 @@ fn answer_subscribe<P: BookPort, C: Clock>(
     desk: &Desk,
     book: &mut P,
     clock: &mut C,
+    calls: ServedCalls,
+    stream: u32,
     body: &[u8],
-) -> Reply
-    ensures replied { IsReplied desk.now (asks.Subscribe body.now) result
-        (P.port book.old) (P.port book.new) (C.readings clock.old) (C.readings clock.new) }
+) -> Result<Answered, NoMemory>
+    ensures replied { MatchResult result
+        (λ done. IsReplied desk.now stream (asks.Subscribe body.now) done.reply
+        (service (P.port book.old) calls) (service (P.port book.new) done.calls)
+        (C.readings clock.old) (C.readings clock.new))
+        (λ _. (P.port book.new ≡ P.port book.old)
+        × (C.readings clock.new ≡ C.readings clock.old)) }
     ensures opened { (P.port book.new).opened ≡ (P.port book.old).opened }
 {
     match desk.subscribe(alloc, body, None) {
-        Ok(SubscribeStep::Begin(plan)) => answer_plan(alloc, desk, book, clock, plan),
-        Ok(SubscribeStep::Poll) => Reply::Of(Err(Refusal::BadSubscribe)),
-        Err(refusal) => Reply::Of(Err(refusal)),
+        Ok(SubscribeStep::Begin(plan)) => {
+            answer_plan(alloc, desk, book, clock, calls, stream, plan)
+        }
+        Ok(SubscribeStep::Poll) => Ok(Answered {
+            reply: Reply::Of(Err(Refusal::BadSubscribe)),
+            calls,
+        }),
+        Err(refusal) => Ok(Answered {
+            reply: Reply::Of(Err(refusal)),
+            calls,
+        }),
     }
 }
 
-/// The answer to what was asked. A message of a unary call, and the turn of a ONCE call, is answered at a reading of the clock of
-/// its own.
+/// The answer to what was asked on a stream. A message of a unary call, and the turn of a ONCE call, is answered at a reading of
+/// the clock of its own. Want of memory is told where nothing was done.
 pub(crate) fn answer_of<P: BookPort, C: Clock>(
     alloc: Global,
     desk: &Desk,
     book: &mut P,
     clock: &mut C,
+    calls: ServedCalls,
+    stream: u32,
     asked: Asked,
-) -> Reply
+) -> Result<Answered, NoMemory>
     requires { (P.port book.old).opened.schema ≡ desk.now }
-    ensures replied { IsReplied desk.now asked result (P.port book.old) (P.port book.new)
-        (C.readings clock.old) (C.readings clock.new) }
+    ensures replied { MatchResult result
+        (λ done. IsReplied desk.now stream asked done.reply
+        (service (P.port book.old) calls) (service (P.port book.new) done.calls)
+        (C.readings clock.old) (C.readings clock.new))
+        (λ _. (P.port book.new ≡ P.port book.old)
+        × (C.readings clock.new ≡ C.readings clock.old)) }
     ensures opened { (P.port book.new).opened ≡ (P.port book.old).opened }
 {
     match asked {
         Asked::Call(method, body) => {
             let now = clock.now();
-            Reply::Of(desk.answer(alloc, method, body.items(), now, book))
+            Ok(Answered {
+                reply: Reply::Of(desk.answer(alloc, method, body.items(), now, book)),
+                calls,
+            })
         }
-        Asked::Subscribe(body) => answer_subscribe(alloc, desk, book, clock, body.items()),
-        Asked::Http(status) => Reply::Http(status),
-        Asked::Refused(refusal) => Reply::Of(Err(refusal)),
+        Asked::Subscribe(body) => {
+            answer_subscribe(alloc, desk, book, clock, calls, stream, body.items())
+        }
+        Asked::Later(what) => answer_later(alloc, desk, calls, stream, what),
+        Asked::Http(status) => Ok(Answered {
+            reply: Reply::Http(status),
+            calls,
+        }),
+        Asked::Refused(refusal) => Ok(Answered {
+            reply: Reply::Of(Err(refusal)),
+            calls,
+        }),
     }
 }
 
@@ -133,13 +221,21 @@ fn put_messages(waiting: &mut Waitings, stream: u32, messages: Messages) -> Resu
     Ok(())
 }
 
-/// Puts the messages of a call and its end behind what waits.
-fn put_all(waiting: &mut Waitings, stream: u32, messages: Messages) -> Result<(), NoMemory>
-    ensures { OnOk result (waiting.new ≡ waiting.old ++ words stream (told_all (Ok messages))) }
+/// Puts the messages of a call behind what waits, and its end, if it ends with them.
+fn put_all(
+    waiting: &mut Waitings,
+    stream: u32,
+    messages: Messages,
+    ends: bool,
+) -> Result<(), NoMemory>
+    ensures { OnOk result (waiting.new ≡ waiting.old ++ words stream (told_all messages ends)) }
 {
     put_messages(waiting, stream, messages)?;
-    let end = Said::Finish(None);
-    put(waiting, stream, end)
+    if ends {
+        put(waiting, stream, Said::Finish(None))
+    } else {
+        Ok(())
+    }
 }
 
 /// Puts what is said by a reply behind what waits.
@@ -152,8 +248,8 @@ pub(crate) fn put_reply(waiting: &mut Waitings, stream: u32, reply: Reply) -> Re
             put(waiting, stream, Said::Finish(None))
         }
         Reply::Of(Err(refusal)) => put(waiting, stream, Said::Finish(Some(refusal))),
-        Reply::Once(Ok(messages)) => put_all(waiting, stream, messages),
-        Reply::Once(Err(refusal)) => put(waiting, stream, Said::Finish(Some(refusal))),
+        Reply::Say(messages, ends) => put_all(waiting, stream, messages, ends),
         Reply::Http(status) => put(waiting, stream, Said::Status(status)),
+        Reply::Nothing => Ok(()),
     }
 }

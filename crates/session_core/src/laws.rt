@@ -1,5 +1,6 @@
 //! Laws of the definitions, which hold for every caller.
 ghost use Rattle.session_core.specs.laws.RunLaws.{TurnsAreTaken, TurnsFollow, TurnsFollowAlone, HistoriesAreAllowed, OwnEntriesStand, EarlierEntriesStand, FindsAreKept, FaultsAreMarked, StreamsAreAnswered, DataAreAFront, OnceCallsSayStates};
+ghost use Rattle.session_core.specs.laws.StreamLaws.{StreamCallsSayRuns};
 
 /// The answers of a connection are those of one history.
 pub fn answers_are_of_one_history()
@@ -30,4 +31,9 @@ pub fn streams_are_answered()
 /// What a Subscribe call of mode ONCE says is a run of a stream with one turn, at a state of that history.
 pub fn once_calls_say_states()
     ensures { OnceCallsSayStates }
+{}
+
+/// What the turns of a Subscribe call of mode STREAM say is a run of its stream, at states of that history that don't fall.
+pub fn stream_calls_say_runs()
+    ensures { StreamCallsSayRuns }
 {}

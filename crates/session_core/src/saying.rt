@@ -1,12 +1,12 @@
 //! What waits is said, as far as the streams are free.
-ghost use Rattle.std.specs.Prelude.{◌≡◌, ℕ, List, MatchResult, IfOk, IfErr, OnOk};
+ghost use Rattle.std.specs.Prelude.{◌≡◌, ◌++◌, ℕ, List, MatchResult, IfOk, IfErr, OnOk};
 ghost use Rattle.edge_traits.specs.Output.{Output};
 ghost use Rattle.h2_events.specs.declared.event.RecvEvent.{RecvEvent as Heard};
 ghost use Rattle.h2_events.specs.Items.{is_last};
 ghost use Rattle.h2_send.specs.Conditions.{readiness};
 ghost use Rattle.session_calls.specs.declared.request.Request.{Request as Asking};
-ghost use Rattle.book_port.specs.Ports.{PortView};
-ghost use Rattle.session_core.specs.Serving.{Start};
+ghost use Rattle.session_core.specs.declared.waiting.Waiting.{Waiting as Unsaid};
+ghost use Rattle.session_core.specs.Serving.{Start, Standing};
 ghost use Rattle.session_core.specs.Saying.{AreBehind};
 ghost use Rattle.session_core.specs.inner.Ends.{IsOwn};
 ghost use Rattle.session_core.specs.inner.Places.{HasEnded, IsWriting, Stands, place_of};
@@ -98,26 +98,31 @@ fn say<O: Sink>(
     }
 }
 
-/// Says what waits on streams that are free. What waits on others still waits.
+/// Says of what waits what is on streams that are free. The rest still waits, behind what waits for the peer already.
 pub(crate) fn say_all<O: Sink>(
     alloc: Global,
     recv: &mut Recv,
     wire: &mut Wire<O>,
+    behind: Waitings,
     waiting: Waitings,
 ) -> Result<Waitings, How>
     ensures says { (start : Start) (output : Output) (octets : List ℕ) (heard : List Heard)
-        (owed : List Asking) (port : PortView) (readings : List ℕ)
+        (owed : List Asking) (at : Standing)
+        → AreBehind wire.old.inputs behind
         → Stands O.seen start output octets
-        (place_of recv.old wire.old heard waiting owed port readings)
+        (place_of recv.old wire.old heard (behind ++ waiting) owed at)
         → MatchResult result
-        (λ rest. Stands O.seen start output octets
-        (place_of recv.new wire.new heard rest owed port readings))
-        (λ how. HasEnded O.seen how start octets output wire.new port readings) }
+        (λ rest. Stands O.seen start output octets (place_of recv.new wire.new heard rest owed at))
+        (λ how. HasEnded O.seen how start octets output wire.new at.port at.readings) }
     ensures behind { (output : Output) → IsWriting O.seen output wire.old
+        → AreBehind wire.old.inputs behind
         → IfOk result (λ rest. AreBehind wire.new.inputs rest) }
+    ensures keeps { (output : Output) (others : List Unsaid) → IsWriting O.seen output wire.old
+        → AreBehind wire.old.inputs others
+        → IfOk result (λ _. AreBehind wire.new.inputs others) }
     ensures own { IfErr result (λ how. IsOwn how) }
 {
-    let mut still = Waitings::empty(alloc);
+    let mut still = behind;
     for w in waiting.into_vec() {
         match wire.readiness(w.stream) {
             Ready::Gone => {}

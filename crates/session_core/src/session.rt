@@ -8,16 +8,21 @@ ghost use Rattle.h2_send.specs.Inputs.{Input};
 ghost use Rattle.session_calls.specs.declared.request.Request.{Request as Asking};
 ghost use Rattle.session_calls.specs.Requests.{requests};
 ghost use Rattle.book_port.specs.Ports.{PortView};
-ghost use Rattle.session_core.specs.declared.waiting.Waiting.{Waiting as Unsaid};
+ghost use Rattle.h2_events.specs.declared.event.RecvEvent.{RecvEvent as Heard};
 ghost use Rattle.session_core.specs.Runs.{Outside, SessionRun, outside_of, start_of};
-ghost use Rattle.session_core.specs.Serving.{IsServed};
+ghost use Rattle.session_core.specs.Deeds.{Deed};
+ghost use Rattle.session_core.specs.Rounds.{turns_on};
+ghost use Rattle.session_core.specs.Serving.{standing_of};
 ghost use Rattle.session_core.specs.inner.Ends.{IsOwn};
-ghost use Rattle.session_core.specs.inner.Places.{HasCome, HasEnded, HasStopped, IsNew, IsServing, Rests, course_of, place_of};
+ghost use Rattle.session_core.specs.inner.Places.{HasCome, HasEnded, HasRested, HasStopped, IsNew, IsServedAt, IsServedPartly, IsServing, Stands, place_of};
 
 use crate::answering::{answer_of, put_reply};
 use crate::how::{How, how_of};
 use crate::incoming::{Incoming, Next};
+use crate::reply::Answered;
 use crate::saying::say_all;
+use crate::served::ServedCalls;
+use crate::turns::{Kept, take_turns};
 use crate::waiting::Waitings;
 use base_lists::NoMemory;
 use book_port::BookPort;
@@ -26,7 +31,7 @@ use h2_events::RecvEvent;
 use h2_recv::Recv;
 use h2_send::Wire;
 use rpc_desk::Desk;
-use session_calls::{CallTable, Request};
+use session_calls::{CallTable, Request, Requests};
 use std::alloc::Global;
 use time_traits::Clock;
 
@@ -40,7 +45,7 @@ pub struct SessionEnd<I, O, P, C> {
     pub clock: C,
 }
 
-/// The calls of a connection: those that are open, and where they are answered.
+/// The calls of a connection: those whose messages are heard, and where they are answered.
 #[derive(Drop)]
 struct Calls<P, C> {
     table: CallTable,
@@ -54,87 +59,155 @@ fn answer<P: BookPort, C: Clock>(
     desk: &Desk,
     book: &mut P,
     clock: &mut C,
-    mut waiting: Waitings,
+    kept: Kept,
     request: Request,
-) -> Result<Waitings, NoMemory>
+) -> Result<Kept, NoMemory>
     requires { (P.port book.old).opened.schema ≡ desk.now }
     ensures opened { (P.port book.new).opened ≡ (P.port book.old).opened }
     ensures answers { (before : Outside) (moments : List Moment) (inputs : List Input)
-        → IsServed (start_of desk.now before)
-        (course_of moments inputs waiting (request ∷ []) (P.port book.old) (C.readings clock.old))
+        (owed : List Asking)
+        → IsServedAt (start_of desk.now before) moments inputs kept.waiting (request ∷ owed)
+        (P.port book.old) kept.calls (C.readings clock.old)
         → MatchResult result
-        (λ rest. IsServed (start_of desk.now before)
-        (course_of moments inputs rest [] (P.port book.new) (C.readings clock.new)))
-        (λ _. (rest : List Unsaid) × IsServed (start_of desk.now before)
-        (course_of moments inputs rest [] (P.port book.new) (C.readings clock.new))) }
+        (λ kept. IsServedAt (start_of desk.now before) moments inputs kept.waiting owed
+        (P.port book.new) kept.calls (C.readings clock.new))
+        (λ _. IsServedPartly (start_of desk.now before) moments inputs
+        (P.port book.new) (C.readings clock.new)) }
 {
     let Request { stream, asked } = request;
-    let reply = answer_of(alloc, desk, book, clock, asked);
-    match put_reply(&mut waiting, stream, reply) {
-        Ok(()) => Ok(waiting),
+    let Kept { mut waiting, calls } = kept;
+    match answer_of(alloc, desk, book, clock, calls, stream, asked) {
+        Ok(Answered { reply, calls }) => match put_reply(&mut waiting, stream, reply) {
+            Ok(()) => Ok(Kept { waiting, calls }),
+            Err(NoMemory) => Err(NoMemory),
+        },
         Err(NoMemory) => Err(NoMemory),
     }
 }
 
-/// Hears an event, and answers the request that is whole with it.
+/// Answers requests, one after the other.
+fn answer_all<P: BookPort, C: Clock>(
+    alloc: Global,
+    desk: &Desk,
+    book: &mut P,
+    clock: &mut C,
+    kept: Kept,
+    requests: Requests,
+) -> Result<Kept, NoMemory>
+    requires { (P.port book.old).opened.schema ≡ desk.now }
+    ensures opened { (P.port book.new).opened ≡ (P.port book.old).opened }
+    ensures answers { (before : Outside) (moments : List Moment) (inputs : List Input)
+        → IsServedAt (start_of desk.now before) moments inputs kept.waiting requests
+        (P.port book.old) kept.calls (C.readings clock.old)
+        → MatchResult result
+        (λ kept. IsServedAt (start_of desk.now before) moments inputs kept.waiting []
+        (P.port book.new) kept.calls (C.readings clock.new))
+        (λ _. IsServedPartly (start_of desk.now before) moments inputs
+        (P.port book.new) (C.readings clock.new)) }
+{
+    let mut kept = kept;
+    for request in requests.into_vec() {
+        match answer(alloc, desk, book, clock, kept, request) {
+            Ok(rest) => kept = rest,
+            Err(NoMemory) => return Err(NoMemory),
+        }
+    }
+    Ok(kept)
+}
+
+/// Hears an event, and answers the requests that are whole with it.
 fn hear<P: BookPort, C: Clock>(
     alloc: Global,
     desk: &Desk,
     calls: &mut Calls<P, C>,
-    waiting: Waitings,
+    kept: Kept,
     event: &RecvEvent,
-) -> Result<Waitings, NoMemory>
+) -> Result<Kept, NoMemory>
     requires { (P.port calls.old.book).opened.schema ≡ desk.now }
     ensures opened { (P.port calls.new.book).opened ≡ (P.port calls.old.book).opened }
     ensures hears { (before : Outside) (moments : List Moment) (inputs : List Input)
         → ((owed : List Asking)
         → requests (calls.old.table ++ event.now ∷ []) ≡ requests calls.old.table ++ owed
-        → IsServed (start_of desk.now before)
-        (course_of moments inputs waiting owed
-        (P.port calls.old.book) (C.readings calls.old.clock)))
+        → IsServedAt (start_of desk.now before) moments inputs kept.waiting owed
+        (P.port calls.old.book) kept.calls (C.readings calls.old.clock))
         → MatchResult result
-        (λ rest. IsServed (start_of desk.now before)
-        (course_of moments inputs rest [] (P.port calls.new.book) (C.readings calls.new.clock)))
-        (λ _. (rest : List Unsaid) × (owed : List Asking) × IsServed (start_of desk.now before)
-        (course_of moments inputs rest owed (P.port calls.new.book) (C.readings calls.new.clock))) }
+        (λ kept. IsServedAt (start_of desk.now before) moments inputs kept.waiting []
+        (P.port calls.new.book) kept.calls (C.readings calls.new.clock))
+        (λ _. IsServedPartly (start_of desk.now before) moments inputs
+        (P.port calls.new.book) (C.readings calls.new.clock)) }
     ensures heard { OnOk result (calls.new.table ≡ calls.old.table ++ event.now ∷ []) }
 {
     match calls.table.hear(alloc, event) {
-        Ok(None) => Ok(waiting),
-        Ok(Some(request)) => {
-            answer(
-                alloc,
-                desk,
-                &mut calls.book,
-                &mut calls.clock,
-                waiting,
-                request,
-            )
-        }
+        Ok(more) => answer_all(alloc, desk, &mut calls.book, &mut calls.clock, kept, more),
         Err(NoMemory) => Err(NoMemory),
     }
 }
 
-/// Serves an event: it is acted on, what is asked with it is answered, and then all is said that can be.
+/// All is said that can be, and then the calls take their turns.
+fn say_and_turn<O: Sink, P: BookPort, C: Clock>(
+    alloc: Global,
+    recv: &mut Recv,
+    wire: &mut Wire<O>,
+    desk: &Desk,
+    calls: &mut Calls<P, C>,
+    kept: Kept,
+) -> Result<Kept, How>
+    ensures opened { (P.port calls.new.book).opened ≡ (P.port calls.old.book).opened }
+    ensures table { calls.new.table ≡ calls.old.table }
+    ensures rests { (before : Outside) (octets : List ℕ) (heard : List Heard) (round : List Deed)
+        → ((stream : ℕ) → turns_on stream round ≡ 0)
+        → Stands O.seen (start_of desk.now before) before.output octets
+        (place_of recv.old wire.old heard kept.waiting []
+        (standing_of (P.port calls.old.book) kept.calls (C.readings calls.old.clock) round))
+        → MatchResult result
+        (λ kept. HasRested O.seen (start_of desk.now before) before.output octets
+        recv.new wire.new heard kept.waiting
+        (P.port calls.new.book) kept.calls (C.readings calls.new.clock))
+        (λ how. HasEnded O.seen how (start_of desk.now before) octets before.output wire.new
+        (P.port calls.new.book) (C.readings calls.new.clock)) }
+    ensures own { IfErr result (λ how. IsOwn how) }
+{
+    let Kept {
+        waiting,
+        calls: served,
+    } = kept;
+    let none = Waitings::empty(alloc);
+    match say_all(alloc, recv, wire, none, waiting) {
+        Ok(waiting) => take_turns(
+            alloc,
+            recv,
+            wire,
+            desk,
+            &mut calls.book,
+            &mut calls.clock,
+            waiting,
+            served,
+        ),
+        Err(how) => Err(how),
+    }
+}
+
+/// Serves an event: it is acted on, what is asked with it is answered, all is said that can be, and the calls that are served take
+/// their turns.
 fn serve_event<O: Sink, P: BookPort, C: Clock>(
     alloc: Global,
     recv: &mut Recv,
     wire: &mut Wire<O>,
     desk: &Desk,
     calls: &mut Calls<P, C>,
-    waiting: Waitings,
+    kept: Kept,
     event: &RecvEvent,
-) -> Result<Waitings, How>
+) -> Result<Kept, How>
     requires { (P.port calls.old.book).opened.schema ≡ desk.now }
     ensures opened { (P.port calls.new.book).opened ≡ (P.port calls.old.book).opened }
-    ensures serves { (before : Outside) (octets : List ℕ)
+    ensures serves { (before : Outside) (octets : List ℕ) (round : List Deed)
         → HasCome O.seen (start_of desk.now before) before.output octets event.now
-        (place_of recv.old wire.old calls.old.table waiting []
-        (P.port calls.old.book) (C.readings calls.old.clock))
+        (place_of recv.old wire.old calls.old.table kept.waiting []
+        (standing_of (P.port calls.old.book) kept.calls (C.readings calls.old.clock) round))
         → MatchResult result
-        (λ rest. Rests O.seen (start_of desk.now before) before.output octets
-        (place_of recv.new wire.new calls.new.table rest []
-        (P.port calls.new.book) (C.readings calls.new.clock)))
+        (λ kept. HasRested O.seen (start_of desk.now before) before.output octets
+        recv.new wire.new calls.new.table kept.waiting
+        (P.port calls.new.book) kept.calls (C.readings calls.new.clock))
         (λ how. HasEnded O.seen how (start_of desk.now before) octets before.output wire.new
         (P.port calls.new.book) (C.readings calls.new.clock)) }
     ensures own { IfErr result (λ how. IsOwn how) }
@@ -143,8 +216,8 @@ fn serve_event<O: Sink, P: BookPort, C: Clock>(
         Ok(()) => {}
         Err(fault) => return Err(how_of(fault)),
     }
-    match hear(alloc, desk, calls, waiting, event) {
-        Ok(waiting) => say_all(alloc, recv, wire, waiting),
+    match hear(alloc, desk, calls, kept, event) {
+        Ok(kept) => say_and_turn(alloc, recv, wire, desk, calls, kept),
         Err(NoMemory) => Err(How::NoMemory),
     }
 }
@@ -161,26 +234,21 @@ fn serve_frames<I: Source, O: Sink, P: BookPort, C: Clock>(
     ensures { (before : Outside)
         → IsServing O.seen desk.now before (I.seen incoming.old.source) incoming.old.count
         (place_of incoming.old.recv wire.old calls.old.table [] []
-        (P.port calls.old.book) (C.readings calls.old.clock))
+        (standing_of (P.port calls.old.book) [] (C.readings calls.old.clock) []))
         → HasStopped O.seen result desk.now before (I.seen incoming.new.source) wire.new
         (P.port calls.new.book) (C.readings calls.new.clock) }
 {
-    let mut waiting = Waitings::empty(alloc);
+    let mut kept = Kept {
+        waiting: Waitings::empty(alloc),
+        calls: ServedCalls::empty(alloc),
+    };
     'frames: loop {
         match incoming.next(alloc) {
             Next::Ends(how) => return how,
             Next::Nothing => {}
             Next::Event(event) => {
-                match serve_event(
-                    alloc,
-                    &mut incoming.recv,
-                    wire,
-                    desk,
-                    calls,
-                    waiting,
-                    &event,
-                ) {
-                    Ok(still) => waiting = still,
+                match serve_event(alloc, &mut incoming.recv, wire, desk, calls, kept, &event) {
+                    Ok(still) => kept = still,
                     Err(how) => return how,
                 }
             }

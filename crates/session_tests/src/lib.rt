@@ -14,4 +14,6 @@ mod one_connection;
 #[cfg(test)]
 mod served;
 #[cfg(test)]
+mod streams;
+#[cfg(test)]
 mod subscribe;

@@ -74,7 +74,8 @@ type Row = (&'static [u8], u64, &'static [u8]);
 
 const ACCEPTED: &[u8] = b"\0\x0bgrpc-status\x010";
 
-const UNSUPPORTED: &[u8] = b"\0\x0bgrpc-status\x0212\0\x0cgrpc-message\x0bunsupported";
+/// A SubscribeResponse with a sync.
+const SYNC: &[u8] = b"\0\0\0\0\x02\x18\x01";
 
 const NOT_FOUND: &[u8] = b"\0\x0bgrpc-status\x015\0\x0cgrpc-message\x09not found";
 
@@ -101,7 +102,7 @@ const CLIENTS: &[Row] = &[
     (GRPCIO_SET_TWO, 3, ACCEPTED),
     (NGHTTP_SET, 1, ACCEPTED),
     (GRPCIO_GET, 0, NOT_FOUND),
-    (GRPCIO_SUBSCRIBE, 0, UNSUPPORTED),
+    (GRPCIO_SUBSCRIBE, 0, SYNC),
     (VALUES, 1, VALUES_IN_JSON),
 ];
 

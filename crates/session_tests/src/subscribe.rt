@@ -6,32 +6,32 @@ use std::process::Abort;
 use std::test::Fail;
 
 /// The headers of a Subscribe call on stream 1.
-const HEAD: &[u8] =
+pub(crate) const HEAD: &[u8] =
     b"\0\0\x2b\x01\x04\0\0\0\x01\x83\x86\x04\x14/gnmi.gNMI/Subscribe\x0f\x10\x10application/grpc";
 
 /// The headers of what is answered, and the trailers of a call that is done.
-const ANSWER: &[u8] = b"\0\0\x14\x01\x04\0\0\0\x01\x88\x0f\x10\x10application/grpc";
+pub(crate) const ANSWER: &[u8] = b"\0\0\x14\x01\x04\0\0\0\x01\x88\x0f\x10\x10application/grpc";
 
-const DONE: &[u8] = b"\0\0\x0f\x01\x05\0\0\0\x01\0\x0bgrpc-status\x010";
+pub(crate) const DONE: &[u8] = b"\0\0\x0f\x01\x05\0\0\0\x01\0\x0bgrpc-status\x010";
 
 /// A notification of no rows, which is that of an empty tree, and a sync.
-const NO_ROWS: &[u8] = b"\0\0\x07\0\0\0\0\0\x01\0\0\0\0\x02\x0a\0";
+pub(crate) const NO_ROWS: &[u8] = b"\0\0\x07\0\0\0\0\0\x01\0\0\0\0\x02\x0a\0";
 
-const SYNC: &[u8] = b"\0\0\x07\0\0\0\0\0\x01\0\0\0\0\x02\x18\x01";
+pub(crate) const SYNC: &[u8] = b"\0\0\x07\0\0\0\0\0\x01\0\0\0\0\x02\x18\x01";
 
-const BAD_MESSAGE: &[u8] =
+pub(crate) const BAD_MESSAGE: &[u8] =
     b"\0\0\x3e\x01\x05\0\0\0\x01\x88\x0f\x10\x10application/grpc\0\x0bgrpc-status\x0213\0\x0cgrpc-message\x0bbad message";
 
-const TOO_LARGE: &[u8] =
+pub(crate) const TOO_LARGE: &[u8] =
     b"\0\0\x3b\x01\x05\0\0\0\x01\x88\x0f\x10\x10application/grpc\0\x0bgrpc-status\x018\0\x0cgrpc-message\x09too large";
 
-const COMPRESSED: &[u8] =
+pub(crate) const COMPRESSED: &[u8] =
     b"\0\0\x45\x01\x05\0\0\0\x01\x88\x0f\x10\x10application/grpc\0\x0bgrpc-status\x0212\0\x0cgrpc-message\x12compressed message";
 
 const UNSUPPORTED: &[u8] =
     b"\0\0\x3e\x01\x05\0\0\0\x01\x88\x0f\x10\x10application/grpc\0\x0bgrpc-status\x0212\0\x0cgrpc-message\x0bunsupported";
 
-const BAD_SUBSCRIBE: &[u8] =
+pub(crate) const BAD_SUBSCRIBE: &[u8] =
     b"\0\0\x3f\x01\x05\0\0\0\x01\x88\x0f\x10\x10application/grpc\0\x0bgrpc-status\x013\0\x0cgrpc-message\x0dbad subscribe";
 
 const BAD_PATH: &[u8] =
@@ -84,11 +84,14 @@ const ROWS: &[Row] = &[
         b"\0\0\0\0\x0a\x0a\x08\x12\x02\x0a\0\x28\x01\x3a\0",
         &[UNSUPPORTED],
     ),
-    // The modes that aren't served.
-    (b"\0\0\0\0\x06\x0a\x04\x12\x02\x0a\0", &[UNSUPPORTED]),
+    // STREAM, which is the default, goes on without the peer; POLL ends with it.
+    (
+        b"\0\0\0\0\x06\x0a\x04\x12\x02\x0a\0",
+        &[ANSWER, NO_ROWS, SYNC],
+    ),
     (
         b"\0\0\0\0\x08\x0a\x06\x12\x02\x0a\0\x28\x02",
-        &[UNSUPPORTED],
+        &[ANSWER, DONE],
     ),
     // A Poll, no message, one that isn't whole, no subscriptions, an unknown mode, an interval of 1.
     (b"\0\0\0\0\x02\x1a\0", &[BAD_SUBSCRIBE]),
@@ -111,7 +114,7 @@ const ROWS: &[Row] = &[
 ];
 
 /// A DATA frame on stream 1 with these octets, fewer than 256.
-fn put_data(octets: &mut Vec<u8>, flags: u8, data: &[u8]) -> Result<(), Fail> {
+pub(crate) fn put_data(octets: &mut Vec<u8>, flags: u8, data: &[u8]) -> Result<(), Fail> {
     octets.extend_from_slice(b"\0\0")?;
     octets.push((data.len() % 256) as u8)?;
     octets.push(0)?;

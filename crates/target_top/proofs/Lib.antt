@@ -6,3 +6,4 @@ pub mod WordLaws
 pub mod GoodScripts
 pub mod Sessions
 pub mod Loads
+pub mod KeptAnswers

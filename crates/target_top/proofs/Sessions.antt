@@ -15,7 +15,7 @@ use Rattle.book_core.specs.Views.{BookView, history_in}
 use Rattle.disk_model.specs.Calls.{Fuse}
 use Rattle.session_core.specs.declared.how.How.{How}
 use Rattle.session_core.specs.Runs.{SessionRun, outside_of}
-use Rattle.session_core.proofs.Opened.{answered_all}
+use Rattle.session_core.proofs.Opened.{run_opened}
 use Rattle.target_top.specs.declared.ending.Ending.{Ending}
 use Rattle.target_top.specs.declared.ending.Ending.TheVariants.{DiskFault}
 use Rattle.target_top.specs.Environment.{Environment, SeenDisk, SeenFiles, GaveDisk, seen_disk, files_after_disk}
@@ -48,7 +48,7 @@ served schema start port final old new how ending run left is = record {
   connection = how;
   port = port;
   run = run;
-  left = subst (λ (o : Opened). IsLeft o port final) (answered_all schema start run.served.answers port run.served.answered) left;
+  left = subst (λ (o : Opened). IsLeft o port final) (run_opened schema _ how _ run) left;
   how_is = refl;
   is = is;
 }

@@ -1,4 +1,5 @@
 pub mod GoodScripts
+pub mod KeptAnswers
 pub mod MemoryRuns
 pub mod RunLaws
 pub mod WordLaws

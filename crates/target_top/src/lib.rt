@@ -29,6 +29,7 @@ pub use files::{DiskFile, Files, MemFiles};
 pub use files_record::{FilesRecord, NamedText};
 pub use host::{Host, Kit};
 pub use laws::{
-    runs_are_complete, runs_in_memory_are_determined, words_decide, words_give_one_command,
+    runs_are_complete, runs_in_memory_are_determined, script_runs_keep_their_answers, words_decide,
+    words_give_one_command,
 };
 pub use program::{RunEnd, run};

@@ -1,7 +1,9 @@
 -- Where a session stands between two of its steps, and where it ends.
 use Rattle.std.specs.Prelude.{◌≡◌, ℕ, List, [], ◌∷◌, ◌++◌, length, Some, Ok}
+use Rattle.std.specs.List.{AllByRecursion}
 use Rattle.edge_traits.specs.Input.{Input as Source, Read}
 use Rattle.edge_traits.specs.Output.{Output, Wrote}
+use Rattle.base_kinds.specs.declared.request.ListMode.TheVariants as modes
 use Rattle.base_kinds.specs.Schema.{SchemaNode}
 use Rattle.h2_frame.specs.Frames.{Frame}
 use Rattle.h2_windows.specs.Written.{octets_of}
@@ -20,21 +22,23 @@ use Rattle.session_calls.specs.declared.request.Request.{Request}
 use Rattle.book_port.specs.Ports.{PortView}
 use Rattle.session_core.specs.declared.how.How.{How}
 use Rattle.session_core.specs.declared.how.How.TheVariants as hows
+use Rattle.session_core.specs.declared.served.Served.{Served}
 use Rattle.session_core.specs.declared.waiting.Waiting.{Waiting}
 use Rattle.session_core.specs.Reading.{IsReadPartly, IsGiven, IsMadeOf}
-use Rattle.session_core.specs.Runs.{Outside, IsSettled, start_of}
+use Rattle.session_core.specs.Deeds.{Deed}
+use Rattle.session_core.specs.Rounds.{HadTurns, turns_on}
+use Rattle.session_core.specs.Runs.{Outside, IsSettled, IsAtRest, start_of}
 use Rattle.session_core.specs.Saying.{AreBehind}
-use Rattle.session_core.specs.Serving.{Start, Course, IsServed}
+use Rattle.session_core.specs.Serving.{Start, Standing, Course, IsServed, standing_of}
 use Rattle.session_core.specs.Writing.{IsBroken}
 
-abbrev pub course_of : List Moment → List Input → List Waiting → List Request → PortView → List ℕ → Course
-course_of moments inputs waiting owed port readings = record {
+abbrev pub course_of : List Moment → List Input → List Waiting → List Request → Standing → Course
+course_of moments inputs waiting owed standing = record {
   moments = moments;
   inputs = inputs;
   waiting = waiting;
   owed = owed;
-  port = port;
-  readings = readings;
+  standing = standing;
 }
 
 -- the sending half as it is made
@@ -61,19 +65,17 @@ pub record Place (S : Type 0) : Type 0 where
   pub heard : List RecvEvent
   pub waiting : List Waiting
   pub owed : List Request
-  pub port : PortView
-  pub readings : List ℕ
+  pub standing : Standing
 
 abbrev pub place_of : {S : Type 0} → State → WireView S → List RecvEvent → List Waiting
-    → List Request → PortView → List ℕ → Place S
-place_of recv wire heard waiting owed port readings = record {
+    → List Request → Standing → Place S
+place_of recv wire heard waiting owed standing = record {
   recv = recv;
   wire = wire;
   heard = heard;
   waiting = waiting;
   owed = owed;
-  port = port;
-  readings = readings;
+  standing = standing;
 }
 
 -- These octets were read, and all that they ask is served but for what is owed.
@@ -86,14 +88,13 @@ pub record Stands {S : Type 0} (seen : S → Output) (start : Start) (output : O
   pub writing : IsWriting seen output place.wire
   pub heard_is : place.heard ≡ events_of moments
   pub served : IsServed start
-      (course_of moments place.wire.inputs place.waiting place.owed place.port place.readings)
+      (course_of moments place.wire.inputs place.waiting place.owed place.standing)
 
--- Between two frames nothing is owed, and what waits, waits for the peer.
+-- Between two frames it is at rest.
 pub record Rests {S : Type 0} (seen : S → Output) (start : Start) (output : Output) (octets : List ℕ)
     (place : Place S) : Type 0 where
   pub stands : Stands seen start output octets place
-  pub none_owed : place.owed ≡ []
-  pub behind : AreBehind place.wire.inputs place.waiting
+  pub rest : IsAtRest place.owed place.wire.inputs place.waiting place.standing
 
 -- A frame was read that means this, and isn't served yet.
 pub record HasCome {S : Type 0} (seen : S → Output) (start : Start) (output : Output) (octets : List ℕ)
@@ -107,8 +108,49 @@ pub record HasCome {S : Type 0} (seen : S → Output) (start : Start) (output : 
   pub writing : IsWriting seen output place.wire
   pub heard_is : place.heard ≡ events_of moments
   pub served : IsServed start
-      (course_of moments place.wire.inputs place.waiting [] place.port place.readings)
-  pub behind : AreBehind place.wire.inputs place.waiting
+      (course_of moments place.wire.inputs place.waiting [] place.standing)
+  pub rest : IsAtRest [] place.wire.inputs place.waiting place.standing
+
+-- ---- steps between two frames
+
+-- so much is served, whatever was answered since the last frame
+pub record IsServedAt (start : Start) (moments : List Moment) (inputs : List Input) (waiting : List Waiting) (owed : List Request)
+    (port : PortView) (calls : List Served) (readings : List ℕ) : Type 0 where
+  pub round : List Deed
+  pub no_turns : (stream : ℕ) → turns_on stream round ≡ 0
+  pub served : IsServed start (course_of moments inputs waiting owed (standing_of port calls readings round))
+
+-- and so much, where a step failed for want of memory
+pub record IsServedPartly (start : Start) (moments : List Moment) (inputs : List Input) (port : PortView) (readings : List ℕ)
+    : Type 0 where
+  pub waiting : List Waiting
+  pub owed : List Request
+  pub calls : List Served
+  pub at : IsServedAt start moments inputs waiting owed port calls readings
+
+-- a call of mode STREAM has taken no turn since the last frame
+abbrev pub NotYet : List Deed → Served → Type 0
+NotYet round served =
+    served.call.plan.mode ≡ modes.Stream → turns_on served.stream round ≡ 0
+
+-- Nothing is owed any more, and the calls take their turns: these have had theirs, and those behind them haven't.
+pub record IsTurning {S : Type 0} (seen : S → Output) (start : Start) (output : Output) (octets : List ℕ)
+    (done due : List Served) (recv : State) (wire : WireView S) (heard : List RecvEvent) (waiting : List Waiting)
+    (port : PortView) (readings : List ℕ) : Type 0 where
+  pub round : List Deed
+  pub stands : Stands seen start output octets
+      (place_of recv wire heard waiting [] (standing_of port (done ++ due) readings round))
+  pub behind : AreBehind wire.inputs waiting
+  pub turned : AllByRecursion (HadTurns round wire.inputs) done
+  pub not_yet : AllByRecursion (NotYet round) due
+
+-- at rest, whatever was done since the last frame
+pub record HasRested {S : Type 0} (seen : S → Output) (start : Start) (output : Output) (octets : List ℕ)
+    (recv : State) (wire : WireView S) (heard : List RecvEvent) (waiting : List Waiting)
+    (port : PortView) (calls : List Served) (readings : List ℕ) : Type 0 where
+  pub round : List Deed
+  pub rests : Rests seen start output octets
+      (place_of recv wire heard waiting [] (standing_of port calls readings round))
 
 -- ---- ends
 
@@ -130,10 +172,12 @@ pub record HasEnded {S : Type 0} (seen : S → Output) (how : How) (start : Star
   pub inputs : List Input
   pub waiting : List Waiting
   pub owed : List Request
+  pub calls : List Served
+  pub round : List Deed
   pub partly : IsReadPartly octets moments
   pub made : IsMadeOf how octets moments inputs
-  pub served : IsServed start (course_of moments inputs waiting owed port readings)
-  pub settled : IsSettled how owed inputs waiting
+  pub served : IsServed start (course_of moments inputs waiting owed (standing_of port calls readings round))
+  pub settled : IsSettled how owed inputs waiting (standing_of port calls readings round)
   pub accepted : AreAccepted first_line inputs
   pub wrote : IsWrittenSoFar how octets moments inputs output (seen wire.sink)
   pub closing : CanClose how inputs wire

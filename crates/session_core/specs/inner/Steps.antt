@@ -1,5 +1,5 @@
 -- What one step of a session does.
-use Rattle.std.specs.Prelude.{◌≡◌, ◌⊎◌, ℕ, ◌<◌, List, [], ◌∷◌, ◌++◌, length, ⊤, Option, Some, Result, Ok, Err, if◌then◌else◌}
+use Rattle.std.specs.Prelude.{◌≡◌, ◌⊎◌, ℕ, ◌<◌, List, [], ◌∷◌, ◌++◌, length, Bool, false, ⊤, Option, Some, None, Result, Ok, Err, if◌then◌else◌}
 use Rattle.edge_traits.specs.Input.{Input as Source, Read}
 use Rattle.edge_traits.specs.Output.{Output}
 use Rattle.h2_frame.specs.Frames.{Frame}
@@ -24,11 +24,16 @@ use Rattle.session_core.specs.declared.how.How.{How}
 use Rattle.session_core.specs.declared.how.How.TheVariants as hows
 use Rattle.session_core.specs.declared.incoming.Next.{Next}
 use Rattle.session_core.specs.declared.incoming.Next.TheVariants as nexts
-use Rattle.session_core.specs.declared.answering.Reply.{Reply}
-use Rattle.session_core.specs.declared.answering.Reply.TheVariants as replies
+use Rattle.session_core.specs.declared.reply.Reply.{Reply}
+use Rattle.session_core.specs.declared.reply.Reply.TheVariants as replies
 use Rattle.h2_events.specs.declared.said.Said.TheVariants.{Status}
-use Rattle.session_core.specs.Answers.{Answer, told, told_all, IsAnswer}
-use Rattle.session_calls.specs.declared.request.Request.{Request}
+use Rattle.session_core.specs.declared.served.Served.{Served}
+use Rattle.session_core.specs.Deeds.{Deed, Doing, Answering, Turning, Service, AreElsewhere, IsAmong, IsAnswer, IsCallTurn, IsHeard, told, told_all}
+use Rattle.session_calls.specs.declared.request.Asked.TheVariants as asks
+use Rattle.session_calls.specs.declared.request.Later.{Later}
+use Rattle.h2_events.specs.declared.port.Ready.TheVariants.{Free}
+use Rattle.h2_send.specs.Offers.{ready_on}
+use Rattle.h2_send.specs.Orders.{line_after}
 use Rattle.book_port.specs.Follows.{Turn}
 use Rattle.session_core.specs.Reading.{IsGiven, IsMadeOf}
 
@@ -105,23 +110,65 @@ done_of _ = Err faults.NoMemory
 abbrev pub told_of : ℕ → Said → State → State
 told_of stream said recv = if is_last said then state_ended stream recv else recv
 
--- ---- answering
+-- ---- deeds
 
 abbrev pub said_in : Reply → List Said
 said_in (replies.Of result) = told result
-said_in (replies.Once result) = told_all result
+said_in (replies.Say messages ends) = told_all messages ends
 said_in (replies.Http status) = Status status ∷ []
+said_in replies.Nothing = []
 
--- what is answered to a request
-abbrev pub answer_with : Request → List ℕ → Option Turn → List Said → Answer
-answer_with request readings turn said =
-    record { request = request; readings = readings; turn = turn; said = said }
+abbrev pub deed_with : ℕ → Doing → List Input → List ℕ → Option Turn → Bool → List Said → Deed
+deed_with stream doing given readings turn failed said = record {
+  stream = stream;
+  doing = doing;
+  given = given;
+  readings = readings;
+  turn = turn;
+  failed = failed;
+  said = said;
+}
 
--- something that was asked is answered, on whatever stream, at a reading of the clock or none
-pub record IsReplied (schema : List SchemaNode) (asked : Asked) (reply : Reply) (old new : PortView)
+abbrev pub service : PortView → List Served → Service
+service port calls = record { port = port; calls = calls }
+
+-- Something that was asked on a stream is answered with this reply, at readings of the clock.
+pub record IsReplied (schema : List SchemaNode) (stream : ℕ) (asked : Asked) (reply : Reply) (old new : Service)
     (before after : List ℕ) : Type 0 where
   pub readings : List ℕ
   pub turn : Option Turn
+  pub failed : Bool
   pub clock : after ≡ before ++ readings
-  pub answer : (stream : ℕ) → IsAnswer schema
-      (answer_with (record { stream = stream; asked = asked }) readings turn (said_in reply)) old new
+  pub deed : (given : List Input) → IsAnswer schema asked
+      (deed_with stream (Answering asked) given readings turn failed (said_in reply)) old new
+
+-- the call is still served, or isn't
+abbrev pub list_of : Option Served → List Served
+list_of None = []
+list_of (Some served) = served ∷ []
+
+-- A call took a turn, whatever other calls there are, and this is left of it.
+pub record IsTurned (schema : List SchemaNode) (served : Served) (reply : Reply) (left : Option Served) (old new : PortView)
+    (before after : List ℕ) : Type 0 where
+  pub readings : List ℕ
+  pub turn : Option Turn
+  pub failed : Bool
+  pub clock : after ≡ before ++ readings
+  pub deed : (others later : List Served) (given : List Input)
+      → ready_on served.stream (line_after first_line given).streams ≡ Free
+      → IsCallTurn schema (deed_with served.stream Turning given readings turn failed (said_in reply))
+      (service old (others ++ served ∷ later)) (service new (others ++ list_of left ++ later))
+
+-- What was asked behind the first message of a call is answered, whatever other calls there are, and this is left of the call.
+abbrev pub IsLaterDone : Later → Served → Reply → Option Served → Type 0
+IsLaterDone what served reply left =
+    (others later : List Served) (given : List Input) (port : PortView)
+    → IsHeard what (deed_with served.stream (Answering (asks.Later what)) given [] None false (said_in reply))
+    (service port (others ++ served ∷ later)) (service port (others ++ list_of left ++ later))
+
+-- ---- the calls that are served
+
+-- The one on the stream, if there is one, and those before and behind it.
+abbrev pub IsFound : ℕ → List Served → Option Served → List Served → List Served → Type 0
+IsFound stream before None after calls = AreElsewhere stream before × (after ≡ []) × (calls ≡ before)
+IsFound stream before (Some served) after calls = IsAmong stream served before after calls

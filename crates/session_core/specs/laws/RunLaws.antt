@@ -1,5 +1,5 @@
--- What follows of every connection: its answers are those of one history, which has its accepted Sets, each once, in order.
-use Rattle.std.specs.Prelude.{◌≡◌, ◌⊎◌, ℕ, ◌+◌, List, [], ◌∷◌, ◌++◌, length, map, IsTrue, Some, None, Ok, Err}
+-- What follows of every connection: what it answers is of one history, which has its accepted Sets, each once, in order.
+use Rattle.std.specs.Prelude.{◌≡◌, ◌⊎◌, ℕ, ◌+◌, List, [], ◌∷◌, ◌++◌, length, map, IsTrue, true, Some, None, Ok, Err}
 use Rattle.std.specs.List.{AllByRecursion}
 use Rattle.base_kinds.specs.declared.entry.Entry.{Entry}
 use Rattle.base_kinds.specs.declared.refusal.Refusal.TheVariants.{DiskFault, NoMemory}
@@ -22,15 +22,16 @@ use Rattle.h2_send.specs.Messages.{octets_said, data_on}
 use Rattle.h2_send.specs.Orders.{order_of}
 use Rattle.h2_send.specs.StreamFrames.{IsAnswer, frames_on}
 use Rattle.session_core.specs.declared.how.How.{How}
-use Rattle.session_core.specs.Answers.{Answer, told, told_all, turns_of, faults_of}
+use Rattle.session_core.specs.Deeds.{Deed, Answering, told, told_all, turns_in, faults_in}
 use Rattle.session_core.specs.Runs.{Outside, SessionRun}
+use Rattle.session_core.specs.Serving.{deeds_in}
 
 -- something that holds of the turns of every run
 abbrev pub OfEachRun : (Outside → Outside → List Turn → Type 0) → Type 0
 OfEachRun P = (schema : List SchemaNode) (old new : Outside) (how : How)
-    → (run : SessionRun schema old how new) → P old new (turns_of run.served.answers)
+    → (run : SessionRun schema old how new) → P old new (turns_in (deeds_in run.served))
 
--- the turns that its answers took are those of its port
+-- the turns that its deeds took are those of its port
 abbrev pub TurnsAreTaken : Type 0
 TurnsAreTaken = OfEachRun (λ old new turns. TakesTurns old.port turns new.port)
 
@@ -73,7 +74,7 @@ FindsAreKept = OfEachRun (λ old new turns.
 abbrev pub FaultsAreMarked : Type 0
 FaultsAreMarked = (schema : List SchemaNode) (old new : Outside) (how : How)
     → (run : SessionRun schema old how new)
-    → new.port.marks ≡ old.port.marks + faults_of run.served.answers
+    → new.port.marks ≡ old.port.marks + faults_in (deeds_in run.served)
 
 -- The HEADERS and DATA on each stream answer what was said on it, and what they have of its messages is a front of their octets.
 abbrev pub StreamsAreAnswered : Type 0
@@ -89,32 +90,32 @@ DataAreAFront = (schema : List SchemaNode) (old new : Outside) (how : How)
 
 -- ---- Subscribe calls of mode ONCE (gNMI 3.5.1.5.1)
 
--- the answer is that to a call of mode ONCE with this plan
-pub record AsksOnce (plan : Plan) (answer : Answer) : Type 0 where
+-- the deed is the answer to a call of mode ONCE with this plan
+pub record AsksOnce (plan : Plan) (deed : Deed) : Type 0 where
   pub body : List ℕ
-  pub asked : answer.request.asked ≡ Subscribe body
+  pub asked : deed.doing ≡ Answering (Subscribe body)
   pub begins : subscribe_step None body ≡ Ok (Begin plan)
   pub once : plan.mode ≡ Once
 
--- What it says are the messages of a run of the plan's stream over this history with one turn, which is made where the answer's
+-- What it says are the messages of a run of the plan's stream over this history with one turn, which is made where the deed's
 -- turn left the history, and the end of the call.
-pub record SaysState (schema : List SchemaNode) (plan : Plan) (h : List Entry) (answer : Answer)
+pub record SaysState (schema : List SchemaNode) (plan : Plan) (h : List Entry) (deed : Deed)
     : Type 0 where
   pub turn : Turn
-  pub taken : answer.turn ≡ Some turn
+  pub taken : deed.turn ≡ Some turn
   pub messages : List SubReply
   pub run : IsStreamRun plan (first_moment turn.reading (length turn.left)) [] messages h
-  pub told : answer.said ≡ told_all (Ok (replies_octets schema plan messages))
+  pub told : deed.said ≡ told_all (replies_octets schema plan messages) true
 
 -- that, or the call is refused for a fault of the disk, or for want of memory
-abbrev pub SaysStateOrEnds : List SchemaNode → Plan → List Entry → Answer → Type 0
-SaysStateOrEnds schema plan h answer =
-    SaysState schema plan h answer
-    ⊎ (answer.said ≡ told (Err DiskFault)) ⊎ (answer.said ≡ told (Err NoMemory))
+abbrev pub SaysStateOrEnds : List SchemaNode → Plan → List Entry → Deed → Type 0
+SaysStateOrEnds schema plan h deed =
+    SaysState schema plan h deed
+    ⊎ (deed.said ≡ told (Err DiskFault)) ⊎ (deed.said ≡ told (Err NoMemory))
 
 -- so it is for each of them, over the history that was seen last
 abbrev pub OnceCallsSayStates : Type 0
 OnceCallsSayStates = (schema : List SchemaNode) (old new : Outside) (how : How)
     → (run : SessionRun schema old how new)
-    → AllByRecursion (λ answer. (plan : Plan) → AsksOnce plan answer
-    → SaysStateOrEnds schema plan new.port.seen answer) run.served.answers
+    → AllByRecursion (λ deed. (plan : Plan) → AsksOnce plan deed
+    → SaysStateOrEnds schema plan new.port.seen deed) (deeds_in run.served)

@@ -1,5 +1,5 @@
 -- Small connections, evaluated.
-use Rattle.std.specs.Prelude.{◌≡◌, refl, List, [], ◌∷◌, ◌++◌, true, false, codes, Some, None, Ok, Err}
+use Rattle.std.specs.Prelude.{◌≡◌, refl, List, [], ◌∷◌, ◌++◌, true, false, take, codes, Some, None, Ok, Err}
 use Rattle.std.proofs.Common.{inl}
 use Rattle.std.specs.List.{flat_map}
 use Rattle.base_kinds.specs.declared.refusal.Refusal.TheVariants.{BadMessage, DiskFault}
@@ -17,7 +17,7 @@ use Rattle.h2_send.specs.Orders.{order_of}
 use Rattle.h2_send.specs.Outputs.{frames_of}
 use Rattle.session_calls.specs.declared.request.Asked.TheVariants as asks
 use Rattle.session_calls.specs.Requests.{requests}
-use Rattle.session_core.specs.Answers.{Answer, requests_of, told_all, tells_fault}
+use Rattle.session_core.specs.Deeds.{Deed, Answering, requests_in, said_once}
 use Rattle.session_core.specs.Saying.{IsSaid}
 
 -- A frame of which nothing is looked at here but what it means.
@@ -46,22 +46,22 @@ inputs =
     ∷ Event (events.Call 1 plain_text true) ∷ Speech 1 (Status 415)
     ∷ Event (events.Call 3 set true) ∷ Speech 3 (Finish (Some BadMessage)) ∷ []
 
-abbrev answers : List Answer
-answers =
-    record { request = record { stream = 1; asked = asks.Http 415 }; readings = []; turn = None; said = Status 415 ∷ [] }
-    ∷ record { request = record { stream = 3; asked = asks.Refused BadMessage }; readings = []; turn = None; said = Finish (Some BadMessage) ∷ [] }
+abbrev deeds : List Deed
+deeds =
+    record { stream = 1; doing = Answering (asks.Http 415); given = take 2 inputs; readings = []; turn = None; failed = false; said = Status 415 ∷ [] }
+    ∷ record { stream = 3; doing = Answering (asks.Refused BadMessage); given = take 4 inputs; readings = []; turn = None; failed = false; said = Finish (Some BadMessage) ∷ [] }
     ∷ []
 
-pub asked : requests_of answers ++ [] ≡ requests (events_of moments)
+pub asked : requests_in deeds ++ [] ≡ requests (events_of moments)
 asked = refl
 
 pub one_order : as_read (order_of inputs) ≡ reads_of moments
 one_order = refl
 
-pub said_first : IsSaid 1 [] (order_of inputs) answers
+pub said_first : IsSaid 1 [] (order_of inputs) deeds
 said_first = inl refl
 
-pub said_second : IsSaid 3 [] (order_of inputs) answers
+pub said_second : IsSaid 3 [] (order_of inputs) deeds
 said_second = inl refl
 
 -- the greeting, the ACK of SETTINGS, a status alone, and a refusal in one frame of HEADERS
@@ -78,14 +78,8 @@ written = refl
 
 -- ---- a ONCE call: its messages in their order and then the end, or the refusal that ends it
 
-pub once_told : told_all (Ok ((1 ∷ []) ∷ (2 ∷ []) ∷ [])) ≡ Message (1 ∷ []) ∷ Message (2 ∷ []) ∷ Finish None ∷ []
+pub once_told : said_once (Ok ((1 ∷ []) ∷ (2 ∷ []) ∷ [])) ≡ Message (1 ∷ []) ∷ Message (2 ∷ []) ∷ Finish None ∷ []
 once_told = refl
 
-pub once_refused : told_all (Err DiskFault) ≡ Finish (Some DiskFault) ∷ []
+pub once_refused : said_once (Err DiskFault) ≡ Finish (Some DiskFault) ∷ []
 once_refused = refl
-
-pub fault_told : tells_fault (told_all (Err DiskFault)) ≡ true
-fault_told = refl
-
-pub no_fault_told : tells_fault (told_all (Ok [])) ≡ false
-no_fault_told = refl

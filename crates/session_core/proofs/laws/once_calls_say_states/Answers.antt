@@ -1,5 +1,7 @@
+use Rattle.session_core.specs.Serving.{deeds_in, first_service, service_of, standing_of}
+use Rattle.session_core.specs.Runs.{start_of}
 use Rattle.session_core.proofs.OnceRuns.{once_calls}
 use Rattle.session_core.proofs.laws.once_calls_say_states.Goals as goal
 
 pub returns : goal.returns
-returns c = λ schema old new how run. once_calls schema old.port new.port run.served.answers run.served.answered
+returns c = λ schema old new how run. once_calls schema (first_service (start_of schema old)) (service_of (standing_of new.port run.calls new.readings run.round)) (deeds_in run.served) run.served.done

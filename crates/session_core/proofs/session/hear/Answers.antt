@@ -1,7 +1,12 @@
-use Rattle.session_core.specs.Runs.{start_of}
-use Rattle.session_core.proofs.Steps.{owes_some}
+use Rattle.session_calls.specs.Requests.{requests_with}
+use Rattle.session_calls.proofs.Tables.{requests_more}
 use Rattle.session_core.proofs.session.hear.Goals as goal
 
+-- where the table wants memory, the requests are owed
 pub returns-in-Err-clause-hears : goal.returns-in-Err-clause-hears
-returns-in-Err-clause-hears g c = λ before moments inputs all.
-    owes_some (start_of c.args.desk.now before) moments inputs c.args.waiting (g.P.BookPort.port c.args.calls.now.book) (g.C.Clock.readings c.args.calls.now.clock) c.args.calls.now.table c.args.event.now all
+returns-in-Err-clause-hears g c = λ before moments inputs all. record {
+  waiting = c.args.kept.waiting;
+  owed = requests_with c.args.calls.now.table c.args.event.now;
+  calls = c.args.kept.calls;
+  at = all (requests_with c.args.calls.now.table c.args.event.now) (requests_more c.args.calls.now.table c.args.event.now);
+}

@@ -1,6 +1,8 @@
-use Rattle.std.proofs.Common.{◌≡◌, ◌-◌, []}
+use Rattle.std.proofs.Common.{◌≡◌, ◌-◌, List, []}
+use Rattle.session_core.specs.Deeds.{Deed}
 use Rattle.session_core.specs.Runs.{Outside}
 use Rattle.session_core.specs.Reading.{most_octets}
+use Rattle.session_core.specs.Serving.{standing_of}
 use Rattle.session_core.specs.inner.Places.{IsServing, place_of}
 use Rattle.session_core.proofs.session.serve_frames.Given as goal
 
@@ -8,8 +10,8 @@ use Rattle.session_core.proofs.session.serve_frames.Given as goal
 abbrev pub invariant-frames : goal.invariant-frames
 invariant-frames g l = record {
   serving : (before : Outside)
-      → IsServing g.O.Sink.seen l.desk before (g.I.Source.seen l.initial.incoming.source) l.initial.incoming.count (place_of l.initial.incoming.recv l.initial.wire l.initial.calls.table [] [] (g.P.BookPort.port l.initial.calls.book) (g.C.Clock.readings l.initial.calls.clock))
-      → IsServing g.O.Sink.seen l.desk before (g.I.Source.seen l.incoming.source) l.incoming.count (place_of l.incoming.recv l.wire l.calls.table l.waiting [] (g.P.BookPort.port l.calls.book) (g.C.Clock.readings l.calls.clock));
+      → IsServing g.O.Sink.seen l.desk before (g.I.Source.seen l.initial.incoming.source) l.initial.incoming.count (place_of l.initial.incoming.recv l.initial.wire l.initial.calls.table [] [] (standing_of (g.P.BookPort.port l.initial.calls.book) [] (g.C.Clock.readings l.initial.calls.clock) []))
+      → (round : List Deed) × IsServing g.O.Sink.seen l.desk before (g.I.Source.seen l.incoming.source) l.incoming.count (place_of l.incoming.recv l.wire l.calls.table l.kept.waiting [] (standing_of (g.P.BookPort.port l.calls.book) l.kept.calls (g.C.Clock.readings l.calls.clock) round));
   schema : (g.P.BookPort.port l.calls.book).opened.schema ≡ l.desk;
 }
 
