@@ -57,12 +57,14 @@ is_empty_part rows pattern = nat_lt (length (part (pattern ∷ []) rows)) 1
 -- a pattern that covers no row is refused (gNMI 3.3.4)
 abbrev pub view_or_not_found : List Entry → List (List Elem) → Result View Refusal
 view_or_not_found h patterns =
-    if list_any (is_empty_part (world_of h).tree) patterns then Err NotFound else Ok (view_of h patterns)
+    if list_any (is_empty_part (world_of h).tree) patterns then Err NotFound
+    else Ok (view_of h patterns)
 
 -- a path with too many elements is refused at once; any other ones are read behind the event of the clock
 abbrev pub get_answer : List Entry → ℕ → List (List Elem) → Result View Refusal
 get_answer h reading patterns =
-    if list_any is_long patterns then Err BadPath else view_or_not_found (after_expiry h reading) patterns
+    if list_any is_long patterns then Err BadPath
+    else view_or_not_found (after_expiry h reading) patterns
 
 abbrev pub history_after_get : List Entry → ℕ → List (List Elem) → List Entry
 history_after_get h reading patterns =

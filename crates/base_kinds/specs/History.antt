@@ -54,7 +54,10 @@ extended deadline (Some trial) = Some (record trial { deadline = deadline })
 abbrev pub world_after : Kind → World → World
 world_after (kinds.Apply ops) world = record { tree = effect ops world.tree; trial = None }
 world_after (kinds.Trial id ops deadline) world =
-    record { tree = effect ops world.tree; trial = Some (record { id = id; before = world.tree; deadline = deadline }) }
+    record {
+      tree = effect ops world.tree;
+      trial = Some (record { id = id; before = world.tree; deadline = deadline });
+    }
 world_after kinds.Confirm world = record { tree = world.tree; trial = None }
 world_after kinds.Cancel world = record { tree = tree_before world.tree world.trial; trial = None }
 world_after kinds.Expire world = record { tree = tree_before world.tree world.trial; trial = None }

@@ -36,7 +36,8 @@ abbrev pub matches : List Elem → List Elem → Bool
 matches [] [] = true
 matches [] (elem ∷ elems) = false
 matches (pattern ∷ patterns) path =
-    if bytes_eq pattern.name (codes "...") then list_any (matches patterns) (suffixes path) else first_matches pattern (matches patterns) path
+    if bytes_eq pattern.name (codes "...") then list_any (matches patterns) (suffixes path)
+    else first_matches pattern (matches patterns) path
 
 -- some front of the path matches
 abbrev pub covers : List Elem → List Elem → Bool

@@ -19,4 +19,9 @@ limited limits h entries octets =
 
 abbrev pub rules_of : List SchemaNode → Limits → Rules
 rules_of schema limits =
-    record { valid = valid schema; fits = fits; record_octets = record_octets; has_room = limited limits }
+    record {
+      valid = valid schema;
+      fits = fits;
+      record_octets = record_octets;
+      has_room = limited limits;
+    }

@@ -93,7 +93,8 @@ refusal_cases rules h world (asks.Trial id ops duration) octets =
 refusal_cases rules h world (asks.Confirm id) octets = refusal_cases_of_trial world id []
 refusal_cases rules h world (asks.Cancel id) octets = refusal_cases_of_trial world id []
 refusal_cases rules h world (asks.Extend id duration) octets =
-    refusal_cases_of_trial world id ((not (rules.has_room h 2 (octets + (gate_octets + closing_octets))), LogFull) ∷ [])
+    refusal_cases_of_trial world id
+    ((not (rules.has_room h 2 (octets + (gate_octets + closing_octets))), LogFull) ∷ [])
 
 -- the refusal of the first case that holds, else the entry
 abbrev pub first_refusal : List (Bool × Refusal) → Entry → Result Entry Refusal

@@ -59,4 +59,5 @@ with_act act ops = filter (λ op. is_act act op.act) ops
 -- the deletes, then the replaces, then the updates, each in list order (gNMI 3.4.3)
 abbrev pub effect : List Op → List Row → List Row
 effect ops tree =
-    in_turn (with_act Update ops) (in_turn (with_act Replace ops) (in_turn (with_act Delete ops) tree))
+    in_turn (with_act Update ops)
+    (in_turn (with_act Replace ops) (in_turn (with_act Delete ops) tree))

@@ -58,7 +58,8 @@ has_type _ shape value = false
 
 abbrev pub row_has_type : List SchemaNode → Row → Bool
 row_has_type schema row =
-    if_some (node_at schema row.path) (λ node. if_some node.shape (λ shape. has_type node.sort shape row.value))
+    if_some (node_at schema row.path)
+    (λ node. if_some node.shape (λ shape. has_type node.sort shape row.value))
 
 abbrev pub types_hold : List SchemaNode → List Row → Bool
 types_hold schema rows = list_all (row_has_type schema) rows
@@ -66,7 +67,8 @@ types_hold schema rows = list_all (row_has_type schema) rows
 -- 3: each element with keys has its key leaves as rows, and their key texts are the keys
 abbrev pub has_key_leaf : List Row → List Elem → List ℕ × List ℕ → Bool
 has_key_leaf rows instance key =
-    list_any (λ row. same_path row.path (child instance key.0) && bytes_eq (key_text row.value) key.1) rows
+    list_any (λ row. same_path row.path (child instance key.0)
+    && bytes_eq (key_text row.value) key.1) rows
 
 abbrev pub row_has_keys : List Row → Row → Bool
 row_has_keys rows row =
@@ -114,16 +116,19 @@ each_once (path ∷ paths) =
 -- the entries of the lists with these names: the instances that some row stands below
 abbrev pub entries_of : List Row → List (List ℕ) → List (List Elem)
 entries_of rows names =
-    each_once (filter (λ instance. same_names (names_of instance) names) (flat_map (λ row. ancestors row.path) rows))
+    each_once (filter (λ instance. same_names (names_of instance) names)
+    (flat_map (λ row. ancestors row.path) rows))
 
 -- so many of the paths at most have the same path above them
 abbrev pub few_beside : ℕ → List (List Elem) → Bool
 few_beside most paths =
-    list_all (λ path. nat_le (length (filter (λ other. same_path (parent_of other) (parent_of path)) paths)) most) paths
+    list_all (λ path. nat_le (length
+    (filter (λ other. same_path (parent_of other) (parent_of path)) paths)) most) paths
 
 abbrev pub few_values : ℕ → List Row → List (List ℕ) → Bool
 few_values most rows names =
-    list_all (λ row. not (same_names (names_of row.path) names) || nat_le (length (values_in row.value)) most) rows
+    list_all (λ row. not (same_names (names_of row.path) names)
+    || nat_le (length (values_in row.value)) most) rows
 
 abbrev pub is_in_maximum : Sort → List (List ℕ) → List Row → ℕ → Bool
 is_in_maximum sorts.List names rows most = few_beside most (entries_of rows names)

@@ -15,5 +15,6 @@ pub fn first_set_is_entry_one()
 
 /// A tree is valid exactly where each of the six rules holds of it.
 pub fn validity_is_six_rules()
-    ensures { (schema : List SchemaNode) (rows : List TreeRow) → IsTrue (valid schema rows) ↔ IsValid schema rows }
+    ensures { (schema : List SchemaNode) (rows : List TreeRow) → IsTrue (valid schema rows)
+        ↔ IsValid schema rows }
 {}

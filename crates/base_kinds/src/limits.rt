@@ -1,4 +1,8 @@
 // The bounds of this project's profile. specs/Limits.antt has a definition for each, with the same name and number.
+ghost use Rattle.std.specs.Prelude.{◌≡◌};
+ghost use Rattle.base_kinds.specs.Legal.{is_fit_id};
+
+use base_lists::Text;
 
 /// The last reading of the clock that counts, in nanoseconds since 1970: 2100-01-01T00:00:00Z.
 pub const LATEST_READING: u64 = 4_102_444_800_000_000_000;
@@ -70,10 +74,15 @@ pub const MOST_SCHEMA_OCTETS: usize = 1_048_576;
 pub const MOST_SCHEMA_LINE_OCTETS: usize = 1_024;
 
 /// The most nodes that a schema may have.
-pub const MOST_SCHEMA_NODES: usize = 4_096;
+pub const MOST_SCHEMA_NODES: u32 = 4_096;
 
 /// The greatest number of entries or values that a schema may set as a maximum (RFC 7950 7.7.6).
-pub const MOST_MAXIMUM: u64 = 65_536;
+pub const MOST_MAXIMUM: u32 = 65_536;
 
-/// The most arrays and objects of a JSON text that may stand inside one another.
-pub const MOST_JSON_DEPTH: usize = 127;
+/// Whether a trial may have this id: it has 1 to 64 octets.
+pub fn is_fit_id(id: &Text) -> bool
+    ensures { result ≡ is_fit_id id.now }
+{
+    let length = id.octets().len();
+    1 <= length && length <= MOST_ID_OCTETS
+}

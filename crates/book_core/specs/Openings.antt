@@ -63,7 +63,8 @@ module _ {D : Type 0} (told : D → Option Content) (faults : D → ℕ) (fuse :
     pub images : LeavesNow (λ octets. IsJournal octets book.opened.limits (reopened found now))
         (told book.disk)
     pub calls : WhereArmed (fuse disk) (told disk) (λ c.
-        CallsPassed (opening_calls (length c.seen) + restart_calls found) (fuse disk) (fuse book.disk))
+        CallsPassed (opening_calls (length c.seen) + restart_calls found) (fuse disk)
+        (fuse book.disk))
 
   -- The tree that would stand behind that entry doesn't keep to the schema, or is too large.
   -- Nothing was written.

@@ -44,6 +44,10 @@ pub record IsSingle {D : Type 0} (book : BookView D) (author : ℕ) (start : Boo
 
 -- how a view is kept as its parts, as the toolchain asks of the value of a model
 module _ {D : Type 0} where
-  abbrev pub single_code : Coded D → Coded (Opened × (List Happening × Option Entry)) → Coded (SingleView D)
+  abbrev pub single_code : Coded D → Coded (Opened × (List Happening × Option Entry))
+      → Coded (SingleView D)
   single_code disk parts = let book : Coded (BookView D) = book_code disk parts in
-      code_by (BookView D × (ℕ × (BookView D × List (BookView D)))) (coded× book (coded× coded_ℕ (coded× book (coded_list book)))) (λ v. (v.book, (v.author, (v.start, v.finds)))) (λ p. record { book = p.0; author = p.1.0; start = p.1.1.0; finds = p.1.1.1 }) (λ _. refl)
+      code_by (BookView D × (ℕ × (BookView D × List (BookView D))))
+      (coded× book (coded× coded_ℕ (coded× book (coded_list book))))
+      (λ v. (v.book, (v.author, (v.start, v.finds))))
+      (λ p. record { book = p.0; author = p.1.0; start = p.1.1.0; finds = p.1.1.1 }) (λ _. refl)

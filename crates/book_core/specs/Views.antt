@@ -25,5 +25,8 @@ most_marks = 2 ^ 63
 
 -- how a view is kept as its parts, as the toolchain asks of the value of a model
 module _ {D : Type 0} where
-  abbrev pub book_code : Coded D → Coded (Opened × (List Happening × Option Entry)) → Coded (BookView D)
-  book_code disk parts = code_by (D × (Opened × (List Happening × Option Entry))) (coded× disk parts) (λ v. (v.disk, (v.opened, (v.chronicle, v.doubt)))) (λ p. record { disk = p.0; opened = p.1.0; chronicle = p.1.1.0; doubt = p.1.1.1 }) (λ _. refl)
+  abbrev pub book_code : Coded D → Coded (Opened × (List Happening × Option Entry))
+      → Coded (BookView D)
+  book_code disk parts = code_by (D × (Opened × (List Happening × Option Entry)))
+      (coded× disk parts) (λ v. (v.disk, (v.opened, (v.chronicle, v.doubt))))
+      (λ p. record { disk = p.0; opened = p.1.0; chronicle = p.1.1.0; doubt = p.1.1.1 }) (λ _. refl)

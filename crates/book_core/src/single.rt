@@ -83,7 +83,8 @@ impl<D: Disk + Drop, T: TreeLike + Drop> BookPort for Single<D, T> {
 
     fn set(&mut self, alloc: Global, now: u64, ask: Ask) -> Result<u64, Refusal>
         requires { IsFit ask }
-        ensures once { SetsOnce (port_of D.faults self.old) now ask result (port_of D.faults self.new) }
+        ensures once { SetsOnce (port_of D.faults self.old) now ask result
+            (port_of D.faults self.new) }
         ensures kept { self.new ≡ record self.old {
           book = self.new.book;
           finds = self.old.finds ++ self.old.book ∷ [];
@@ -105,7 +106,8 @@ impl<D: Disk + Drop, T: TreeLike + Drop> BookPort for Single<D, T> {
     }
 
     fn look(&mut self, alloc: Global, now: u64, patterns: &Paths) -> Result<View, Refusal>
-        ensures once { LooksOnce (port_of D.faults self.old) now patterns.now result (port_of D.faults self.new) }
+        ensures once { LooksOnce (port_of D.faults self.old) now patterns.now result
+            (port_of D.faults self.new) }
         ensures kept { self.new ≡ record self.old {
           book = self.new.book;
           finds = self.old.finds ++ self.old.book ∷ [];

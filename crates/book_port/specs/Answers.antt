@@ -22,7 +22,8 @@ pub record IsAccepted (rules : Rules) (h : List Entry) (now author : ℕ) (ask :
   pub left_is : left ≡ after_expiry h now ++ entry ∷ []
 
 -- the rules refuse the ask, and nothing is left behind but the event of the clock
-pub record IsRefused (rules : Rules) (h : List Entry) (now author : ℕ) (ask : Ask) (refusal : Refusal)
+pub record IsRefused (rules : Rules) (h : List Entry) (now author : ℕ) (ask : Ask)
+    (refusal : Refusal)
     (left : List Entry) : Type 0 where
   pub judged : step rules h now author ask ≡ Err refusal
   pub left_is : left ≡ after_expiry h now
@@ -35,7 +36,8 @@ AnswersSet rules h now author ask (Err refusals.NoMemory) left = IsCutShort h no
 AnswersSet rules h now author ask (Err refusal) left = IsRefused rules h now author ask refusal left
 
 -- what a look is answered, which nothing else refuses
-abbrev pub AnswersLook : List Entry → ℕ → List (List Elem) → Result View Refusal → List Entry → Type 0
+abbrev pub AnswersLook : List Entry → ℕ → List (List Elem) → Result View Refusal → List Entry
+    → Type 0
 AnswersLook h now patterns (Ok view) left =
     (view ≡ view_of left patterns) × (left ≡ after_expiry h now)
 AnswersLook h now patterns (Err refusals.DiskFault) left = IsCutShort h now left

@@ -66,7 +66,8 @@ HasJustMade h port = entries_by port.author (drop (length port.start) h) ≡ por
 -- no two of these ports have one author
 abbrev pub AuthorsDiffer : List PortEnd → Type 0
 AuthorsDiffer [] = Unit {0}
-AuthorsDiffer (port ∷ ports) = AllByRecursion (λ other. other.author ≢ port.author) ports × AuthorsDiffer ports
+AuthorsDiffer (port ∷ ports) = AllByRecursion (λ other. other.author ≢ port.author) ports
+    × AuthorsDiffer ports
 
 -- one more behind a call that a fault of the disk ended
 abbrev pub marks_after : {T : Type 0} → ℕ → Result T Refusal → ℕ
@@ -85,7 +86,8 @@ HasFaultCause (Some before) (Err refusal) (Some now) = now ≡ before
 
 -- One turn: it finds a history that begins with the one seen, and leaves one, which is then seen. Its author isn't the target.
 -- What it finds has all entries of this port, and all of each port that it met, and no others of their authors.
-pub record TakesTurn {T : Type 0} (old : PortView) (turn : Turn) (result : Result T Refusal) (new : PortView) : Type 0 where
+pub record TakesTurn {T : Type 0} (old : PortView) (turn : Turn) (result : Result T Refusal)
+    (new : PortView) : Type 0 where
   pub own : 0 < old.author
   pub begins : OthersWentOn old.author old.seen turn.found
   pub has_made : AllByRecursion (HasJustMade turn.found) (end_of old ∷ old.met)
@@ -104,14 +106,16 @@ pub record TakesTurn {T : Type 0} (old : PortView) (turn : Turn) (result : Resul
   }
 
 -- a Set takes one turn, and is answered at the history that the turn found
-pub record SetsOnce (old : PortView) (now : ℕ) (ask : Ask) (result : Result ℕ Refusal) (new : PortView) : Type 0 where
+pub record SetsOnce (old : PortView) (now : ℕ) (ask : Ask) (result : Result ℕ Refusal)
+    (new : PortView) : Type 0 where
   pub turn : Turn
   pub reading : turn.reading ≡ now
   pub taken : TakesTurn old turn result new
   pub answer : AnswersSet (rules_in old.opened) turn.found now old.author ask result turn.left
 
 -- and so does a look
-pub record LooksOnce (old : PortView) (now : ℕ) (patterns : List (List Elem)) (result : Result View Refusal) (new : PortView) : Type 0 where
+pub record LooksOnce (old : PortView) (now : ℕ) (patterns : List (List Elem))
+    (result : Result View Refusal) (new : PortView) : Type 0 where
   pub turn : Turn
   pub reading : turn.reading ≡ now
   pub taken : TakesTurn old turn result new

@@ -37,9 +37,12 @@ pub trait Twin: BookPort {
     /// `Spent`: all 4,294,967,295 numbers are given out, as this port knows from then on. Where it knew so before there is no
     /// further port.
     fn twin(&mut self) -> Result<Self, PassFault>
-        ensures ok { IfOk result (λ twin. IsTwin (Self.port self.old) (Self.port self.new) (Self.port twin)) }
-        ensures spent { IsErrOf result PassFault.Spent → Self.port self.new ≡ knows_all (Self.port self.old) }
-        ensures memory { IsErrOf result PassFault.NoMemory → Self.port self.new ≡ Self.port self.old }
+        ensures ok { IfOk result (λ twin. IsTwin (Self.port self.old) (Self.port self.new)
+            (Self.port twin)) }
+        ensures spent { IsErrOf result PassFault.Spent
+            → Self.port self.new ≡ knows_all (Self.port self.old) }
+        ensures memory { IsErrOf result PassFault.NoMemory
+            → Self.port self.new ≡ Self.port self.old }
         ensures always { (Self.port self.old).known ≡ most_authors → IfOk result (λ _. ⊥) };
 
     /// Ends another port of the same book. What that one has seen, this one has seen then, and it finds all that that one made

@@ -39,7 +39,8 @@ pub record IsRestart (h : List Entry) (entry : Entry) : Type 0 where
 
 -- what the history goes on with: the entry that was judged last, or one by which the target itself ends the open trial
 abbrev pub IsNext : CoreView → Entry → Type 0
-IsNext core entry = IsStaged core entry ⊎ (IsExpiry core.entries entry ⊎ IsRestart core.entries entry)
+IsNext core entry = IsStaged core entry
+    ⊎ (IsExpiry core.entries entry ⊎ IsRestart core.entries entry)
 
 -- a target that is started anew goes on from there
 abbrev pub base_after : Kind → List Entry → List Entry → List Entry

@@ -109,7 +109,8 @@ impl<T: TreeLike> Core<T> {
     pub fn entries(&self) -> &[Entry]
         ensures value { result.now ≡ self.now.entries }
         ensures replayable { IsReplayable result.now }
-        ensures legal { IsLegal (rules_of self.now.schema self.now.limits) self.now.base result.now }
+        ensures legal { IsLegal (rules_of self.now.schema self.now.limits) self.now.base
+            result.now }
         ensures sound { HasSoundTrees self.now.schema (world_of self.now.base)
             → HasSoundTrees self.now.schema (world_of result.now) }
     {

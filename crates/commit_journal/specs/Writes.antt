@@ -38,7 +38,8 @@ PutsRecord limits h entry old new =
 -- that write, or its sync, fails
 abbrev pub FailsAtRecord : Limits → List Entry → Entry → Content → Content → Type 0
 FailsAtRecord limits h entry old new =
-    Changes (mask_after_write (gate_place limits h + 1) (length (record_and_gate entry)) old.mask) old new
+    Changes (mask_after_write (gate_place limits h + 1) (length (record_and_gate entry))
+    old.mask) old new
 
 module _ (limits : Limits) (h : List Entry) (entry : Entry) where
   -- an append: the record, and then the open gate

@@ -1,7 +1,7 @@
 //! The text of a commit log, with the lines that rows, entries and their operations have in it.
 //!
-//! `put_log` adds the text that `specs/Logs` defines (`log_text`), `put_rows` a line for each row, as a script's answers
-//! have them too. A call that wants memory leaves its output as it was.
+//! Start at `log_text` (specs/Logs.antt), which `put_log` (src/log.rt) adds to its output. `put_rows` adds a line for each row,
+//! as a script's answers have them too. A call that wants memory leaves its output as it was.
 #![tactic(auto)]
 
 mod log;

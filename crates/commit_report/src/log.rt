@@ -1,6 +1,6 @@
 ghost use Rattle.std.specs.Prelude.{◌≡◌, ◌++◌, OnOk, OnErr};
 ghost use Rattle.std.specs.List.{flat_map};
-ghost use Rattle.base_kinds.specs.Tree.{with_act, is_act as same_act};
+ghost use Rattle.base_kinds.specs.Tree.{with_act};
 ghost use Rattle.commit_report.specs.Logs.{act_text, op_lines, ops_lines, ops_of, kind_text, entry_front, entry_lines, log_text};
 
 use crate::rows::append_rows;
@@ -89,20 +89,11 @@ fn append_ops(alloc: Global, ops: &[Op], out: &mut Bytes) -> Result<(), NoMemory
     append_ops_with(alloc, Act::Update, ops, out)
 }
 
-fn is_act(a: Act, b: Act) -> bool
-    ensures { result ≡ same_act a b }
-{
-    matches!(
-        (a, b),
-        (Act::Delete, Act::Delete) | (Act::Replace, Act::Replace) | (Act::Update, Act::Update)
-    )
-}
-
 fn append_ops_with(alloc: Global, act: Act, ops: &[Op], out: &mut Bytes) -> Result<(), NoMemory>
     ensures { OnOk result (out.new ≡ out.old ++ flat_map op_lines (with_act act ops.now)) }
 {
     for op in ops {
-        if is_act(act, op.act) {
+        if op.act.is_act(act) {
             append_op(alloc, op, out)?;
         }
     }

@@ -62,7 +62,8 @@ pub record ReadsToLimit (limit : ℕ) (octets : List ℕ) (old new : Input) : Ty
 
 -- a read failed behind at most so many octets
 abbrev pub FailedToLimit : ℕ → Input → Input → Type 0
-FailedToLimit limit old new = (octets : List ℕ) × (length octets ≤ limit) × FailedAfter octets old new
+FailedToLimit limit old new = (octets : List ℕ) × (length octets ≤ limit)
+    × FailedAfter octets old new
 
 -- at most one octet more than the limit was read, and no read failed
 abbrev pub StoppedToLimit : ℕ → Input → Input → Type 0

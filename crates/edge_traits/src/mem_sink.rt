@@ -35,7 +35,12 @@ impl MemSink {
     /// A sink that fails in the calls of `write` with the listed numbers, from 1, in decimal and without leading zeros,
     /// and where it wants memory. Takes no memory itself.
     pub fn make(alloc: Global, fails: Texts) -> MemSink
-        ensures { result ≡ record { seen = unwritten_output; calls = 0; fails = fails; starved = false } }
+        ensures { result ≡ record {
+          seen = unwritten_output;
+          calls = 0;
+          fails = fails;
+          starved = false;
+        } }
     {
         MemSink {
             octets: Bytes::empty(alloc),
@@ -71,7 +76,8 @@ impl Sink for MemSink {
         ensures whole { IfOk result (λ n. n ≡ length piece.now) }
         ensures ok { OnOk result (self.new ≡ sink_with piece.now self.old) }
         ensures unlisted { OnOk result (IsToFail self.old.fails self.old.calls → ⊥) }
-        ensures listed { IsToFail self.old.fails self.old.calls → self.new ≡ sink_with_fault self.old }
+        ensures listed { IsToFail self.old.fails self.old.calls
+            → self.new ≡ sink_with_fault self.old }
         ensures wanted { OnErr result ((IsToFail self.old.fails self.old.calls → ⊥) →
             self.new ≡ starved_sink self.old) }
     {

@@ -38,7 +38,12 @@ impl MemSource {
     /// A source of these octets, which fails in the calls of `read` with the listed numbers, from 1, in decimal and
     /// without leading zeros. Takes no memory.
     pub fn make(octets: Bytes, fails: Texts) -> MemSource
-        ensures { result ≡ record { octets = octets; past = unread_input; calls = 0; fails = fails } }
+        ensures { result ≡ record {
+          octets = octets;
+          past = unread_input;
+          calls = 0;
+          fails = fails;
+        } }
     {
         MemSource {
             octets,

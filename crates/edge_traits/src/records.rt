@@ -20,7 +20,12 @@ impl Model for InputRecord {
 
     ghost Value = { Input };
 
-    ghost view = { λ r. record { given = r.given; ended = r.ended.value; faults = r.faults; left = None } };
+    ghost view = { λ r. record {
+      given = r.given;
+      ended = r.ended.value;
+      faults = r.faults;
+      left = None;
+    } };
 }
 
 impl InputRecord {

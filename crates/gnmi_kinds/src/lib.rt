@@ -1,7 +1,8 @@
 //! The plain types of gNMI's messages that the configuration side has no use for: a path as a message has it, encodings, what
 //! a Get and a Subscribe ask, and what a stream says.
 //!
-//! Those that both sides use (`SetAsk`, `SubLine`, `Note` and the like) stand in base_kinds.
+//! Start at src/ask.rt, what a Get and a Subscribe ask; src/reply.rt is what a stream says, src/path.rt a path as a message has
+//! it. Those that both sides use (`SetAsk`, `SubLine`, `Note` and the like) stand in base_kinds.
 #![tactic(auto)]
 
 mod ask;

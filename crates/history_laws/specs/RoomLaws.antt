@@ -27,14 +27,16 @@ SizeAfterOne =
 -- what was accepted had the room that it needs
 abbrev pub AcceptedHadRoom : Type 0
 AcceptedHadRoom =
-    (schema : List SchemaNode) (limits : Limits) (h : List Entry) (now author : ℕ) (ask : Ask) (entry : Entry) →
+    (schema : List SchemaNode) (limits : Limits) (h : List Entry) (now author : ℕ) (ask : Ask)
+    (entry : Entry) →
     judge (rules_of schema limits) h now author ask ≡ Ok entry →
     HasRoomFor limits h (record_octets entry) ask
 
 -- behind an accepted trial or extend there is room for the entry that closes the trial
 abbrev pub TrialsLeaveRoom : Type 0
 TrialsLeaveRoom =
-    (schema : List SchemaNode) (limits : Limits) (h : List Entry) (now author : ℕ) (ask : Ask) (entry : Entry) →
+    (schema : List SchemaNode) (limits : Limits) (h : List Entry) (now author : ℕ) (ask : Ask)
+    (entry : Entry) →
     StaysOpen ask → judge (rules_of schema limits) h now author ask ≡ Ok entry →
     HasRoom limits (h ++ entry ∷ []) 1 closing_octets
 

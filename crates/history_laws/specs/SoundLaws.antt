@@ -26,7 +26,8 @@ NoRowsAreSound = (schema : List SchemaNode) → IsSound schema []
 -- accepted operations make a sound tree, whatever the tree before was
 abbrev pub AcceptedTreesAreSound : Type 0
 AcceptedTreesAreSound =
-    (schema : List SchemaNode) (limits : Limits) (h : List Entry) (now author : ℕ) (ask : Ask) (entry : Entry) (ops : List Op) →
+    (schema : List SchemaNode) (limits : Limits) (h : List Entry) (now author : ℕ) (ask : Ask)
+    (entry : Entry) (ops : List Op) →
     AsksOperations ops ask → judge (rules_of schema limits) h now author ask ≡ Ok entry →
     IsSound schema (effect ops (world_of h).tree)
 

@@ -66,7 +66,9 @@ abbrev pub EffectsSetValues : Type 0
 EffectsSetValues =
     (path : List Elem) (ops : List Op) (tree : List Row) →
     value_at path (effect ops tree) ≡
-    values_after (with_act Update ops) path (values_after (with_act Replace ops) path (values_after (with_act Delete ops) path (value_at path tree)))
+    values_after (with_act Update ops) path
+    (values_after (with_act Replace ops) path
+    (values_after (with_act Delete ops) path (value_at path tree)))
 
 -- the test of neighbours says that rows rise
 abbrev pub TestSaysRising : Type 0

@@ -58,6 +58,7 @@ ClosingsAreTaken =
 -- and is refused for want of a trial or for another id alone: neither the tree nor the log's length stands against it
 abbrev pub ClosingsAreRefused : Type 0
 ClosingsAreRefused =
-    (rules : Rules) (h : List Entry) (now author : ℕ) (id : List ℕ) (ask : Ask) (refusal : Refusal) →
+    (rules : Rules) (h : List Entry) (now author : ℕ) (id : List ℕ) (ask : Ask)
+    (refusal : Refusal) →
     ClosesTrial id ask → judge rules h now author ask ≡ Err refusal →
     (refusal ≡ NoTrial) ⊎ (refusal ≡ WrongId)

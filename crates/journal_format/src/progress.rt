@@ -1,13 +1,12 @@
 // Whether an entry may follow those that were read.
 ghost use Rattle.std.specs.Prelude.{◌≡◌, ◌+◌, ◌^◌, ◌<◌, ◌≤◌, []};
-ghost use Rattle.base_kinds.specs.Legal.{is_fit_id};
 ghost use Rattle.base_kinds.specs.Limits.{AreInRange, closing_octets};
 ghost use Rattle.journal_format.specs.Histories.{is_author_of, happens, is_fit_deadline};
 ghost use Rattle.journal_format.specs.inner.Progress.{Summarizes, IsWithinLimits, opens, is_fit_but_for_ops, is_later, may_happen, with_entry, has_so_much_room, leaves_room, follow};
 
 use base_kinds::{
     CLOSING_OCTETS, EMPTY_LOG_OCTETS, Entry, GATE_OCTETS, Kind, LATEST_READING, LONGEST_DURATION,
-    Limits, MOST_ID_OCTETS, SHORTEST_DURATION, Text,
+    Limits, SHORTEST_DURATION, is_fit_id,
 };
 
 /// What is known of the entries that were read.
@@ -70,13 +69,6 @@ fn happens(kind: &Kind, open_before: bool) -> bool
             open_before
         }
     }
-}
-
-fn is_fit_id(id: &Text) -> bool
-    ensures { result ≡ is_fit_id id.now }
-{
-    let length = id.octets().len();
-    length >= 1 && length <= MOST_ID_OCTETS
 }
 
 fn is_fit_deadline(stamp: u64, deadline: u64) -> bool

@@ -23,7 +23,8 @@ pub(crate) fn octets_at(octets: &[u8]) -> Result<(&[u8], &[u8]), RecordFault>
 
 #[tactic(auto, using(crate::proofs::Texts::utf8_tests))]
 fn text_of(alloc: Global, octets: &[u8]) -> Result<Text, RecordFault>
-    ensures { AnswersPart (λ text. text) result (if is_utf8 octets.now then Some octets.now else None) }
+    ensures { AnswersPart (λ text. text) result
+        (if is_utf8 octets.now then Some octets.now else None) }
 {
     match Text::of(alloc, octets) {
         Ok(text) => Ok(text),

@@ -4,7 +4,6 @@ ghost use Rattle.std.specs.Option.{option_copied, option_and_then, option_map, F
 ghost use Rattle.serde_json.specs.Data.{object};
 ghost use Rattle.serde_json.specs.View.{view, items_view, members_view};
 ghost use Rattle.base_kinds.specs.Schema.{SchemaNode};
-ghost use Rattle.base_kinds.specs.Ancestors.{own_name};
 ghost use Rattle.schema_core.specs.Nodes.{names_above, names_at};
 ghost use Rattle.json_rows.specs.Rows.{data_of, rows_of};
 ghost use Rattle.json_text.specs.laws.ReadBack.{ReadsBack};
@@ -15,7 +14,7 @@ ghost use Rattle.json_text.specs.inner.Steps.{member_step};
 use crate::leaves::value_json;
 use crate::runs::{Shared, split_run};
 use base_kinds::{Bytes, Elem, MOST_ELEMENTS, NoMemory, Path, Row, Rows, Seq, Shape, Sort, Text};
-use schema_core::{Node, NodeId, Schema};
+use schema_core::{Node, NodeId, Schema, own_name};
 use serde_json::{Map, Value as Json, put};
 use std::alloc::Global;
 
@@ -240,17 +239,6 @@ fn child_of_rows(
 {
     let elem = rows.first()?.path.get(depth)?;
     schema.child_of(parent, elem.name.octets())
-}
-
-/// The last of the names, or no octets where there are none.
-fn own_name(names: &[Text]) -> &[u8]
-    ensures value { result.now ≡ own_name names.now }
-    ensures is_utf8 { IsUtf8 result.now }
-{
-    match names.split_last() {
-        None => &[],
-        Some((name, _)) => name.octets(),
-    }
 }
 
 /// The name of the node's member where this module is above.

@@ -40,7 +40,8 @@ fn take_turns<R: Wait>(
 fn another_pass<R: Wait>(rt: &R, lock: &TurnLock<Tally>, pass: &mut TallyPass) -> Option<TallyPass>
     requires own { pass.old.seat.table_id ≡ lock.now.table.shared.table_id }
     requires outside { IsOutside pass.old.seat }
-    ensures same { (pass.new.seat.table_id ≡ lock.now.table.shared.table_id) × IsOutside pass.new.seat }
+    ensures same { (pass.new.seat.table_id ≡ lock.now.table.shared.table_id)
+        × IsOutside pass.new.seat }
     ensures other { IfSome result (λ other.
         (other.seat.table_id ≡ lock.now.table.shared.table_id) × IsOutside other.seat) }
 {

@@ -22,4 +22,5 @@ fuse_of disk = record { arming = Some unarmed; starved = disk.starved }
 
 -- a disk with these octets, all of them synced
 abbrev pub new_disk_of : List ℕ → Bool → DiskView
-new_disk_of octets starved = record { content = synced_content octets; faults = 0; starved = starved }
+new_disk_of octets starved =
+    record { content = synced_content octets; faults = 0; starved = starved }

@@ -128,7 +128,8 @@ impl Disk for MemDisk {
 
     /// Never fails, and fills the buffer as far as there are octets.
     fn read(&mut self, place: u64, into: &mut [u8]) -> Result<usize, Failed>
-        ensures ok { result ≡ Ok (min (length into.old) (length (drop place self.old.content.seen))) }
+        ensures ok { result ≡ Ok (min (length into.old)
+            (length (drop place self.old.content.seen))) }
         ensures same { self.new ≡ self.old }
         ensures image { IsImage self.old.content.mask self.old.content.seen }
         ensures call { CallEnds (fuse_of self.old) (fuse_of self.new) result }
@@ -172,7 +173,8 @@ impl Disk for MemDisk {
     /// Never fails.
     fn cut(&mut self, length: u64) -> Result<(), Failed>
         ensures ok { IsOk result }
-        ensures to { self.new ≡ record self.old { content = content_after_cut length self.old.content } }
+        ensures to { self.new ≡ record self.old
+            { content = content_after_cut length self.old.content } }
         ensures images { Changes (take length self.old.content.mask)
             self.old.content self.new.content }
         ensures image { IsImage self.old.content.mask self.old.content.seen }

@@ -1,7 +1,7 @@
 //! What the texts of schemas, scripts and logs have in common: names, a text cut at a separator, and numbers in decimal.
 //!
-//! The grammar of a NAME is `specs/Names`, a cut is `specs/Splits`, a number is `specs/Numbers`. `is_name`, `Parts`,
-//! `cut_before`, `natural_of` and `put_number` are these definitions as functions over octets.
+//! Start at specs/Names.antt, the grammar of a NAME; specs/Splits.antt has a cut, specs/Numbers.antt a number. `is_name`,
+//! `Parts`, `cut_before`, `natural_of` and `put_number` are these definitions as functions over octets.
 #![tactic(auto)]
 
 mod names;

@@ -56,7 +56,7 @@ fn dec_text(alloc: Global, digits: i64, places: u8) -> Result<Bytes, NoMemory>
     Ok(text)
 }
 
-/// Adds the number divided by 10 to the so-manieth.
+/// Adds the number with this many of its digits behind the point.
 fn put_scaled(alloc: Global, number: u64, places: u8, out: &mut Bytes) -> Result<(), NoMemory>
     ensures { OnOk result (out.new ≡ out.old ++ scaled_text number places) }
 {
@@ -65,7 +65,7 @@ fn put_scaled(alloc: Global, number: u64, places: u8, out: &mut Bytes) -> Result
     out.extend_from_slice(fraction(alloc, last_digits(alloc, number, places)?.items())?.items())
 }
 
-/// The number divided by 10 to the so-manieth, without what is behind the point.
+/// What stands before the point, where this many of the number's digits stand behind it.
 #[tactic(auto, using(crate::proofs::Powers::tenth))]
 fn whole_part(number: u64, places: u8) -> u64
     ensures { result ≡ number / 10 ^ places }

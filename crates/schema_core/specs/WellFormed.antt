@@ -7,6 +7,7 @@ use Rattle.base_kinds.specs.declared.schema.Shape.{Shape}
 use Rattle.base_kinds.specs.declared.schema.Sort.{Sort}
 use Rattle.base_kinds.specs.declared.schema.Sort.TheVariants as sorts
 use Rattle.base_kinds.specs.Schema.{SchemaNode, node_of}
+use Rattle.base_kinds.specs.Limits.{most_maximum}
 use Rattle.base_kinds.specs.Valid.{if_some, unless_none, is_leafy}
 use Rattle.plain_texts.specs.Names.{is_name}
 use Rattle.schema_core.specs.Nodes.{AllPlaced}
@@ -37,12 +38,8 @@ most_names = 32
 abbrev pub most_keys : ℕ
 most_keys = 8
 
--- so many entries or values at most can be allowed
-abbrev pub most_elements : ℕ
-most_elements = 65536
-
 abbrev pub is_fit_maximum : ℕ → Bool
-is_fit_maximum maximum = nat_le 1 maximum && nat_le maximum most_elements
+is_fit_maximum maximum = nat_le 1 maximum && nat_le maximum most_maximum
 
 -- the schema has a leaf with these names
 abbrev pub has_leaf : List SchemaNode → List (List ℕ) → Bool

@@ -9,9 +9,11 @@ mod limits;
 mod names;
 mod node;
 mod schema;
+mod steps;
 mod wanted;
 
-pub use limits::{MOST_ELEMENTS, MOST_ENUM_TEXTS, MOST_KEYS, MOST_NAMES, MOST_NODES, MOST_PLACES};
+pub use limits::{MOST_ENUM_TEXTS, MOST_KEYS, MOST_NAMES, MOST_PLACES};
 pub use names::{has_just_keys, has_names, own_name, parent_names};
 pub use node::{Node, NodeId};
 pub use schema::Schema;
+pub use steps::steps_have_nodes;

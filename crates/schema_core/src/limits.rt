@@ -1,7 +1,4 @@
-// The limits of a schema. They are this project's own, but for the digits behind a point (RFC 7950 9.3.4).
-
-/// So many nodes at most has a schema.
-pub const MOST_NODES: u32 = 4096;
+// The limits of a schema that base_kinds doesn't name. They are this project's own, but for the digits behind a point (RFC 7950 9.3.4).
 
 /// So many names at most lead from the root to a node.
 pub const MOST_NAMES: usize = 32;
@@ -14,6 +11,3 @@ pub const MOST_ENUM_TEXTS: usize = 256;
 
 /// So many digits at most stand behind the point of a decimal.
 pub const MOST_PLACES: u32 = 18;
-
-/// So many entries of a list, or values of a leaf-list, at most can be allowed.
-pub const MOST_ELEMENTS: u32 = 65_536;

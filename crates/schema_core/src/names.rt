@@ -1,5 +1,5 @@
 // The names of nodes against paths: which node an element or a path is one of (RFC 7950 6.5, 7.8.2).
-ghost use Rattle.std.specs.Prelude.{◌≡◌};
+ghost use Rattle.std.specs.Prelude.{◌≡◌, IsUtf8};
 ghost use Rattle.std.specs.List.{list_any, list_all};
 ghost use Rattle.std.specs.Str.{bytes_eq};
 ghost use Rattle.base_kinds.specs.Schema.{names_of, same_names};
@@ -56,7 +56,8 @@ pub fn parent_names(names: &[Text]) -> &[Text]
 /// The last of the names: that of the node itself. Takes no memory.
 #[tactic(auto, using(crate::proofs::NameLemmas::own_of_end))]
 pub fn own_name(names: &[Text]) -> &[u8]
-    ensures { result.now ≡ own_name names.now }
+    ensures value { result.now ≡ own_name names.now }
+    ensures is_utf8 { IsUtf8 result.now }
 {
     match names.split_last() {
         None => &[],

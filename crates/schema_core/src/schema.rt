@@ -1,12 +1,12 @@
 ghost use Rattle.std.specs.Prelude.{◌≡◌, ◌<◌, ◌≤◌, [], ◌∷◌, ◌++◌, ℕ, Some, None, length, take, slice_get, IsTrue, IsNone, IfOk, IfErr, IfSome, OnOk, OnErr, EachIndex, ◌↔◌};
 ghost use Rattle.std.specs.Option.{option_copied, option_map, option_and_then, ForSome};
+ghost use Rattle.base_kinds.specs.Limits.{most_schema_nodes};
 ghost use Rattle.base_kinds.specs.Schema.{names_of, node_of, node_at};
 ghost use Rattle.base_kinds.specs.Valid.{if_some};
 ghost use Rattle.schema_core.specs.Nodes.{names_at, names_above, has_parent, is_inner};
 ghost use Rattle.schema_core.specs.inner.Index.{names_cmp, names_in, IsSortedIndex, IsBetween};
 ghost use Rattle.schema_core.specs.inner.Wanted.{wanted_names};
 
-use crate::limits::MOST_NODES;
 use crate::node::{Node, NodeId};
 use crate::wanted::{Wanted, compare};
 use base_kinds::{Path, Shape, Sort};
@@ -48,7 +48,7 @@ impl Schema {
     /// How many nodes it has.
     pub fn nodes(&self) -> u32
         ensures count { result ≡ length self.now }
-        ensures few { result ≤ MOST_NODES }
+        ensures few { result ≤ most_schema_nodes }
     {
         self.nodes.len() as u32
     }
@@ -80,7 +80,8 @@ impl Schema {
         requires { ForSome parent (λ id. id.0 < length self.now) }
         ensures node { node_of self.now (names_above self.now parent ++ name.now ∷ []) ≡
             option_and_then (λ id. slice_get self.now id.0) result }
-        ensures absent { IsNone result ↔ (node_of self.now (names_above self.now parent ++ name.now ∷ []) ≡ None) }
+        ensures absent { IsNone result
+            ↔ (node_of self.now (names_above self.now parent ++ name.now ∷ []) ≡ None) }
         ensures within { IfSome result (λ id. id.0 < length self.now) }
         ensures named { IfSome result (λ id. names_at self.now id.0 ≡
             names_above self.now parent ++ name.now ∷ []) }
@@ -172,7 +173,7 @@ impl Schema {
     /// Adds the node at the end.
     #[tactic(auto, using(crate::proofs::IndexLemmas::kept_more))]
     pub fn add(&mut self, node: Node) -> Result<NodeId, NoMemory>
-        requires room { length self.old < MOST_NODES }
+        requires room { length self.old < most_schema_nodes }
         requires fresh { node_of self.old node.names ≡ None }
         requires parent { IsTrue (has_parent self.old node.names) }
         ensures ok { OnOk result (self.new ≡ self.old ++ node ∷ []) }

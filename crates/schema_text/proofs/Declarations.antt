@@ -1,5 +1,5 @@
 -- What a line declares is in the limits: names, keys, shapes and maxima.
-use Rattle.std.proofs.Common.{◌≡◌, ◌≤◌, ℕ, List, [], ◌∷◌, ◌++◌, Bool, true, false, not, ◌&&◌, cond, leb, take, drop, length, Option, Some, None, IfSome, refl, bytes_eq, codes, eqb, arith}
+use Rattle.std.proofs.Common.{◌≡◌, ◌≤◌, ℕ, List, [], ◌∷◌, ◌++◌, Bool, true, false, not, ◌&&◌, cond, leb, take, drop, length, Option, Some, None, IfSome, refl, sym, subst, bytes_eq, codes, eqb, arith}
 use Rattle.std.specs.List.{list_all}
 use Rattle.std.specs.Option.{option_map, option_and_then, option_or}
 use Rattle.std.proofs.lemmas.Bool.{and_parts, and_from, leb-true, le-leb}
@@ -10,7 +10,8 @@ use Rattle.plain_texts.specs.Names.{is_name}
 use Rattle.plain_texts.specs.Numbers.{natural_of}
 use Rattle.plain_texts.specs.Splits.{parts_of}
 use Rattle.schema_core.specs.Shapes.{most_enum_texts, most_places, is_enum_text, texts_differ, is_fit_shape}
-use Rattle.schema_core.specs.WellFormed.{most_names, most_keys, most_elements, is_fit_maximum}
+use Rattle.schema_core.specs.WellFormed.{most_names, most_keys, is_fit_maximum}
+use Rattle.base_kinds.specs.Limits.{most_maximum}
 use Rattle.schema_text.specs.declared.line.Declared.{Declared}
 use Rattle.schema_text.specs.declared.line.Declared.TheVariants as declared
 use Rattle.schema_text.specs.declared.line.Line.{Line}
@@ -157,7 +158,7 @@ shape_fit field = shape_or (word_shape field) _ (word_fit field) (shape_or (inte
 abbrev IsFitLimit : Option (Option ℕ) → Type 0
 IsFitLimit limit = IfSome limit HasFitMaximum
 
-limit_if : (is : Bool) (number : Option ℕ) → IfSome number (IsUpTo most_elements) → IsFitLimit (cond is (option_map (λ most. Some most) number) None)
+limit_if : (is : Bool) (number : Option ℕ) → IfSome number (IsUpTo most_maximum) → IsFitLimit (cond is (option_map (λ most. Some most) number) None)
 limit_if false number fit = tt
 limit_if true None fit = tt
 limit_if true (Some number) fit = fit
@@ -165,7 +166,7 @@ limit_if true (Some number) fit = fit
 limit_fit : (marks : Names) → IsFitLimit (limit_of marks)
 limit_fit [] = refl
 limit_fit (word ∷ []) = tt
-limit_fit (word ∷ number ∷ []) = limit_if (bytes_eq word (codes "max")) (number_up_to most_elements number) (number_fit most_elements number)
+limit_fit (word ∷ number ∷ []) = limit_if (bytes_eq word (codes "max")) (number_up_to most_maximum number) (number_fit most_maximum number)
 limit_fit (word ∷ number ∷ other ∷ others) = tt
 
 -- ---- lines
@@ -192,6 +193,11 @@ container_fit [] = tt
 container_fit (path ∷ []) = container_at (path_of path) (path_fit path)
 container_fit (path ∷ other ∷ others) = tt
 
+-- what follows a path is of what was made of it
+of_made : {A B C : Type 0} (next : B → Option C) (made : A → B) (o : Option A) → option_and_then next (option_map made o) ≡ option_and_then (λ a. next (made a)) o
+of_made next made None = refl
+of_made next made (Some a) = refl
+
 list_at : (path keys : Option Names) (limit : Option (Option ℕ)) → IfSome path (AreFit is_name most_names) → IfSome keys (AreDistinct is_name most_keys) → IsFitLimit limit → IsFitLine (option_and_then (λ names. option_and_then (λ keys. option_map (λ maximum. Node names (declared.List keys maximum)) limit) keys) path)
 list_at None keys limit path_is keys_are limit_is = tt
 list_at (Some names) None limit path_is keys_are limit_is = tt
@@ -201,7 +207,7 @@ list_at (Some names) (Some keys) (Some maximum) path_is keys_are limit_is = (pat
 list_fit : (fields : Names) → IsFitLine (list_line fields)
 list_fit [] = tt
 list_fit (path ∷ []) = tt
-list_fit (path ∷ keys ∷ marks) = list_at (path_of path) (keys_of keys) (limit_of marks) (path_fit path) (keys_fit keys) (limit_fit marks)
+list_fit (path ∷ keys ∷ marks) = subst IsFitLine (sym (of_made _ _ (path_of path))) (list_at (path_of path) (keys_of keys) (limit_of marks) (path_fit path) (keys_fit keys) (limit_fit marks))
 
 abbrev IsFitLeaf : Option Declared → Type 0
 IsFitLeaf leaf = IfSome leaf IsFitDeclared
@@ -231,7 +237,7 @@ leaf_at (Some names) (Some shape) marks path_is shape_is = leaf_declared names (
 leaf_fit : (fields : Names) → IsFitLine (leaf_line fields)
 leaf_fit [] = tt
 leaf_fit (path ∷ []) = tt
-leaf_fit (path ∷ shape ∷ marks) = leaf_at (path_of path) (shape_of shape) marks (path_fit path) (shape_fit shape)
+leaf_fit (path ∷ shape ∷ marks) = subst IsFitLine (sym (of_made _ _ (path_of path))) (leaf_at (path_of path) (shape_of shape) marks (path_fit path) (shape_fit shape))
 
 leaf_list_at : (path : Option Names) (shape : Option Shape) (limit : Option (Option ℕ)) → IfSome path (AreFit is_name most_names) → IfSome shape IsFit → IsFitLimit limit → IsFitLine (option_and_then (λ names. option_and_then (λ shape. option_map (λ maximum. Node names (declared.LeafList shape maximum)) limit) shape) path)
 leaf_list_at None shape limit path_is shape_is limit_is = tt
@@ -242,7 +248,7 @@ leaf_list_at (Some names) (Some shape) (Some maximum) path_is shape_is limit_is 
 leaf_list_fit : (fields : Names) → IsFitLine (leaf_list_line fields)
 leaf_list_fit [] = tt
 leaf_list_fit (path ∷ []) = tt
-leaf_list_fit (path ∷ shape ∷ marks) = leaf_list_at (path_of path) (shape_of shape) (limit_of marks) (path_fit path) (shape_fit shape) (limit_fit marks)
+leaf_list_fit (path ∷ shape ∷ marks) = subst IsFitLine (sym (of_made _ _ (path_of path))) (leaf_list_at (path_of path) (shape_of shape) (limit_of marks) (path_fit path) (shape_fit shape) (limit_fit marks))
 
 fields_fit : (fields : Names) → IsFitLine (line_of_fields fields)
 fields_fit [] = tt

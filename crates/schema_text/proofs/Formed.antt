@@ -20,7 +20,8 @@ use Rattle.schema_text.specs.declared.line.Line.{Line}
 use Rattle.schema_text.specs.declared.line.Line.TheVariants.{Skipped, Module, Node}
 use Rattle.schema_text.specs.Grammar.{line_of}
 use Rattle.schema_text.specs.laws.Schemas.{ReadSchemasAreWellFormed}
-use Rattle.schema_text.specs.Schemas.{most_nodes, Read, nothing_read, node_in, in_module, with_line, read_parts, node_fault, or_fault, first_fault, unless_fault}
+use Rattle.base_kinds.specs.Limits.{most_schema_nodes}
+use Rattle.schema_text.specs.Schemas.{Read, nothing_read, node_in, in_module, with_line, read_parts, node_fault, or_fault, first_fault, unless_fault}
 use Rattle.schema_text.proofs.Folded.{Keeps, kept_if, kept_parts}
 use Rattle.schema_text.proofs.Declarations.{AreFit, IsFitDeclared, IsFitLine, line_fit}
 use Rattle.schema_text.proofs.Placed.{all_placed}
@@ -142,7 +143,7 @@ fit_line : (number : ℕ) (read : Read) (line : Option Line) → IsFitLine line 
 fit_line number read None told before = tt
 fit_line number read (Some Skipped) told before = before
 fit_line number read (Some (Module name)) told before = record { nodes = before.nodes; module_name = told; lines = before.lines }
-fit_line number read (Some (Node names node)) told before = kept_if HasFit (leb most_nodes (length read.nodes)) TooLarge (in_module number read names node read.module_name) (fit_module number read names node read.module_name refl before told.0 told.1)
+fit_line number read (Some (Node names node)) told before = kept_if HasFit (leb most_schema_nodes (length read.nodes)) TooLarge (in_module number read names node read.module_name) (fit_module number read names node read.module_name refl before told.0 told.1)
 
 none_fit : HasFit nothing_read
 none_fit = record { nodes = tt; module_name = tt; lines = refl }

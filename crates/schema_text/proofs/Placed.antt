@@ -12,7 +12,8 @@ use Rattle.schema_text.specs.declared.line.Declared.TheVariants as declared
 use Rattle.schema_text.specs.declared.line.Line.{Line}
 use Rattle.schema_text.specs.declared.line.Line.TheVariants.{Skipped, Module, Node}
 use Rattle.schema_text.specs.Grammar.{line_of}
-use Rattle.schema_text.specs.Schemas.{most_nodes, Read, nothing_read, node_in, in_module, with_line, read_parts, first_fault, unless_fault, schema_of}
+use Rattle.base_kinds.specs.Limits.{most_schema_nodes}
+use Rattle.schema_text.specs.Schemas.{Read, nothing_read, node_in, in_module, with_line, read_parts, first_fault, unless_fault, schema_of}
 use Rattle.schema_text.proofs.Folded.{Keeps, kept_if, kept_parts}
 
 abbrev HasPlaces : Read → Type 0
@@ -44,7 +45,7 @@ kept_line : (number : ℕ) (read : Read) (line : Option Line) → AllPlaced read
 kept_line number read None placed = tt
 kept_line number read (Some Skipped) placed = placed
 kept_line number read (Some (Module name)) placed = placed
-kept_line number read (Some (Node names node)) placed = kept_if HasPlaces (leb most_nodes (length read.nodes)) TooLarge (in_module number read names node read.module_name) (kept_module number read names node read.module_name placed)
+kept_line number read (Some (Node names node)) placed = kept_if HasPlaces (leb most_schema_nodes (length read.nodes)) TooLarge (in_module number read names node read.module_name) (kept_module number read names node read.module_name placed)
 
 kept_settled : (nodes : List SchemaNode) (fault : Option SchemaFault) → AllPlaced nodes → KeepsNodes (unless_fault nodes fault)
 kept_settled nodes None placed = placed

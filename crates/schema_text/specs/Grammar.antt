@@ -10,7 +10,7 @@ use Rattle.schema_text.specs.declared.line.Line.{Line}
 use Rattle.schema_text.specs.declared.line.Line.TheVariants.{Skipped, Module, Node}
 use Rattle.plain_texts.specs.Names.{is_name}
 use Rattle.plain_texts.specs.Splits.{parts_of}
-use Rattle.schema_core.specs.WellFormed.{most_elements}
+use Rattle.base_kinds.specs.Limits.{most_maximum}
 use Rattle.schema_text.specs.Words.{path_of, keys_of, number_up_to, shape_of}
 
 -- `module NAME`
@@ -23,21 +23,26 @@ abbrev pub container_line : List (List ℕ) → Option Line
 container_line (path ∷ []) = option_map (λ names. Node names declared.Container) (path_of path)
 container_line _ = None
 
+-- the path in the first field, the word in the second, and what follows them
+abbrev pub path_and_word : List (List ℕ) → Option (List (List ℕ) × (List ℕ × List (List ℕ)))
+path_and_word (path ∷ word ∷ marks) = option_map (λ names. (names, (word, marks))) (path_of path)
+path_and_word _ = None
+
 -- nothing, or `max N` with N from 1 to 65,536
 abbrev pub limit_of : List (List ℕ) → Option (Option ℕ)
 limit_of [] = Some None
 limit_of (word ∷ number ∷ []) =
-    if bytes_eq word (codes "max") then option_map (λ most. Some most) (number_up_to most_elements number)
+    if bytes_eq word (codes "max")
+    then option_map (λ most. Some most) (number_up_to most_maximum number)
     else None
 limit_of _ = None
 
 -- `list PATH KEY,KEY`, which `max N` may follow
 abbrev pub list_line : List (List ℕ) → Option Line
-list_line (path ∷ keys ∷ marks) =
-    option_and_then (λ names. option_and_then (λ keys.
-    option_map (λ maximum. Node names (declared.List keys maximum)) (limit_of marks))
-    (keys_of keys)) (path_of path)
-list_line _ = None
+list_line fields =
+    option_and_then (λ front. option_and_then (λ keys.
+    option_map (λ maximum. Node front.0 (declared.List keys maximum)) (limit_of front.1.1))
+    (keys_of front.1.0)) (path_and_word fields)
 
 -- nothing, or `ref PATH`
 abbrev pub reference_of : List (List ℕ) → Option (Option (List (List ℕ)))
@@ -56,19 +61,17 @@ leaf_of shape (word ∷ marks) =
 
 -- `leaf PATH SHAPE`, which `mandatory` and then `ref PATH` may follow
 abbrev pub leaf_line : List (List ℕ) → Option Line
-leaf_line (path ∷ shape ∷ marks) =
-    option_and_then (λ names. option_and_then (λ shape.
-    option_map (λ leaf. Node names leaf) (leaf_of shape marks))
-    (shape_of shape)) (path_of path)
-leaf_line _ = None
+leaf_line fields =
+    option_and_then (λ front. option_and_then (λ shape.
+    option_map (λ leaf. Node front.0 leaf) (leaf_of shape front.1.1))
+    (shape_of front.1.0)) (path_and_word fields)
 
 -- `leaf-list PATH SHAPE`, which `max N` may follow
 abbrev pub leaf_list_line : List (List ℕ) → Option Line
-leaf_list_line (path ∷ shape ∷ marks) =
-    option_and_then (λ names. option_and_then (λ shape.
-    option_map (λ maximum. Node names (declared.LeafList shape maximum)) (limit_of marks))
-    (shape_of shape)) (path_of path)
-leaf_list_line _ = None
+leaf_list_line fields =
+    option_and_then (λ front. option_and_then (λ shape.
+    option_map (λ maximum. Node front.0 (declared.LeafList shape maximum)) (limit_of front.1.1))
+    (shape_of front.1.0)) (path_and_word fields)
 
 -- the first field says what the others are
 abbrev pub line_of_fields : List (List ℕ) → Option Line

@@ -4,6 +4,7 @@ use Rattle.std.specs.Prelude.{◌≡◌, ℕ, ◌+◌, List, [], ◌∷◌, ◌+
 use Rattle.std.specs.List.{list_all}
 use Rattle.base_lists.specs.Results.{and_then}
 use Rattle.base_kinds.specs.Schema.{SchemaNode, node_of}
+use Rattle.base_kinds.specs.Limits.{most_schema_nodes, most_schema_line_octets, most_schema_octets}
 use Rattle.plain_texts.specs.Splits.{parts_of}
 use Rattle.schema_core.specs.Nodes.{has_parent, container_node, list_node, leaf_node, leaf_list_node}
 use Rattle.schema_core.specs.WellFormed.{has_key_leaf, has_target}
@@ -31,7 +32,8 @@ nothing_read = record { nodes = []; lines = []; module_name = None }
 abbrev pub node_in : List ℕ → List (List ℕ) → Declared → SchemaNode
 node_in name names declared.Container = container_node name names
 node_in name names (declared.List keys maximum) = list_node name names keys maximum
-node_in name names (declared.Leaf shape is_mandatory reference) = leaf_node name names shape is_mandatory reference
+node_in name names (declared.Leaf shape is_mandatory reference) =
+    leaf_node name names shape is_mandatory reference
 node_in name names (declared.LeafList shape maximum) = leaf_list_node name names shape maximum
 
 abbrev pub in_module : ℕ → Read → List (List ℕ) → Declared → Option (List ℕ) → Result Read Cause
@@ -45,20 +47,10 @@ in_module number read names node (Some name) =
       lines = read.lines ++ number ∷ [];
     })
 
--- the limits of a text, this project's own: so many nodes, octets of a line without its line feed, and octets
-abbrev pub most_nodes : ℕ
-most_nodes = 4096
-
-abbrev pub longest_line : ℕ
-longest_line = 1024
-
-abbrev pub longest_text : ℕ
-longest_text = 1048576
-
 -- at most so many nodes
 abbrev pub with_node : ℕ → Read → List (List ℕ) → Declared → Result Read Cause
 with_node number read names node =
-    if nat_le most_nodes (length read.nodes) then Err TooLarge
+    if nat_le most_schema_nodes (length read.nodes) then Err TooLarge
     else in_module number read names node read.module_name
 
 abbrev pub with_line : ℕ → Read → Option Line → Result Read Cause
@@ -70,7 +62,8 @@ with_line number read (Some (Node names node)) = with_node number read names nod
 -- a line is short enough, and with its line feed the text ends in its limit
 abbrev pub is_too_long : List ℕ → ℕ → ℕ → Bool
 is_too_long line place feeds =
-    nat_lt longest_line (length line) || nat_lt longest_text (place + length line + feeds)
+    nat_lt most_schema_line_octets (length line)
+    || nat_lt most_schema_octets (place + length line + feeds)
 
 -- a line that a line feed ends
 abbrev pub ended_line : ℕ → ℕ → Read → List ℕ → Result Read Cause

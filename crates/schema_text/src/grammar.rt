@@ -1,15 +1,15 @@
 // Lines, read field by field.
 ghost use Rattle.std.specs.Prelude.{◌≡◌, ◌∷◌, IfOk};
-ghost use Rattle.schema_text.specs.Grammar.{module_line, container_line, limit_of, list_line, reference_of, leaf_of, leaf_line, leaf_list_line, line_of_fields, line_of};
+ghost use Rattle.std.specs.Option.{option_map};
+ghost use Rattle.schema_text.specs.Grammar.{module_line, container_line, path_and_word, limit_of, list_line, reference_of, leaf_of, leaf_line, leaf_list_line, line_of_fields, line_of};
 
 use crate::line::{Declared, Line};
 use crate::numbers::number_up_to;
 use crate::octets::is_word;
 use crate::shapes::read_shape;
 use crate::texts::{read_keys, read_path};
-use base_kinds::{NoMemory, Shape, Texts};
+use base_kinds::{MOST_MAXIMUM, NoMemory, Shape, Texts};
 use plain_texts::{Parts, name_text};
-use schema_core::MOST_ELEMENTS;
 use std::alloc::Global;
 
 /// `NAME` of a module.
@@ -44,6 +44,26 @@ fn read_container(alloc: Global, mut fields: Parts) -> Result<Option<Line>, NoMe
     Ok(Some(Line::Node(names, Declared::Container)))
 }
 
+/// The path in the first field and the word in the second, which both are taken off.
+fn read_path_and_word<'a>(
+    alloc: Global,
+    fields: &mut Parts<'a>,
+) -> Result<Option<(Texts, &'a [u8])>, NoMemory>
+    ensures { IfOk result (λ front. path_and_word fields.old
+        ≡ option_map (λ f. (f.0, (f.1.now, fields.new))) front) }
+{
+    let Some(path) = fields.next() else {
+        return Ok(None);
+    };
+    let Some(word) = fields.next() else {
+        return Ok(None);
+    };
+    let Some(names) = read_path(alloc, path)? else {
+        return Ok(None);
+    };
+    Ok(Some((names, word)))
+}
+
 /// Nothing, or `max N`.
 fn read_limit(mut fields: Parts) -> Option<Option<u32>>
     ensures { result ≡ limit_of fields.entry }
@@ -55,7 +75,7 @@ fn read_limit(mut fields: Parts) -> Option<Option<u32>>
     if !fields.is_empty() || !is_word(word, b"max") {
         return None;
     }
-    let most = number_up_to(MOST_ELEMENTS, number)?;
+    let most = number_up_to(MOST_MAXIMUM, number)?;
     Some(Some(most))
 }
 
@@ -63,13 +83,7 @@ fn read_limit(mut fields: Parts) -> Option<Option<u32>>
 fn read_list(alloc: Global, mut fields: Parts) -> Result<Option<Line>, NoMemory>
     ensures { IfOk result (λ line. line ≡ list_line fields.entry) }
 {
-    let Some(path) = fields.next() else {
-        return Ok(None);
-    };
-    let Some(keys) = fields.next() else {
-        return Ok(None);
-    };
-    let Some(names) = read_path(alloc, path)? else {
+    let Some((names, keys)) = read_path_and_word(alloc, &mut fields)? else {
         return Ok(None);
     };
     let Some(keys) = read_keys(alloc, keys)? else {
@@ -134,13 +148,7 @@ fn read_marks(alloc: Global, shape: Shape, mut marks: Parts) -> Result<Option<De
 fn read_leaf(alloc: Global, mut fields: Parts) -> Result<Option<Line>, NoMemory>
     ensures { IfOk result (λ line. line ≡ leaf_line fields.entry) }
 {
-    let Some(path) = fields.next() else {
-        return Ok(None);
-    };
-    let Some(shape) = fields.next() else {
-        return Ok(None);
-    };
-    let Some(names) = read_path(alloc, path)? else {
+    let Some((names, shape)) = read_path_and_word(alloc, &mut fields)? else {
         return Ok(None);
     };
     let Some(shape) = read_shape(alloc, shape)? else {
@@ -156,13 +164,7 @@ fn read_leaf(alloc: Global, mut fields: Parts) -> Result<Option<Line>, NoMemory>
 fn read_leaf_list(alloc: Global, mut fields: Parts) -> Result<Option<Line>, NoMemory>
     ensures { IfOk result (λ line. line ≡ leaf_list_line fields.entry) }
 {
-    let Some(path) = fields.next() else {
-        return Ok(None);
-    };
-    let Some(shape) = fields.next() else {
-        return Ok(None);
-    };
-    let Some(names) = read_path(alloc, path)? else {
+    let Some((names, shape)) = read_path_and_word(alloc, &mut fields)? else {
         return Ok(None);
     };
     let Some(shape) = read_shape(alloc, shape)? else {

@@ -1,8 +1,8 @@
 //! The text of a schema, read exactly.
 //!
-//! `read_schema` gives the schema that a text is, or the first fault and its line: `schema_of` of `specs/Schemas`, over the
-//! lines of `specs/Grammar` and their words (`specs/Words`). The form is this project's own; it declares data nodes of RFC
-//! 7950. What is read is well-formed (`IsWellFormed` of schema_core).
+//! Start at `schema_of` (specs/Schemas.antt): the schema that a text is, or the first fault and its line. It is over the lines
+//! of specs/Grammar.antt and their words (specs/Words.antt), and `read_schema` (src/schemas.rt) gives it. The form is this
+//! project's own; it declares data nodes of RFC 7950. What is read is well-formed (`IsWellFormed` of schema_core).
 #![tactic(auto)]
 
 mod cause;

@@ -1,5 +1,6 @@
 // The lines of a schema text, taken one after the other.
 ghost use Rattle.std.specs.Prelude.{◌≡◌, ◌+◌, ◌≤◌, ◌^◌, length, IfOk, IfErr, OnOk};
+ghost use Rattle.base_kinds.specs.Limits.{most_schema_octets};
 ghost use Rattle.schema_text.specs.Grammar.{line_of};
 ghost use Rattle.plain_texts.specs.Splits.{parts_of};
 ghost use Rattle.schema_text.specs.Schemas.{nothing_read, node_in, with_node, with_line, is_too_long, ended_line, last_part, at_line, read_parts, IsFaultOf};
@@ -7,17 +8,13 @@ ghost use Rattle.schema_text.specs.Schemas.{nothing_read, node_in, with_node, wi
 use crate::cause::{Cause, SchemaError, SchemaFault};
 use crate::grammar::read_line;
 use crate::line::{Declared, Line};
-use base_kinds::{Copied, Text, Texts};
+use base_kinds::{
+    Copied, MOST_SCHEMA_LINE_OCTETS, MOST_SCHEMA_NODES, MOST_SCHEMA_OCTETS, Text, Texts,
+};
 use plain_texts::Parts;
-use schema_core::{MOST_NODES, Node, Schema};
+use schema_core::{Node, Schema};
 use std::alloc::Global;
 use std::marker::Model;
-
-/// So many octets has a line at most, without its line feed.
-const LONGEST_LINE: usize = 1024;
-
-/// So many octets has a text at most.
-const LONGEST_TEXT: usize = 1_048_576;
 
 /// What the lines so far make: the nodes, the line of each, and the module of those that follow.
 #[derive(Drop)]
@@ -32,7 +29,11 @@ impl Model for Reading {
 
     ghost Value = { Read };
 
-    ghost view = { λ r. record { nodes = r.schema; lines = r.lines.items; module_name = r.module_name } };
+    ghost view = { λ r. record {
+      nodes = r.schema;
+      lines = r.lines.items;
+      module_name = r.module_name;
+    } };
 }
 
 fn fault(line: u32, cause: Cause) -> SchemaError
@@ -58,11 +59,11 @@ fn node_in(alloc: Global, module_name: Text, names: Texts, node: Declared) -> No
 
 /// Whether a line behind so many octets is above the limits of a line or of the text, with so many line feeds at its end.
 fn is_too_long(line: &[u8], place: usize, feeds: usize) -> bool
-    requires before { place ≤ LONGEST_TEXT }
+    requires before { place ≤ most_schema_octets }
     requires most { feeds ≤ 1 }
     ensures { result ≡ is_too_long line.now place feeds }
 {
-    line.len() > LONGEST_LINE || place + line.len() + feeds > LONGEST_TEXT
+    line.len() > MOST_SCHEMA_LINE_OCTETS || place + line.len() + feeds > MOST_SCHEMA_OCTETS
 }
 
 impl Reading {
@@ -88,7 +89,7 @@ impl Reading {
         ensures refused { IfErr result
             (λ error. IsFaultOf error (at_line number (with_node number self.old names node))) }
     {
-        if self.schema.nodes() >= MOST_NODES {
+        if self.schema.nodes() >= MOST_SCHEMA_NODES {
             return Err(fault(number, Cause::TooLarge));
         }
         let Some(module_name) = &self.module_name else {
@@ -133,10 +134,10 @@ impl Reading {
         place: usize,
         line: &[u8],
     ) -> Result<(), SchemaError>
-        requires { place ≤ LONGEST_TEXT }
+        requires { place ≤ most_schema_octets }
         ensures ok { OnOk result (at_line number (ended_line number place self.old line.now)
             ≡ Ok self.new) }
-        ensures within { OnOk result (place + length line.now + 1 ≤ LONGEST_TEXT) }
+        ensures within { OnOk result (place + length line.now + 1 ≤ most_schema_octets) }
         ensures refused { IfErr result
             (λ error. IsFaultOf error (at_line number (ended_line number place self.old line.now))) }
     {
@@ -154,7 +155,7 @@ fn take_last(
     place: usize,
     part: &[u8],
 ) -> Result<Reading, SchemaError>
-    requires { place ≤ LONGEST_TEXT }
+    requires { place ≤ most_schema_octets }
     ensures ok { IfOk result (λ read. at_line number (last_part place reading part.now) ≡ Ok read) }
     ensures refused { IfErr result
         (λ error. IsFaultOf error (at_line number (last_part place reading part.now))) }

@@ -8,6 +8,7 @@ use Rattle.base_kinds.specs.declared.request.SubLine.{SubLine}
 use Rattle.base_kinds.specs.declared.request.SubMode.{SubMode}
 use Rattle.base_kinds.specs.declared.request.SubMode.TheVariants as sub_modes
 use Rattle.base_kinds.specs.declared.request.Span.{Span}
+use Rattle.base_kinds.specs.Limits.{most_script_line_octets}
 use Rattle.path_core.specs.PathText.{IsPathText, IsValueText}
 use Rattle.script_text.specs.declared.keywords.Keyword.{Keyword}
 use Rattle.script_text.specs.declared.keywords.Keyword.TheVariants as keywords
@@ -100,11 +101,7 @@ Says keywords.End = Last IsName (λ name. lines.End name)
 Says keywords.Stop = Then IsNumber (λ calls. Last IsFill (λ fill. lines.Stop calls fill))
 Says keywords.Fail = Last IsNumber (λ calls. lines.Fail calls)
 
--- so many octets has a line at most, without its line feed
-abbrev pub longest_line : ℕ
-longest_line = 1048576
-
 -- the octets are this line
 pub record IsLine (octets : List ℕ) (line : Line) : Type 0 where
-  pub short : length octets ≤ longest_line
+  pub short : length octets ≤ most_script_line_octets
   pub said : Then IsKeyword Says octets line

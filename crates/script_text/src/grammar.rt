@@ -13,7 +13,7 @@ use crate::line::{Line, LineFault};
 use crate::words::{
     Author, CallMode, DiskFill, Flag, Id, Name, Number, PathText, Seconds, SendMode, Word,
 };
-use base_kinds::{Act, Bytes, Path, Span, SubLine, SubMode, Text};
+use base_kinds::{Act, Bytes, MOST_SCRIPT_LINE_OCTETS, Path, Span, SubLine, SubMode, Text};
 use std::alloc::Global;
 
 /// `PATH`, what follows `delete`.
@@ -187,16 +187,13 @@ fn read_said(alloc: Global, keyword: Keyword, octets: &[u8]) -> Result<Line, Lin
     }
 }
 
-/// So many octets has a line at most, without its line feed.
-const LONGEST_LINE: usize = 1_048_576;
-
 /// The line that the octets are, without a line feed.
 pub fn read_line(alloc: Global, octets: &[u8]) -> Result<Line, LineFault>
     ensures ok { IfOk result (λ line. IsLine octets.now line) }
     ensures no_line { IsErrOf result LineFault.NoLine → (line : ScriptLine) →
         IsLine octets.now line → ⊥ }
 {
-    if octets.len() > LONGEST_LINE {
+    if octets.len() > MOST_SCRIPT_LINE_OCTETS {
         return Err(LineFault::NoLine);
     }
     let (keyword, rest) = first::<Keyword>(alloc, octets)?;

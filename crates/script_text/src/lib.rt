@@ -1,7 +1,8 @@
 //! The lines of a script, read exactly.
 //!
-//! `next_line` cuts the first line off a text (`specs/Lines`), `read_line` reads it: `IsLine` of `specs/Grammar` says which
-//! octets are which line, word by word (`specs/Words`), and `specs/Ranges` in which ranges what it says is.
+//! Start at `IsLine` (specs/Grammar.antt): which octets are which line, word by word (specs/Words.antt). `read_line`
+//! (src/grammar.rt) reads one, and `next_line` cuts the first off a text (specs/Lines.antt). In which ranges a line's numbers
+//! are is specs/Ranges.antt.
 #![tactic(auto)]
 
 mod first_word;

@@ -1,13 +1,12 @@
 // What a request asks for beside its operations.
 ghost use Rattle.std.specs.Prelude.{◌≡◌, IfOk};
-ghost use Rattle.base_kinds.specs.Legal.{is_fit_id};
 ghost use Rattle.set_txn.specs.Actions.{has_operations, is_mixed, has_fit_id, nanoseconds, duration, action_duration, ask_of};
 ghost use Rattle.set_txn.specs.Resolution.{checked_duration};
 
 use crate::numbers::natural;
 use base_kinds::{
-    Action, Ask, Copied, DEFAULT_DURATION, LONGEST_DURATION, MOST_ID_OCTETS, NoMemory, Ops,
-    Refusal, SECOND, SHORTEST_DURATION, SetAsk, Span, Text,
+    Action, Ask, Copied, DEFAULT_DURATION, LONGEST_DURATION, NoMemory, Ops, Refusal, SECOND,
+    SHORTEST_DURATION, SetAsk, Span, is_fit_id,
 };
 use std::alloc::Global;
 
@@ -70,14 +69,6 @@ fn has_fit_id(action: &Action) -> bool
         Action::Extend(id, _) => is_fit_id(id),
         Action::Plain | Action::Mixed => true,
     }
-}
-
-/// Whether it has 1 to 64 octets.
-fn is_fit_id(id: &Text) -> bool
-    ensures { result ≡ is_fit_id id.now }
-{
-    let length = id.octets().len();
-    1 <= length && length <= MOST_ID_OCTETS
 }
 
 /// The duration of the action in nanoseconds; 0 where it has none.

@@ -2,8 +2,6 @@
 ghost use Rattle.std.specs.Prelude.{◌≡◌, IfOk, OnOk};
 ghost use Rattle.std.specs.List.{list_all};
 ghost use Rattle.std.specs.Option.{option_copied};
-ghost use Rattle.std.specs.Ordering.{is_eq};
-ghost use Rattle.base_kinds.specs.Paths.{path_cmp, same_path};
 ghost use Rattle.base_kinds.specs.Tree.{set_row, set_rows};
 ghost use Rattle.base_kinds.specs.Valid.{unless_none};
 ghost use Rattle.base_kinds.specs.Values.{same_scalar as equal_values};
@@ -11,7 +9,7 @@ ghost use Rattle.base_kinds.specs.Rising.{value_at};
 ghost use Rattle.set_txn.specs.Operations.{key_leaves_agree};
 
 use base_kinds::{Copied, NoMemory, Path, Row, Rows, Seq, Value};
-use path_core::cmp_paths;
+use path_core::{cmp_paths, same_path};
 use scalar_order::same_scalar;
 use std::alloc::Global;
 use std::cmp::Ordering;
@@ -37,20 +35,11 @@ fn value_at<'a>(path: &Path, rows: &'a [Row]) -> Option<&'a Value>
     ensures { option_copied result ≡ value_at path.now rows.now }
 {
     for row in rows {
-        if same_path(&row.path, path) {
+        if same_path(row.path.items(), path.items()) {
             return Some(&row.value);
         }
     }
     None
-}
-
-fn same_path(a: &Path, b: &Path) -> bool
-    ensures { result ≡ same_path a.now b.now }
-{
-    match cmp_paths(a, b) {
-        Ordering::Equal => true,
-        Ordering::Less | Ordering::Greater => false,
-    }
 }
 
 /// The rows with the keys' values at the keys' paths.

@@ -1,10 +1,10 @@
 // Numbers with and without a sign, and the digits of equal decimals.
-ghost use Rattle.std.specs.Prelude.{◌≡◌, ◌*◌, ◌^◌, ◌≤◌, IfSome, IfNone, IsTrue};
+ghost use Rattle.std.specs.Prelude.{◌≡◌};
 ghost use Rattle.std.specs.Option.{option_and_then};
 ghost use Rattle.value_core.specs.Decimals.{with_sign};
 ghost use Rattle.set_txn.specs.Numbers.{natural, is_negative, magnitude, without_zeros, rescaled_digits};
 
-use value_core::with_sign;
+use value_core::{with_sign, with_zeros};
 
 /// The number, where it is not negative.
 pub(crate) fn natural(number: i64) -> Option<u64>
@@ -33,20 +33,6 @@ fn magnitude(number: i64) -> u64
     }
 }
 
-/// The number with so many zeros behind it.
-#[tactic(auto, using(crate::proofs::Powers::zeros_more, crate::proofs::Powers::too_large))]
-fn with_zeros(zeros: u8, number: u64) -> Option<u64>
-    ensures some { IfSome result (λ longer. longer ≡ number * 10 ^ zeros) }
-    ensures none { IfNone result (2 ^ 64 ≤ number * 10 ^ zeros) }
-{
-    if zeros == 0 {
-        return Some(number);
-    }
-    let longer = number.checked_mul(10)?;
-    let all = with_zeros(zeros - 1, longer)?;
-    Some(all)
-}
-
 /// The number without so many zeros at its end, where it has them.
 fn without_zeros(zeros: u8, number: u64) -> Option<u64>
     ensures { result ≡ without_zeros zeros number }
@@ -66,7 +52,7 @@ fn rescaled(negative: bool, number: u64, from: u8, to: u8) -> Option<i64>
     ensures { result ≡ option_and_then (with_sign negative) (rescaled_digits number from to) }
 {
     if from <= to {
-        let longer = with_zeros(to - from, number)?;
+        let longer = with_zeros(number, usize::from(to - from))?;
         with_sign(negative, longer)
     } else {
         let shorter = without_zeros(from - to, number)?;

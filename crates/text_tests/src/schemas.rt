@@ -1,6 +1,6 @@
 // Schemas: nodes by their names.
-use base_kinds::{Copied, Elem, Keys, Path, Same, Shape, Text, Texts};
-use schema_core::{MOST_NODES, Node, NodeId, Schema};
+use base_kinds::{Copied, Elem, Keys, MOST_SCHEMA_NODES, Path, Same, Shape, Text, Texts};
+use schema_core::{Node, NodeId, Schema};
 use std::alloc::Global;
 use std::process::Abort;
 use std::test::Fail;
@@ -82,7 +82,7 @@ fn node_of(rt: &impl Abort, alloc: Global, module: &str, line: &str, word: &str)
 }
 
 fn put(rt: &impl Abort, schema: &mut Schema, node: Node) {
-    let is_room = schema.nodes() < MOST_NODES;
+    let is_room = schema.nodes() < MOST_SCHEMA_NODES;
     let has_parent = schema.has_parent(node.names().items());
     let found = schema.find_names(node.names().items());
     assert!(rt; is_room && has_parent && found.is_none(), "a place");

@@ -4,14 +4,13 @@ ghost use Rattle.std.specs.Prelude.{◌≡◌, ◌<◌, ◌≤◌, ◌+◌, ◌^
 ghost use Rattle.std.specs.List.{list_all};
 ghost use Rattle.std.specs.Option.{option_copied};
 ghost use Rattle.base_kinds.specs.Valid.{entries_of, few_beside, few_values, is_in_maximum, node_in_maximum, max_elements_hold};
-ghost use Rattle.base_kinds.specs.Paths.{same_path};
 ghost use Rattle.base_kinds.specs.Ancestors.{parent_of};
 ghost use Rattle.base_kinds.specs.Rising.{IsRising};
 ghost use Rattle.tree_check.specs.inner.ListEntries.{entry_of, count_after};
 
 use base_kinds::{Elem, Row, Sort, Text};
+use path_core::same_path;
 use schema_core::{Node, NodeId, Schema, has_names};
-use std::cmp::Ordering;
 
 #[tactic(auto, using(crate::proofs::Nodes::fails_there, crate::proofs::Nodes::holds_so_far))]
 pub(crate) fn max_elements_hold(schema: &Schema, rows: &[Row]) -> bool
@@ -103,15 +102,6 @@ fn count_after(last: &[Elem], count: u64, entry: &[Elem]) -> u64
         count + 1
     } else {
         1
-    }
-}
-
-fn same_path(a: &[Elem], b: &[Elem]) -> bool
-    ensures { result ≡ same_path a.now b.now }
-{
-    match a.cmp(&b) {
-        Ordering::Equal => true,
-        Ordering::Less | Ordering::Greater => false,
     }
 }
 

@@ -1,7 +1,9 @@
 ghost use Rattle.base_kinds.specs.Rising.{IsRising};
 
-use base_kinds::{Copied, Elem, Path, Row, Rows, Seq, Shape, Text, Texts, Value};
-use schema_core::{MOST_NODES, Node, Schema};
+use base_kinds::{
+    Copied, Elem, MOST_SCHEMA_NODES, Path, Row, Rows, Seq, Shape, Text, Texts, Value,
+};
+use schema_core::{Node, Schema};
 use std::alloc::Global;
 use std::cmp::Ordering;
 use std::process::Abort;
@@ -119,7 +121,7 @@ fn schema_of(rt: &impl Abort, alloc: Global, lines: &[(&str, &str, &str)]) -> Sc
     let mut schema = Schema::empty(alloc);
     for (line, word, other) in lines {
         let node = node_of(rt, alloc, line, word, other);
-        let is_room = schema.nodes() < MOST_NODES;
+        let is_room = schema.nodes() < MOST_SCHEMA_NODES;
         let has_parent = schema.has_parent(node.names().items());
         let found = schema.find_names(node.names().items());
         assert!(rt; is_room && has_parent && found.is_none(), "{line}");

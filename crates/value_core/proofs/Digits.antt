@@ -1,7 +1,7 @@
 -- What digits write, one after another.
-use Rattle.std.proofs.Common.{◌≡◌, ℕ, ◌+◌, ◌*◌, ◌-◌, ◌^◌, ◌<◌, ◌≤◌, suc, List, [], ◌∷◌, ◌++◌, length, get_or, drop, replicate, refl, sym, ap, subst, ◌∙◌, arith}
+use Rattle.std.proofs.Common.{◌≡◌, ℕ, ◌+◌, ◌*◌, ◌^◌, ◌<◌, ◌≤◌, List, [], ◌∷◌, ◌++◌, length, get_or, drop, refl, sym, ap, subst, ◌∙◌, arith}
 use Rattle.std.specs.Char.{digit_value}
-use Rattle.std.specs.Str.Parse.{AllDigits, digits_value, digits_value_after}
+use Rattle.std.specs.Str.Parse.{AllDigits, digits_value_after}
 use Rattle.std.proofs.lemmas.List.{drop_more, drop_all}
 
 pub value_append : (n : ℕ) (xs ys : List ℕ) → digits_value_after 10 n (xs ++ ys) ≡ digits_value_after 10 (digits_value_after 10 n xs) ys
@@ -55,23 +55,3 @@ reads_large start longer octet octets i within is reads large all =
   where
     reach : (a b c : ℕ) → a ≤ b → b ≤ c → a ≤ c
     reach a b c h k = omega arith
-
--- zeros behind a number, of which so many are added
-pub zeros_more : (start longer zeros added : ℕ) → added < zeros → digits_value_after 10 longer (replicate (zeros - added) 48) ≡ digits_value_after 10 start (replicate zeros 48) → digits_value_after 10 (longer * 10 + digit_value 48) (replicate (zeros - (added + 1)) 48) ≡ digits_value_after 10 start (replicate zeros 48)
-zeros_more start longer zeros added below h =
-    let e : zeros - added ≡ suc (zeros - (added + 1)) = omega arith in
-    sym (ap (λ k. digits_value_after 10 longer (replicate k 48)) e) ∙ h
-
-pub zeros_large : (start longer zeros added : ℕ) → added < zeros → digits_value_after 10 longer (replicate (zeros - added) 48) ≡ digits_value_after 10 start (replicate zeros 48) → 2 ^ 64 ≤ longer * 10 + digit_value 48 → 2 ^ 64 ≤ digits_value_after 10 start (replicate zeros 48)
-zeros_large start longer zeros added below h large =
-    let value = zeros_more start longer zeros added below h in
-    let more = value_ge (longer * 10 + digit_value 48) (replicate (zeros - (added + 1)) 48) in
-    subst (λ r. 2 ^ 64 ≤ r) value (reach (2 ^ 64) (longer * 10 + digit_value 48) _ large more)
-  where
-    reach : (a b c : ℕ) → a ≤ b → b ≤ c → a ≤ c
-    reach a b c h k = omega arith
-
-pub zeros_all : (start longer zeros added : ℕ) → zeros ≤ added → digits_value_after 10 longer (replicate (zeros - added) 48) ≡ digits_value_after 10 start (replicate zeros 48) → longer ≡ digits_value_after 10 start (replicate zeros 48)
-zeros_all start longer zeros added past h =
-    let e : zeros - added ≡ 0 = omega arith in
-    sym (ap (λ k. digits_value_after 10 longer (replicate k 48)) e) ∙ h

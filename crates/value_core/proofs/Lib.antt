@@ -3,6 +3,7 @@ pub mod Cuts
 pub mod DecimalTexts
 pub mod DecimalsRead
 pub mod Digits
+pub mod Powers
 pub mod Glyphs
 pub mod Integers
 pub mod IntegersRead

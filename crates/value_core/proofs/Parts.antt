@@ -1,5 +1,5 @@
 -- What the parts of octets say of the decimal that they spell.
-use Rattle.std.proofs.Common.{◌≡◌, ℕ, ◌+◌, ◌-◌, ◌<◌, ◌≤◌, ◌^◌, List, [], ◌∷◌, ◌++◌, Bool, true, false, not, eqb, length, replicate, sym, ap, subst, refl, ◌∙◌, ℤ, IsTrue, arith}
+use Rattle.std.proofs.Common.{◌≡◌, ℕ, ◌-◌, ◌<◌, ◌≤◌, ◌^◌, List, [], ◌∷◌, ◌++◌, Bool, true, false, not, eqb, length, replicate, sym, ap, subst, refl, ◌∙◌, ℤ, IsTrue, arith}
 use Rattle.std.specs.Char.{digit_value}
 use Rattle.std.specs.Fmt.{sign_text}
 use Rattle.std.specs.Str.Parse.{AllDigits, digits_value, digits_value_after}

@@ -1,5 +1,5 @@
 -- Numbers of 64 bits.
-use Rattle.std.proofs.Common.{◌≡◌, ℕ, ◌+◌, ◌^◌, ◌<◌, ◌≤◌, zero, suc, Bool, true, false, nat_lt, ltb, leb, ℤ, pos, negsuc, refl, sym, ap, ◌∙◌, arith, IsTrue, FitsSigned, w64}
+use Rattle.std.proofs.Common.{◌≡◌, ℕ, ◌^◌, ◌<◌, ◌≤◌, zero, suc, Bool, true, false, nat_lt, leb, ℤ, pos, negsuc, sym, ◌∙◌, arith, IsTrue}
 use Rattle.std.specs.Int.Signed.{mag}
 use Rattle.std.proofs.Math.Nat.{pow-le-pow_right}
 use Rattle.std.proofs.lemmas.Bool.{ltb-true, lt-ltb, le-leb}

@@ -1,15 +1,14 @@
 // Decimal numbers, read in all their forms.
-ghost use Rattle.std.specs.Prelude.{◌≡◌, ℕ, ℤ, ◌++◌, ◌*◌, ◌^◌, ◌≤◌, List, [], ◌∷◌, ◌==◌, Bool, false, not, length, replicate, IsTrue, IfSome, IfNone, IfOk, IsErrOf, MatchOption, codes};
+ghost use Rattle.std.specs.Prelude.{◌≡◌, ℕ, ℤ, ◌++◌, List, [], ◌∷◌, ◌==◌, Bool, false, not, length, IsTrue, IfSome, IfNone, IfOk, IsErrOf, MatchOption, codes};
 ghost use Rattle.base_kinds.specs.Texts.{dec_text};
 ghost use Rattle.base_kinds.specs.Values.{fits_signed};
 ghost use Rattle.std.specs.List.{prefix_len};
 ghost use Rattle.std.specs.Fmt.{sign_text};
-ghost use Rattle.std.specs.Str.Parse.{digits_value_after};
 ghost use Rattle.value_core.specs.Decimals.{IsDecimal, decimal_of, point_text};
 ghost use Rattle.value_core.specs.inner.Cuts.{IsCut, IsCutAtPoint, IsAtPoint};
 
 use crate::fault::ValueFault;
-use crate::numbers::{after_minus, read_integer, with_digit, with_digits, with_sign};
+use crate::numbers::{after_minus, read_integer, with_digits, with_sign, with_zeros};
 use crate::written::put_decimal;
 use base_kinds::Seq;
 use std::alloc::Global;
@@ -78,19 +77,6 @@ fn behind_point(rest: &[u8]) -> Option<&[u8]>
         [_] => None,
         [_, behind @ ..] => Some(behind),
     }
-}
-
-/// The number with so many zeros behind it.
-fn with_zeros(number: u64, zeros: usize) -> Option<u64>
-    ensures some { IfSome result (λ longer. longer ≡ digits_value_after 10 number
-        (replicate zeros 48)) }
-    ensures none { IfNone result (2 ^ 64 ≤ digits_value_after 10 number (replicate zeros 48)) }
-{
-    let mut longer = number;
-    for _ in 0..zeros {
-        longer = with_digit(longer, b'0')?;
-    }
-    Some(longer)
 }
 
 /// The digits of the decimal that the octets spell: an optional `-`, digits, and optionally a point with one to so many

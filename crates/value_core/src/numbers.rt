@@ -37,6 +37,18 @@ pub(crate) fn with_digits(number: u64, octets: &[u8]) -> Option<u64>
     Some(longer)
 }
 
+/// The number with so many zeros behind it, where 64 bits hold it without a sign.
+pub fn with_zeros(number: u64, zeros: usize) -> Option<u64>
+    ensures some { IfSome result (λ longer. longer ≡ number * 10 ^ zeros) }
+    ensures none { IfNone result (2 ^ 64 ≤ number * 10 ^ zeros) }
+{
+    let mut longer = number;
+    for _ in 0..zeros {
+        longer = longer.checked_mul(10)?;
+    }
+    Some(longer)
+}
+
 /// The number, or its negative, where 64 bits hold it.
 pub fn with_sign(negative: bool, number: u64) -> Option<i64>
     ensures value { result ≡ with_sign negative number }

@@ -44,7 +44,7 @@ pub(crate) fn put_decimal(
     put_scaled(alloc, digits.unsigned_abs(), places, out)
 }
 
-/// Adds the number divided by 10 to the so-manieth.
+/// Adds the number with this many of its digits behind the point.
 fn put_scaled(alloc: Global, number: u64, places: u8, out: &mut Bytes) -> Result<(), NoMemory>
     ensures { OnOk result (out.new ≡ out.old ++ scaled_text number places) }
 {

@@ -41,7 +41,12 @@ hostname_set = asks.Apply (text_update hostname (codes "r1") ∷ [])
 
 abbrev pub hostname_entry : Entry
 hostname_entry =
-    record { number = 1; author = 1; stamp = 1000; kind = kinds.Apply (text_update hostname (codes "r1") ∷ []) }
+    record {
+      number = 1;
+      author = 1;
+      stamp = 1000;
+      kind = kinds.Apply (text_update hostname (codes "r1") ∷ []);
+    }
 
 abbrev pub hostname_tree : List Row
 hostname_tree = text_row hostname (codes "r1") ∷ []
@@ -55,7 +60,16 @@ update path rows = record { act = Update; path = path; rows = rows }
 -- a node without keys or marks
 abbrev pub bare_node : List (List ℕ) → Sort → Option Shape → SchemaNode
 bare_node names sort shape =
-    record { names = names; sort = sort; shape = shape; keys = []; module_name = codes "m"; is_mandatory = false; reference = None; maximum = None }
+    record {
+      names = names;
+      sort = sort;
+      shape = shape;
+      keys = [];
+      module_name = codes "m";
+      is_mandatory = false;
+      reference = None;
+      maximum = None;
+    }
 
 abbrev pub system_names : List (List ℕ)
 system_names = codes "system" ∷ codes "config" ∷ []
@@ -65,7 +79,8 @@ abbrev pub system_schema : List SchemaNode
 system_schema =
     bare_node (codes "system" ∷ []) sorts.Container None
     ∷ bare_node (codes "system" ∷ codes "config" ∷ []) sorts.Container None
-    ∷ bare_node (codes "system" ∷ codes "config" ∷ codes "hostname" ∷ []) sorts.Leaf (Some shapes.Text)
+    ∷ bare_node (codes "system" ∷ codes "config" ∷ codes "hostname" ∷ []) sorts.Leaf
+    (Some shapes.Text)
     ∷ bare_node (codes "system" ∷ codes "config" ∷ codes "motd" ∷ []) sorts.Leaf (Some shapes.Text)
     ∷ []
 

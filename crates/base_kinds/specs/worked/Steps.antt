@@ -114,40 +114,50 @@ abbrev pub refused : ℕ → Refusal → Event
 refused now refusal = record { reading = now; author = 1; request = Set (Err refusal) }
 
 -- a read has the stamp of the last entry, and one of nothing is refused
-reads_see_the_last_entry : answers system_rules (read 1 (hostname ∷ []) ∷ apply 1000 (text_update hostname (codes "r1") ∷ []) ∷ read 5000 (hostname ∷ []) ∷ read 5000 (hostname ∷ motd ∷ []) ∷ []) ≡
+reads_see_the_last_entry : answers system_rules
+    (read 1 (hostname ∷ []) ∷ apply 1000 (text_update hostname (codes "r1") ∷ [])
+    ∷ read 5000 (hostname ∷ []) ∷ read 5000 (hostname ∷ motd ∷ []) ∷ []) ≡
     Err NotFound
     ∷ Ok 1000 ∷ Ok 1000 ∷ Err NotFound ∷ []
 reads_see_the_last_entry = refl
 
 -- a trial that is due expires at a read, and neither at a request that is refused by itself nor at a read of a path that is
 -- too long
-read_expires : answers system_rules (hostname_trial 1000 ∷ refused 60000001000 BadValue ∷ read 60000001000 (replicate 33 (plain (codes "a")) ∷ []) ∷ read 60000001000 ([] ∷ []) ∷ []) ≡
+read_expires : answers system_rules
+    (hostname_trial 1000 ∷ refused 60000001000 BadValue
+    ∷ read 60000001000 (replicate 33 (plain (codes "a")) ∷ []) ∷ read 60000001000 ([] ∷ []) ∷ []) ≡
     Ok 1000
     ∷ Err BadValue ∷ Err BadPath ∷ Err NotFound ∷ []
 read_expires = refl
 
-no_entry_before : length (history_after_all system_rules [] (hostname_trial 1000 ∷ refused 60000001000 BadValue ∷ read 60000001000 (replicate 33 (plain (codes "a")) ∷ []) ∷ [])) ≡
+no_entry_before : length (history_after_all system_rules []
+    (hostname_trial 1000 ∷ refused 60000001000 BadValue
+    ∷ read 60000001000 (replicate 33 (plain (codes "a")) ∷ []) ∷ [])) ≡
     1
 no_entry_before = refl
 
-one_entry_behind : length (history_after_all system_rules [] (hostname_trial 1000 ∷ read 60000001000 ([] ∷ []) ∷ [])) ≡
+one_entry_behind : length
+    (history_after_all system_rules [] (hostname_trial 1000 ∷ read 60000001000 ([] ∷ []) ∷ [])) ≡
     2
 one_entry_behind = refl
 
 -- ---- trials
 
 -- a trial of 60 seconds that is confirmed in its last nanosecond, and one that has expired when it is to be confirmed
-confirmed_in_time : answers system_rules (hostname_trial 1000 ∷ confirm 60000000999 (codes "t") ∷ []) ≡
+confirmed_in_time : answers system_rules
+    (hostname_trial 1000 ∷ confirm 60000000999 (codes "t") ∷ []) ≡
     Ok 1000
     ∷ Ok 60000000999 ∷ []
 confirmed_in_time = refl
 
-confirmed_too_late : answers system_rules (hostname_trial 1000 ∷ confirm 60000001000 (codes "t") ∷ []) ≡
+confirmed_too_late : answers system_rules
+    (hostname_trial 1000 ∷ confirm 60000001000 (codes "t") ∷ []) ≡
     Ok 1000
     ∷ Err NoTrial ∷ []
 confirmed_too_late = refl
 
-expiry_is_an_entry : history_after_all system_rules [] (hostname_trial 1000 ∷ confirm 60000001000 (codes "t") ∷ []) ≡
+expiry_is_an_entry : history_after_all system_rules []
+    (hostname_trial 1000 ∷ confirm 60000001000 (codes "t") ∷ []) ≡
     record {
       number =
           1;
@@ -159,12 +169,15 @@ expiry_is_an_entry : history_after_all system_rules [] (hostname_trial 1000 ∷ 
     ∷ record { number = 2; author = 0; stamp = 60000001000; kind = kinds.Expire } ∷ []
 expiry_is_an_entry = refl
 
-expired : (world_of (history_after_all system_rules [] (hostname_trial 1000 ∷ confirm 60000001000 (codes "t") ∷ []))).tree ≡
+expired : (world_of (history_after_all system_rules []
+    (hostname_trial 1000 ∷ confirm 60000001000 (codes "t") ∷ []))).tree ≡
     []
 expired = refl
 
 -- one trial at a time, and another id
-trial_is_open : answers system_rules (hostname_trial 1 ∷ apply 1 [] ∷ hostname_trial 1 ∷ confirm 1 (codes "u") ∷ cancel 1 (codes "u") ∷ []) ≡
+trial_is_open : answers system_rules
+    (hostname_trial 1 ∷ apply 1 [] ∷ hostname_trial 1 ∷ confirm 1 (codes "u")
+    ∷ cancel 1 (codes "u") ∷ []) ≡
     Ok 1
     ∷ Err TrialOpen ∷ Err TrialOpen ∷ Err WrongId ∷ Err WrongId ∷ []
 trial_is_open = refl
@@ -173,7 +186,8 @@ trial_is_open = refl
 abbrev cancelled : List Event
 cancelled =
     apply 1000 (text_update hostname (codes "a") ∷ text_update motd (codes "m") ∷ [])
-    ∷ asked 1000 (asks.Trial (codes "t") (text_update hostname (codes "b") ∷ delete motd ∷ []) minute)
+    ∷ asked 1000 (asks.Trial (codes "t")
+    (text_update hostname (codes "b") ∷ delete motd ∷ []) minute)
     ∷ []
 
 trial_tree : (world_of (history_after_all system_rules [] cancelled)).tree ≡
@@ -181,62 +195,77 @@ trial_tree : (world_of (history_after_all system_rules [] cancelled)).tree ≡
     ∷ []
 trial_tree = refl
 
-tree_after_cancel : (world_of (history_after_all system_rules [] (cancelled ++ cancel 1000 (codes "t") ∷ []))).tree ≡
+tree_after_cancel : (world_of
+    (history_after_all system_rules [] (cancelled ++ cancel 1000 (codes "t") ∷ []))).tree ≡
     text_row hostname (codes "a")
     ∷ text_row motd (codes "m") ∷ []
 tree_after_cancel = refl
 
-cancelled_twice : answers system_rules (cancelled ++ cancel 1000 (codes "t") ∷ cancel 1000 (codes "t") ∷ []) ≡
+cancelled_twice : answers system_rules
+    (cancelled ++ cancel 1000 (codes "t") ∷ cancel 1000 (codes "t") ∷ []) ≡
     Ok 1000
     ∷ Ok 1001 ∷ Ok 1002 ∷ Err NoTrial ∷ []
 cancelled_twice = refl
 
 -- the clock goes back: a stamp is then the last one and 1, a trial ends so much later than its own stamp, and a new
 -- duration counts from the stamp at which it was asked
-clock_goes_back : answers system_rules (asked 5000 (asks.Trial (codes "t") [] 1000000000) ∷ asked 10 (asks.Extend (codes "t") 2000000000) ∷ confirm 2000005000 (codes "t") ∷ []) ≡
+clock_goes_back : answers system_rules
+    (asked 5000 (asks.Trial (codes "t") [] 1000000000)
+    ∷ asked 10 (asks.Extend (codes "t") 2000000000) ∷ confirm 2000005000 (codes "t") ∷ []) ≡
     Ok 5000
     ∷ Ok 5001 ∷ Ok 2000005000 ∷ []
 clock_goes_back = refl
 
-extended_trial_ends : answers system_rules (asked 5000 (asks.Trial (codes "t") [] 1000000000) ∷ asked 10 (asks.Extend (codes "t") 2000000000) ∷ confirm 2000005001 (codes "t") ∷ []) ≡
+extended_trial_ends : answers system_rules
+    (asked 5000 (asks.Trial (codes "t") [] 1000000000)
+    ∷ asked 10 (asks.Extend (codes "t") 2000000000) ∷ confirm 2000005001 (codes "t") ∷ []) ≡
     Ok 5000
     ∷ Ok 5001 ∷ Err NoTrial ∷ []
 extended_trial_ends = refl
 
-unextended_trial_ends : answers system_rules (asked 5000 (asks.Trial (codes "t") [] 1000000000) ∷ confirm 1000005000 (codes "t") ∷ []) ≡
+unextended_trial_ends : answers system_rules
+    (asked 5000 (asks.Trial (codes "t") [] 1000000000) ∷ confirm 1000005000 (codes "t") ∷ []) ≡
     Ok 5000
     ∷ Err NoTrial ∷ []
 unextended_trial_ends = refl
 
 -- a delete of nothing, by a wildcard, is an entry
-wildcard_delete : answers system_rules (apply 1000 (delete (plain (codes "*") ∷ plain (codes "config") ∷ []) ∷ []) ∷ []) ≡
+wildcard_delete : answers system_rules
+    (apply 1000 (delete (plain (codes "*") ∷ plain (codes "config") ∷ []) ∷ []) ∷ []) ≡
     Ok 1000
     ∷ []
 wildcard_delete = refl
 
 -- what is refused as an invalid tree: no key leaf, a value out of its shape, no mandatory leaf, a reference without a
 -- target, and a third port
-no_key_leaf_is_refused : answers port_rules (apply 1 (update [] (speed_row (codes "a") (values.Uint 10) ∷ []) ∷ []) ∷ []) ≡
+no_key_leaf_is_refused : answers port_rules
+    (apply 1 (update [] (speed_row (codes "a") (values.Uint 10) ∷ []) ∷ []) ∷ []) ≡
     Err TreeInvalid
     ∷ []
 no_key_leaf_is_refused = refl
 
-value_out_of_shape_is_refused : answers port_rules (apply 1 (update [] (name_row (codes "a") ∷ speed_row (codes "a") (values.Uint 256) ∷ []) ∷ []) ∷ []) ≡
+value_out_of_shape_is_refused : answers port_rules
+    (apply 1 (update [] (name_row (codes "a") ∷ speed_row (codes "a") (values.Uint 256) ∷ [])
+    ∷ []) ∷ []) ≡
     Err TreeInvalid
     ∷ []
 value_out_of_shape_is_refused = refl
 
-no_mandatory_leaf_is_refused : answers port_rules (apply 1 (update [] (name_row (codes "a") ∷ []) ∷ []) ∷ []) ≡
+no_mandatory_leaf_is_refused : answers port_rules
+    (apply 1 (update [] (name_row (codes "a") ∷ []) ∷ []) ∷ []) ≡
     Err TreeInvalid
     ∷ []
 no_mandatory_leaf_is_refused = refl
 
-no_target_is_refused : answers port_rules (apply 1 (update [] (via_row (codes "a") ∷ []) ∷ []) ∷ []) ≡
+no_target_is_refused : answers port_rules
+    (apply 1 (update [] (via_row (codes "a") ∷ []) ∷ []) ∷ []) ≡
     Err TreeInvalid
     ∷ []
 no_target_is_refused = refl
 
-third_port_is_refused : answers port_rules (apply 1 (update [] (port_rows (codes "a")) ∷ update [] (port_rows (codes "b")) ∷ []) ∷ apply 1 (update [] (port_rows (codes "c")) ∷ []) ∷ []) ≡
+third_port_is_refused : answers port_rules
+    (apply 1 (update [] (port_rows (codes "a")) ∷ update [] (port_rows (codes "b")) ∷ [])
+    ∷ apply 1 (update [] (port_rows (codes "c")) ∷ []) ∷ []) ≡
     Ok 1
     ∷ Err TreeInvalid ∷ []
 third_port_is_refused = refl
@@ -245,7 +274,8 @@ third_port_is_refused = refl
 abbrev pub two_entries : Limits
 two_entries = record { entries = 2; octets = 4096 }
 
-third_set : answers (rules_of system_schema two_entries) (apply 1 [] ∷ apply 1 [] ∷ apply 1 [] ∷ []) ≡
+third_set : answers (rules_of system_schema two_entries)
+    (apply 1 [] ∷ apply 1 [] ∷ apply 1 [] ∷ []) ≡
     Ok 1
     ∷ Ok 2 ∷ Err LogFull ∷ []
 third_set = refl
@@ -255,7 +285,8 @@ trial_second : answers (rules_of system_schema two_entries) (apply 1 [] ∷ host
     ∷ Err LogFull ∷ []
 trial_second = refl
 
-trial_first : answers (rules_of system_schema two_entries) (hostname_trial 1 ∷ confirm 1 (codes "t") ∷ []) ≡
+trial_first : answers (rules_of system_schema two_entries)
+    (hostname_trial 1 ∷ confirm 1 (codes "t") ∷ []) ≡
     Ok 1
     ∷ Ok 2 ∷ []
 trial_first = refl

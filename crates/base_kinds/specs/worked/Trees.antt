@@ -18,7 +18,8 @@ use Rattle.base_kinds.specs.Rules.{size_of}
 no_rows_are_valid : valid port_schema [] ≡ true
 no_rows_are_valid = refl
 
-two_ports_are_valid : valid port_schema (port_rows (codes "a") ++ (port_rows (codes "b") ++ via_row (codes "b") ∷ [])) ≡
+two_ports_are_valid : valid port_schema
+    (port_rows (codes "a") ++ (port_rows (codes "b") ++ via_row (codes "b") ∷ [])) ≡
     true
 two_ports_are_valid = refl
 
@@ -26,7 +27,8 @@ hostname_is_valid : valid system_schema hostname_tree ≡ true
 hostname_is_valid = refl
 
 -- a leaf that the schema doesn't have, a row at a container, and an element with a key that its node lacks
-unknown_leaf : valid system_schema (text_row (plain (codes "system") ∷ plain (codes "name") ∷ []) (codes "x") ∷ []) ≡
+unknown_leaf : valid system_schema
+    (text_row (plain (codes "system") ∷ plain (codes "name") ∷ []) (codes "x") ∷ []) ≡
     false
 unknown_leaf = refl
 
@@ -44,11 +46,13 @@ key_too_many : valid system_schema (text_row (record {
 key_too_many = refl
 
 -- a value of another shape, and one out of the shape's range
-other_shape : valid port_schema (name_row (codes "a") ∷ speed_row (codes "a") (values.Text (codes "10")) ∷ []) ≡
+other_shape : valid port_schema
+    (name_row (codes "a") ∷ speed_row (codes "a") (values.Text (codes "10")) ∷ []) ≡
     false
 other_shape = refl
 
-out_of_range : valid port_schema (name_row (codes "a") ∷ speed_row (codes "a") (values.Uint 256) ∷ []) ≡
+out_of_range : valid port_schema
+    (name_row (codes "a") ∷ speed_row (codes "a") (values.Uint 256) ∷ []) ≡
     false
 out_of_range = refl
 
@@ -71,7 +75,8 @@ no_target : valid port_schema (port_rows (codes "a") ++ via_row (codes "b") ∷ 
 no_target = refl
 
 -- a third port
-too_many_ports : valid port_schema (port_rows (codes "a") ++ (port_rows (codes "b") ++ port_rows (codes "c"))) ≡
+too_many_ports : valid port_schema
+    (port_rows (codes "a") ++ (port_rows (codes "b") ++ port_rows (codes "c"))) ≡
     false
 too_many_ports = refl
 
@@ -114,17 +119,21 @@ hostname_size = refl
 abbrev pub tags_row : List Value → Row
 tags_row tags = record { path = plain (codes "tags") ∷ []; value = values.List tags }
 
-two_tags : valid port_schema (tags_row (values.Text (codes "x") ∷ values.Text (codes "y") ∷ []) ∷ []) ≡
+two_tags : valid port_schema
+    (tags_row (values.Text (codes "x") ∷ values.Text (codes "y") ∷ []) ∷ []) ≡
     true
 unfolding Rattle.base_kinds.specs.declared.value.Value.TheBlock.hidden-the_row-Value-0 denote.Hole.Carrier.hidden
 two_tags = refl
 
-three_tags : valid port_schema (tags_row (values.Text (codes "x") ∷ values.Text (codes "y") ∷ values.Text (codes "z") ∷ []) ∷ []) ≡
+three_tags : valid port_schema
+    (tags_row (values.Text (codes "x") ∷ values.Text (codes "y") ∷ values.Text (codes "z")
+    ∷ []) ∷ []) ≡
     false
 unfolding Rattle.base_kinds.specs.declared.value.Value.TheBlock.hidden-the_row-Value-0 denote.Hole.Carrier.hidden
 three_tags = refl
 
-equal_tags : valid port_schema (tags_row (values.Text (codes "x") ∷ values.Text (codes "x") ∷ []) ∷ []) ≡
+equal_tags : valid port_schema
+    (tags_row (values.Text (codes "x") ∷ values.Text (codes "x") ∷ []) ∷ []) ≡
     false
 unfolding Rattle.base_kinds.specs.declared.value.Value.TheBlock.hidden-the_row-Value-0 denote.Hole.Carrier.hidden
 equal_tags = refl
@@ -179,11 +188,15 @@ slot_row id = text_row (slot id ∷ plain (codes "id") ∷ []) id
 abbrev pub slot_port_row : List ℕ → List ℕ → Row
 slot_port_row id name = text_row (slot id ∷ port name ∷ plain (codes "name") ∷ []) name
 
-one_port_a_slot : valid slot_schema (slot_row (codes "1") ∷ slot_port_row (codes "1") (codes "a") ∷ slot_row (codes "2") ∷ slot_port_row (codes "2") (codes "a") ∷ []) ≡
+one_port_a_slot : valid slot_schema
+    (slot_row (codes "1") ∷ slot_port_row (codes "1") (codes "a") ∷ slot_row (codes "2")
+    ∷ slot_port_row (codes "2") (codes "a") ∷ []) ≡
     true
 one_port_a_slot = refl
 
-two_ports_a_slot : valid slot_schema (slot_row (codes "1") ∷ slot_port_row (codes "1") (codes "a") ∷ slot_port_row (codes "1") (codes "b") ∷ []) ≡
+two_ports_a_slot : valid slot_schema
+    (slot_row (codes "1") ∷ slot_port_row (codes "1") (codes "a")
+    ∷ slot_port_row (codes "1") (codes "b") ∷ []) ≡
     false
 two_ports_a_slot = refl
 
@@ -197,7 +210,9 @@ note_without_name : valid named_schema (text_row (plain (codes "note") ∷ []) (
     false
 note_without_name = refl
 
-note_with_name : valid named_schema (text_row (plain (codes "name") ∷ []) (codes "n") ∷ text_row (plain (codes "note") ∷ []) (codes "x") ∷ []) ≡
+note_with_name : valid named_schema
+    (text_row (plain (codes "name") ∷ []) (codes "n")
+    ∷ text_row (plain (codes "note") ∷ []) (codes "x") ∷ []) ≡
     true
 note_with_name = refl
 

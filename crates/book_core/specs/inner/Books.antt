@@ -27,7 +27,8 @@ pub record KeepsRules (old new : CoreView) : Type 0 where
   pub limits : new.limits ≡ old.limits
 
 pub record IsBook {D : Type 0} (told : D → Option Content) (faults : D → ℕ) (opened : Opened)
-    (chronicle : List Happening) (core : CoreView) (ledger : LedgerView D) (marks : ℕ) : Type 0 where
+    (chronicle : List Happening) (core : CoreView) (ledger : LedgerView D)
+    (marks : ℕ) : Type 0 where
   pub schema_is : core.schema ≡ opened.schema
   pub limits_are : core.limits ≡ opened.limits
   pub entries_are : core.entries ≡ history_of chronicle

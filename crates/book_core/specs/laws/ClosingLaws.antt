@@ -23,7 +23,8 @@ abbrev pub HasMarkRoom : List Happening → Type 0
 HasMarkRoom chronicle = length (marks_of chronicle) < most_marks
 
 -- a call that found and left these chronicles was refused neither for the disk nor for want of memory
-pub record IsAnswered {T : Type 0} (author : ℕ) (result : Result T Refusal) (old new : List Happening)
+pub record IsAnswered {T : Type 0} (author : ℕ) (result : Result T Refusal)
+    (old new : List Happening)
     : Type 0 where
   pub adds : Adds author result old new
   pub room : (IsErrOf result refusals.NoMemory → ⊥) → HasMarkRoom old

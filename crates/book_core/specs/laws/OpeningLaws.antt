@@ -68,7 +68,8 @@ pub record HasImage {D : Type 0} (told : D → Option Content) (mask : List (Opt
   pub seen : IsImage content.mask content.seen
   pub leaves : Leaves (IsImage mask) content.mask
 
-module _ {D : Type 0} (C : Type 0) (told : D → Option Content) (faults : D → ℕ) (fuse : D → Fuse) where
+module _ {D : Type 0} (C : Type 0) (told : D → Option Content) (faults : D → ℕ)
+    (fuse : D → Fuse) where
   -- What a stop left at a moment of an opening of the one disk, the other one has.
   pub record StopsOpening (schema : List SchemaNode) (disk next : D) : Type 0 where
     pub now : ℕ

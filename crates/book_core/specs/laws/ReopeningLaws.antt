@@ -65,7 +65,8 @@ pub record IsMoment (old new : Content) (mask : List (Option ℕ)) : Type 0 wher
   pub past : new.mask ∷ new.past ≡ later ++ (old.mask ∷ old.past)
   pub among : IsAmong mask (later ++ old.mask ∷ [])
 
-module _ {D : Type 0} (C : Type 0) (told : D → Option Content) (faults : D → ℕ) (fuse : D → Fuse) where
+module _ {D : Type 0} (C : Type 0) (told : D → Option Content) (faults : D → ℕ)
+    (fuse : D → Fuse) where
   -- A disk with a journal of one of these histories is opened to go on from it.
   abbrev pub JournalsReopen : Type 0
   JournalsReopen = (disk : D) (content : Content) (schema : List SchemaNode) (limits : Limits)

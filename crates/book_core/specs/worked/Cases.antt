@@ -8,7 +8,12 @@ use Rattle.book_core.specs.Calls.{calls_before}
 use Rattle.book_core.specs.Openings.{opening_stages, restart_calls}
 
 abbrev pub begun : Entry
-begun = record { number = 1; author = 7; stamp = 1000; kind = kinds.Trial (116 ∷ []) [] 60000001000 }
+begun = record {
+  number = 1;
+  author = 7;
+  stamp = 1000;
+  kind = kinds.Trial (116 ∷ []) [] 60000001000;
+}
 
 abbrev pub expired : Entry
 expired = record { number = 2; author = 0; stamp = 60000001000; kind = kinds.Expire }

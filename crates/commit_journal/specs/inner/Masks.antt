@@ -22,7 +22,8 @@ module _ (before : List ℕ) where
   -- but the gate in front of it may hold any octet
   pub record IsInDoubt (attempt : Entry) (mask : List (Option ℕ)) : Type 0 where
     pub rest : List (Option ℕ)
-    pub parts : mask ≡ mask_after_sync before ++ None ∷ (mask_after_sync (record_and_gate attempt) ++ rest)
+    pub parts : mask ≡ mask_after_sync before ++ None
+        ∷ (mask_after_sync (record_and_gate attempt) ++ rest)
 
 module _ (limits : Limits) (h : List Entry) where
   abbrev pub Keeps : Option Entry → List (Option ℕ) → Type 0

@@ -16,7 +16,9 @@ set_of_a_delete_and_an_update : log_text (record {
       1;
   author = 7;
   stamp = 1000;
-  kind = kinds.Apply (record { act = Update; path = motd; rows = record { path = motd; value = v.Text (codes "m") } ∷ [] } ∷ record { act = Delete; path = []; rows = [] } ∷ []);
+  kind = kinds.Apply (record
+      { act = Update; path = motd; rows = record { path = motd; value = v.Text (codes "m") } ∷ [] }
+      ∷ record { act = Delete; path = []; rows = [] } ∷ []);
 }
     ∷ [])
     ≡ codes "1 1000 7 apply\n  delete /\n  update /motd\n    /motd \"m\"\n"

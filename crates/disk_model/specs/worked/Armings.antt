@@ -20,16 +20,19 @@ both_in_one_call : next_outcomes 3 (armed_by ((1, Old) ∷ []) ((1, tt) ∷ []))
     ≡ Passes ∷ Stops Old ∷ Fails ∷ []
 both_in_one_call = refl
 
-both_are_spent : next_outcomes 2 (restarted (arming_after_calls 3 (armed_by ((1, Old) ∷ []) ((1, tt) ∷ []))))
+both_are_spent : next_outcomes 2
+    (restarted (arming_after_calls 3 (armed_by ((1, Old) ∷ []) ((1, tt) ∷ []))))
     ≡ Passes ∷ Passes ∷ []
 both_are_spent = refl
 
 -- a second stop counts from the first call of the disk that is made again, and no call between counts
-second_stop : next_outcomes 3 (restarted (arming_after_calls 7 (with_stop 1 New (armed_by ((1, Old) ∷ []) []))))
+second_stop : next_outcomes 3
+    (restarted (arming_after_calls 7 (with_stop 1 New (armed_by ((1, Old) ∷ []) []))))
     ≡ Passes ∷ Stops New ∷ Fails ∷ []
 second_stop = refl
 
 -- a failure counts on through it: the stopped call counts for it
-failure_counts_on : next_outcomes 3 (restarted (arming_after_calls 7 (armed_by ((1, Old) ∷ []) ((3, tt) ∷ []))))
+failure_counts_on : next_outcomes 3
+    (restarted (arming_after_calls 7 (armed_by ((1, Old) ∷ []) ((3, tt) ∷ []))))
     ≡ Passes ∷ Fails ∷ Passes ∷ []
 failure_counts_on = refl

@@ -41,7 +41,12 @@ hostname_fits : is_fit_kind 1000 hostname_entry.kind ≡ true
 hostname_fits = refl
 
 abbrev trial : Entry
-trial = record { number = 2; author = 2; stamp = 1001; kind = kinds.Trial (codes "t") [] 1000001001 }
+trial = record {
+  number = 2;
+  author = 2;
+  stamp = 1001;
+  kind = kinds.Trial (codes "t") [] 1000001001;
+}
 
 trial_fits : is_fit_kind 1001 trial.kind ≡ true
 trial_fits = refl
@@ -60,8 +65,10 @@ confirmed : happens kinds.Confirm (has_trial (hostname_entry ∷ trial ∷ [])) 
 confirmed = refl
 
 -- the trial fills two of three entries, and a third would close it
-room_to_close : has_room (record { entries = 3; octets = 4096 }) (hostname_entry ∷ trial ∷ []) ≡ true
+room_to_close : has_room (record { entries = 3; octets = 4096 })
+    (hostname_entry ∷ trial ∷ []) ≡ true
 room_to_close = refl
 
-no_room_to_close : has_room (record { entries = 2; octets = 4096 }) (hostname_entry ∷ trial ∷ []) ≡ false
+no_room_to_close : has_room (record { entries = 2; octets = 4096 })
+    (hostname_entry ∷ trial ∷ []) ≡ false
 no_room_to_close = refl

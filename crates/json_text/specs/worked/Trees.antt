@@ -16,15 +16,28 @@ use Rattle.json_text.specs.Leaves.{leaf_text}
 use Rattle.json_text.specs.Trees.{members_data, json_text_of}
 
 abbrev node : List (List ℕ) → Sort → Option Shape → List (List ℕ) → SchemaNode
-node names sort shape keys = record { names = names; sort = sort; shape = shape; keys = keys; module_name = codes "lab"; is_mandatory = false; reference = None; maximum = None }
+node names sort shape keys =
+    record {
+      names = names;
+      sort = sort;
+      shape = shape;
+      keys = keys;
+      module_name = codes "lab";
+      is_mandatory = false;
+      reference = None;
+      maximum = None;
+    }
 
 abbrev lab : List (List ℕ)
 lab = codes "lab" ∷ []
 
 abbrev schema : List SchemaNode
 schema =
-    node lab sorts.Container None [] ∷ node (codes "lab" ∷ codes "big" ∷ []) sorts.Leaf (Some (shapes.Uint 64)) [] ∷ node (codes "lab" ∷ codes "blob" ∷ []) sorts.Leaf (Some shapes.Bin) []
-    ∷ node (codes "lab" ∷ codes "rate" ∷ []) sorts.Leaf (Some (shapes.Dec 2)) [] ∷ node (codes "lab" ∷ codes "tags" ∷ []) sorts.LeafList (Some shapes.Text) [] ∷ []
+    node lab sorts.Container None []
+    ∷ node (codes "lab" ∷ codes "big" ∷ []) sorts.Leaf (Some (shapes.Uint 64)) []
+    ∷ node (codes "lab" ∷ codes "blob" ∷ []) sorts.Leaf (Some shapes.Bin) []
+    ∷ node (codes "lab" ∷ codes "rate" ∷ []) sorts.Leaf (Some (shapes.Dec 2)) []
+    ∷ node (codes "lab" ∷ codes "tags" ∷ []) sorts.LeafList (Some shapes.Text) [] ∷ []
 
 abbrev plain : List ℕ → Elem
 plain name = record { name = name; keys = [] }
@@ -36,7 +49,8 @@ abbrev big : Row
 big = row (codes "big") (values.Uint 18446744073709551615)
 
 -- integers of 64 bits and decimals are strings, other integers are numbers
-wide : leaf_text (shapes.Uint 64) (values.Uint 18446744073709551615) ≡ codes "\"18446744073709551615\""
+wide : leaf_text (shapes.Uint 64) (values.Uint 18446744073709551615)
+    ≡ codes "\"18446744073709551615\""
 unfolding serde_json_on_literals digits
 wide = refl
 
@@ -53,16 +67,19 @@ unfolding serde_json_on_literals
 truth = refl
 
 -- below a member of the module no name has the module's
-one_leaf : json_text_of schema [] (big ∷ []) ≡ codes "{\"lab:lab\":{\"big\":\"18446744073709551615\"}}"
+one_leaf : json_text_of schema [] (big ∷ [])
+    ≡ codes "{\"lab:lab\":{\"big\":\"18446744073709551615\"}}"
 unfolding members_data serde_json_on_literals digits
 one_leaf = refl
 
 -- a leaf-list is an array, in the order of its values
 abbrev whole_lab : List Row
 whole_lab =
-    big ∷ row (codes "blob") (values.Bin (1 ∷ 2 ∷ [])) ∷ row (codes "rate") (values.Dec (pos 150) 2) ∷ row (codes "tags") (values.List (values.Text (codes "x") ∷ values.Text (codes "y") ∷ [])) ∷ []
+    big ∷ row (codes "blob") (values.Bin (1 ∷ 2 ∷ [])) ∷ row (codes "rate") (values.Dec (pos 150) 2)
+    ∷ row (codes "tags") (values.List (values.Text (codes "x") ∷ values.Text (codes "y") ∷ [])) ∷ []
 
-tags : leaf_text shapes.Text (values.List (values.Text (codes "x") ∷ values.Text (codes "y") ∷ [])) ≡ codes "[\"x\",\"y\"]"
+tags : leaf_text shapes.Text (values.List (values.Text (codes "x") ∷ values.Text (codes "y") ∷ []))
+    ≡ codes "[\"x\",\"y\"]"
 unfolding serde_json_on_literals Rattle.base_kinds.specs.declared.value.Value.TheBlock.hidden-the_row-Value-0 denote.Hole.Carrier.hidden
 tags = refl
 

@@ -37,7 +37,8 @@ euro : path_text (plain (226 ∷ 130 ∷ 172 ∷ []) ∷ []) ≡ codes "/\\e2\\8
 euro = refl
 
 -- keys in the order of the octets of their names, none twice
-rising : rises name_cmp ((codes "B", codes "2") ∷ (codes "a", codes "1") ∷ (codes "aa", codes "0") ∷ []) ≡
+rising : rises name_cmp ((codes "B", codes "2") ∷ (codes "a", codes "1")
+    ∷ (codes "aa", codes "0") ∷ []) ≡
     true
 rising = refl
 

@@ -7,11 +7,29 @@ use Rattle.schema_core.specs.Nodes.{names_at, has_parent}
 
 abbrev lab : SchemaNode
 lab =
-    record { names = codes "lab" ∷ []; sort = sorts.Container; shape = None; keys = []; module_name = codes "m"; is_mandatory = false; reference = None; maximum = None }
+    record {
+      names = codes "lab" ∷ [];
+      sort = sorts.Container;
+      shape = None;
+      keys = [];
+      module_name = codes "m";
+      is_mandatory = false;
+      reference = None;
+      maximum = None;
+    }
 
 abbrev rate : SchemaNode
 rate =
-    record { names = codes "lab" ∷ codes "rate" ∷ []; sort = sorts.Leaf; shape = Some shapes.Text; keys = []; module_name = codes "m"; is_mandatory = true; reference = None; maximum = None }
+    record {
+      names = codes "lab" ∷ codes "rate" ∷ [];
+      sort = sorts.Leaf;
+      shape = Some shapes.Text;
+      keys = [];
+      module_name = codes "m";
+      is_mandatory = true;
+      reference = None;
+      maximum = None;
+    }
 
 abbrev nodes : List SchemaNode
 nodes = lab ∷ rate ∷ []

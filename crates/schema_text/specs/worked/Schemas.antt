@@ -81,11 +81,12 @@ two_of_one_path : schema_of (codes "module m\nleaf /a bool\nleaf /a bool\n") ≡
 })
 two_of_one_path = refl
 
-key_in_other_module : schema_of (codes "module m\nleaf /r bool\nlist /a k\nmodule n\nleaf /a/k bool\n") ≡ Err (record {
-  line =
-      3;
-  cause = NoKey;
-})
+key_in_other_module : schema_of
+    (codes "module m\nleaf /r bool\nlist /a k\nmodule n\nleaf /a/k bool\n") ≡ Err (record {
+      line =
+          3;
+      cause = NoKey;
+    })
 key_in_other_module = refl
 
 lowest_line : schema_of (codes "module m\nleaf /r bool ref /a\nlist /a k\n") ≡ Err (record {

@@ -50,5 +50,6 @@ int8_less : has_shape (shapes.Int 8) (values.Int (negsuc 128)) ≡ false
 int8_less = refl
 
 -- a quote, a backslash, and octets outside the printable ones are escaped
-escapes : quoted (34 ∷ 92 ∷ 31 ∷ 32 ∷ 126 ∷ 127 ∷ 195 ∷ 169 ∷ []) ≡ codes "\"\\22\\5c\\1f ~\\7f\\c3\\a9\""
+escapes : quoted (34 ∷ 92 ∷ 31 ∷ 32 ∷ 126 ∷ 127 ∷ 195 ∷ 169 ∷ [])
+    ≡ codes "\"\\22\\5c\\1f ~\\7f\\c3\\a9\""
 escapes = refl

@@ -5,9 +5,9 @@ use Rattle.base_kinds.specs.Schema.{names_of}
 use Rattle.base_kinds.specs.Valid.{step_has_node}
 use Rattle.base_kinds.specs.Ancestors.{path_steps, path_steps_from}
 use Rattle.schema_core.specs.Nodes.{names_above}
-use Rattle.tree_check.proofs.data_nodes.steps_known.Given as goal
+use Rattle.schema_core.proofs.steps.steps_have_nodes.Given as goal
 
--- the steps so far are known, and the node that was found last is theirs
+-- what is left to be known decides, and the node that was found last is that of the elements so far
 abbrev pub invariant-loop-elem : goal.invariant-loop-elem
 invariant-loop-elem l = record {
   rest : list_all (step_has_node l.schema) (path_steps_from (take l.elem-index l.path) (drop l.elem-index l.path)) ≡ list_all (step_has_node l.schema) (path_steps l.path);

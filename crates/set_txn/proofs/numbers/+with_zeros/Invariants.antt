@@ -1,4 +1,0 @@
-use Rattle.set_txn.proofs.numbers.+with_zeros.Given as goal
-
-abbrev pub decreases-with_zeros : goal.decreases-with_zeros
-decreases-with_zeros l = l.zeros
