@@ -15,4 +15,6 @@ mixed before header = fold added (fold added before header.name) header.value
 abbrev pub ReadsBlocks : Table → List (List ℕ) → ℕ → ℕ → Type 0
 ReadsBlocks table [] before checksum = checksum ≡ before
 ReadsBlocks table (block ∷ blocks) before checksum =
-    (headers : List Header) × (last : Table) × Block block table headers last × (size_of_all headers ≤ largest_list) × ReadsBlocks last blocks (fold mixed before headers) checksum
+    (headers : List Header) × (last : Table) × Block block table headers last
+    × (size_of_all headers ≤ largest_list)
+    × ReadsBlocks last blocks (fold mixed before headers) checksum

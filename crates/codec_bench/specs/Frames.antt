@@ -6,4 +6,5 @@ use Rattle.codec_bench.specs.Checksum.{added}
 -- the fields of the head, one after another
 abbrev pub mixed : ℕ → Frame → ℕ
 mixed before frame =
-    added (added (added (added before frame.head.length) frame.head.kind) frame.head.flags) frame.head.stream
+    added (added (added (added before frame.head.length) frame.head.kind) frame.head.flags)
+    frame.head.stream

@@ -30,7 +30,8 @@ each f (item ∷ items) = do
   Some (first ∷ others)
 
 -- the messages of a repeated field
-abbrev pub messages_in : {A : Type 0} → (List ℕ → Option A) → List ℕ → ℕ → List Field → Option (List A)
+abbrev pub messages_in : {A : Type 0} → (List ℕ → Option A) → List ℕ → ℕ → List Field
+    → Option (List A)
 messages_in meaning message number fields = each meaning (occurrences message number fields)
 
 -- a string is UTF-8
@@ -44,5 +45,6 @@ are_texts message number fields = list_all is_utf8 (occurrences message number f
 -- A single string: the last one counts, the others have to be UTF-8 too, and an absent one is empty.
 abbrev pub single_text : List ℕ → ℕ → List Field → Option (List ℕ)
 single_text message number fields =
-    if are_texts message number fields then text_of (unwrap_or (last_octets message number fields) [])
+    if are_texts message number fields
+    then text_of (unwrap_or (last_octets message number fields) [])
     else None

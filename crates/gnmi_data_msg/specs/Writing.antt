@@ -19,13 +19,15 @@ text_field number (octet ∷ octets) = octets_field number (octet ∷ octets)
 
 -- the messages of a repeated field
 abbrev pub message_fields : {A : Type 0} → (A → List ℕ) → ℕ → List A → List ℕ
-message_fields octets_of number items = flat_map (λ item. octets_field number (octets_of item)) items
+message_fields octets_of number items =
+    flat_map (λ item. octets_field number (octets_of item)) items
 
 abbrev pub entry_message : List ℕ × List ℕ → List ℕ
 entry_message entry = text_field map_key entry.0 ++ text_field map_value entry.1
 
 abbrev pub elem_message : Elem → List ℕ
-elem_message elem = text_field elem_name elem.name ++ message_fields entry_message elem_key elem.keys
+elem_message elem = text_field elem_name elem.name
+    ++ message_fields entry_message elem_key elem.keys
 
 abbrev pub path_message : List Elem → List ℕ
 path_message path = message_fields elem_message path_elem path
@@ -33,7 +35,8 @@ path_message path = message_fields elem_message path_elem path
 -- a path with its origin and its target, as it was read; the deprecated field `element` isn't written
 abbrev pub whole_path_message : GnmiPath → List ℕ
 whole_path_message path =
-    text_field path_origin path.origin ++ path_message path.path ++ text_field path_target path.target
+    text_field path_origin path.origin ++ path_message path.path
+    ++ text_field path_target path.target
 
 -- a path that has a target alone, as the prefix of a notification
 abbrev pub target_message : List ℕ → List ℕ

@@ -37,7 +37,8 @@ impl Message for (Text, Text) {
 
 /// The entry at its place among the others, or in place of the one with its name.
 fn put_entry(entry: (Text, Text), map: &mut BTreeMap<Text, Text>) -> Result<(), NoMemory>
-    ensures { OnOk result (map.new.entries ≡ insert_entry text_cmp map.old.entries entry.0 entry.1) }
+    ensures { OnOk result (map.new.entries
+        ≡ insert_entry text_cmp map.old.entries entry.0 entry.1) }
 {
     let (name, value) = entry;
     map.insert(name, value)?;

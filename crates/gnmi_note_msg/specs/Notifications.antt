@@ -14,7 +14,8 @@ use Rattle.gnmi_data_msg.specs.Writing.{message_fields, number_field, path_messa
 
 -- an Update of a path, its value being these octets of a TypedValue
 abbrev pub update_message : List Elem → List ℕ → List ℕ
-update_message path typed = octets_field update_path (path_message path) ++ octets_field update_val typed
+update_message path typed =
+    octets_field update_path (path_message path) ++ octets_field update_val typed
 
 -- A prefix with the target alone, which isn't written where there is no target.
 abbrev pub prefix_field : List ℕ → List ℕ
@@ -30,7 +31,8 @@ note_message stamp target updates deletes =
 -- The JSON text of a row. Where its path is no leaf or leaf-list of the schema it is empty.
 abbrev pub row_text : List SchemaNode → Row → List ℕ
 row_text schema row =
-    option_map_or (λ shape. leaf_text shape row.value) (option_and_then (λ node. node.shape) (node_at schema row.path)) []
+    option_map_or (λ shape. leaf_text shape row.value)
+    (option_and_then (λ node. node.shape) (node_at schema row.path)) []
 
 -- the field of a TypedValue that holds a JSON text: `json_val` for JSON, and else that of RFC 7951
 abbrev pub json_number : Encoding → ℕ

@@ -28,7 +28,8 @@ const NOTE_DELETE: u32 = 5;
 
 /// The stamp and the prefix.
 fn note_head(alloc: Global, stamp: u64, target: &Text) -> Result<Bytes, NoMemory>
-    ensures { IfOk result (λ head. head ≡ number_field note_timestamp stamp ++ prefix_field target.now) }
+    ensures { IfOk result (λ head. head
+        ≡ number_field note_timestamp stamp ++ prefix_field target.now) }
 {
     let mut head = Bytes::empty(alloc);
     put_number(alloc, NOTE_TIMESTAMP, stamp, &mut head)?;

@@ -38,7 +38,8 @@ pub(crate) fn update_of(alloc: Global, path: &Path, typed: &[u8]) -> Result<Byte
 
 /// The shape of the leaf or leaf-list at the path.
 fn shape_at<'a>(schema: &'a Schema, path: &Path) -> Option<&'a Shape>
-    ensures { option_and_then (λ node. node.shape) (node_at schema.now path.now) ≡ option_copied result }
+    ensures { option_and_then (λ node. node.shape) (node_at schema.now path.now)
+        ≡ option_copied result }
 {
     let node = schema.find(path)?;
     schema.shape_of(node)

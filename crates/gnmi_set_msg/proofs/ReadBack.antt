@@ -37,7 +37,7 @@ use Rattle.gnmi_set_msg.specs.declared.request.SetRequest.{SetRequest}
 use Rattle.gnmi_set_msg.specs.Numbers.{set_prefix, set_delete, set_replace, set_update, set_extension, reply_prefix, reply_response, reply_timestamp, result_path, result_op, op_of}
 use Rattle.gnmi_set_msg.specs.Requests.{update_of, request_of}
 use Rattle.gnmi_set_msg.specs.Replies.{result_message, update_result, prefix_field, reply_message, reply_of}
-use Rattle.gnmi_set_msg.specs.ReadBack.{ResultRead, result_in, prefix_in, reply_in, path_told, result_told, update_told, reply_told}
+use Rattle.gnmi_set_msg.specs.ReadBack.{ResultRead, result_in, prefix_in, reply_in, written_path, written_result, written_update, written_reply}
 use Rattle.gnmi_set_msg.proofs.TextPaths.{found, same_some, each_holds, IsTextPath, path_is_text}
 
 -- ---- what octets hold
@@ -173,7 +173,7 @@ elems_read path are short = by (each elem_of (map elem_message path)) refl
         let same : plain_path elems ≡ plain_path path = same_some (plain_path elems) (plain_path path) (sym (by_elems path (Some elems) short e) ∙ whole) in
         e ∙ ap (λ (p : GnmiPath). Some p.path) same
 
-whole_path_read : (path : GnmiPath) → IsTextPath path → length (whole_path_message path) < 2 ^ 64 → path_of (whole_path_message path) ≡ Some (path_told path)
+whole_path_read : (path : GnmiPath) → IsTextPath path → length (whole_path_message path) < 2 ^ 64 → path_of (whole_path_message path) ≡ Some (written_path path)
 unfolding path_of
 whole_path_read path is short =
     let o : List ℕ = text_field path_origin path.origin in
@@ -212,7 +212,7 @@ op_read acts.Delete octets e = rw e refl
 op_read acts.Replace octets e = rw e refl
 op_read acts.Update octets e = rw e refl
 
-result_read : (act : Act) (path : GnmiPath) → IsTextPath path → length (result_message act path) < 2 ^ 64 → result_in (result_message act path) ≡ Some (result_told act path)
+result_read : (act : Act) (path : GnmiPath) → IsTextPath path → length (result_message act path) < 2 ^ 64 → result_in (result_message act path) ≡ Some (written_result act path)
 unfolding result_in
 result_read act path is short =
     let m : List ℕ = whole_path_message path in
@@ -258,14 +258,14 @@ prefix_there true prefix short =
     let long : length m < length (octets_field reply_prefix m) = field_long reply_prefix m in
     has_field reply_prefix m (lit≤ tt) (lit≤ tt) (omega (arith, long, short))
 
-prefix_read : (has : Bool) (prefix : GnmiPath) → IsTextPath prefix → length (prefix_octets has prefix) < 2 ^ 64 → prefix_in (joined_pieces (prefix_pieces has prefix)) ≡ Some (cond has (Some (path_told prefix)) None)
+prefix_read : (has : Bool) (prefix : GnmiPath) → IsTextPath prefix → length (prefix_octets has prefix) < 2 ^ 64 → prefix_in (joined_pieces (prefix_pieces has prefix)) ≡ Some (cond has (Some (written_path prefix)) None)
 prefix_read false prefix is short = refl
 prefix_read true prefix is short =
     let m : List ℕ = whole_path_message prefix in
     let long : length m < length (octets_field reply_prefix m) = field_long reply_prefix m in
     rw (append-nil m, whole_path_read prefix is (omega (arith, long, short))) refl
 
-reply_read : (stamp : ℕ) (request : SetRequest) → stamp < 2 ^ 64 → HasTextPaths request → length (reply_message stamp request) < 2 ^ 64 → reply_in (reply_message stamp request) ≡ Some (reply_told stamp request)
+reply_read : (stamp : ℕ) (request : SetRequest) → stamp < 2 ^ 64 → HasTextPaths request → length (reply_message stamp request) < 2 ^ 64 → reply_in (reply_message stamp request) ≡ Some (written_reply stamp request)
 unfolding reply_in
 reply_read stamp request fits are short =
     let p : List ℕ = prefix_field request in
@@ -294,9 +294,9 @@ reply_read stamp request fits are short =
     let prefix_is : pieces_under reply_prefix (reply_message stamp request) ≡ pp =
     there.pieces_are reply_prefix ∙ append-nil (pp ++ [] ++ []) ∙ append-nil (pp ++ []) ∙ append-nil pp in
     let results_are : pieces_under reply_response (reply_message stamp request) ≡ ds ++ rs ++ us = there.pieces_are reply_response in
-    let deletes = results_read (result_message acts.Delete) (result_told acts.Delete) IsTextPath (λ path is. result_read acts.Delete path is) request.deletes are.deletes short_d in
-    let replaces = results_read (update_result acts.Replace) (update_told acts.Replace) (λ (update : Update). IsTextPath update.path) (λ update is. result_read acts.Replace update.path is) request.replaces are.replaces short_r in
-    let updates = results_read (update_result acts.Update) (update_told acts.Update) (λ (update : Update). IsTextPath update.path) (λ update is. result_read acts.Update update.path is) request.updates are.updates short_u in
+    let deletes = results_read (result_message acts.Delete) (written_result acts.Delete) IsTextPath (λ path is. result_read acts.Delete path is) request.deletes are.deletes short_d in
+    let replaces = results_read (update_result acts.Replace) (written_update acts.Replace) (λ (update : Update). IsTextPath update.path) (λ update is. result_read acts.Replace update.path is) request.replaces are.replaces short_r in
+    let updates = results_read (update_result acts.Update) (written_update acts.Update) (λ (update : Update). IsTextPath update.path) (λ update is. result_read acts.Update update.path is) request.updates are.updates short_u in
     let each_is = both_read (ds ++ rs) us _ _ (both_read ds rs _ _ deletes replaces) updates in
     rw (
       there.is,
@@ -368,13 +368,13 @@ request_is_text octets request e =
 
 -- The octets that answer a request are read as what it is answered with.
 pub replied : (octets reply : List ℕ) (stamp : ℕ) → stamp < 2 ^ 64 → reply_of octets stamp ≡ Some reply → length reply < 2 ^ 64
-    → (request : SetRequest) × (request_of octets ≡ Some request) × (reply_in reply ≡ Some (reply_told stamp request))
+    → (request : SetRequest) × (request_of octets ≡ Some request) × (reply_in reply ≡ Some (written_reply stamp request))
 replied octets reply stamp fits e short = by (request_of octets) refl e
   where
     by : (request : Option SetRequest) → request_of octets ≡ request → option_map (reply_message stamp) request ≡ Some reply
-        → (request : SetRequest) × (request_of octets ≡ Some request) × (reply_in reply ≡ Some (reply_told stamp request))
+        → (request : SetRequest) × (request_of octets ≡ Some request) × (reply_in reply ≡ Some (written_reply stamp request))
     by None is same = absurd cc
     by (Some request) is same =
         let written : reply_message stamp request ≡ reply = same_some (reply_message stamp request) reply same in
         let small : length (reply_message stamp request) < 2 ^ 64 = subst (λ (os : List ℕ). length os < 2 ^ 64) (sym written) short in
-        (request, is, subst (λ (os : List ℕ). reply_in os ≡ Some (reply_told stamp request)) written (reply_read stamp request fits (request_is_text octets request is) small))
+        (request, is, subst (λ (os : List ℕ). reply_in os ≡ Some (written_reply stamp request)) written (reply_read stamp request fits (request_is_text octets request is) small))

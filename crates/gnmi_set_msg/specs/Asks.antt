@@ -17,7 +17,8 @@ use Rattle.gnmi_set_msg.specs.Requests.{request_of}
 abbrev pub is_unsupported : SetRequest → Bool
 is_unsupported request =
     request.union_replace || list_any is_other request.extensions || is_foreign request.prefix
-    || list_any is_foreign request.deletes || list_any (λ update. is_foreign update.path) request.replaces
+    || list_any is_foreign request.deletes
+    || list_any (λ update. is_foreign update.path) request.replaces
     || list_any (λ update. is_foreign update.path) request.updates
 
 abbrev pub commit_in : Extension → Option Action

@@ -56,22 +56,22 @@ reply_in octets =
 -- ---- what was written
 
 -- a path, of which the deprecated field `element` isn't written
-abbrev pub path_told : GnmiPath → GnmiPath
-path_told path = record path { old_element = false }
+abbrev pub written_path : GnmiPath → GnmiPath
+written_path path = record path { old_element = false }
 
-abbrev pub result_told : Act → GnmiPath → ResultRead
-result_told act path = record { path = path_told path; op = op_of act }
+abbrev pub written_result : Act → GnmiPath → ResultRead
+written_result act path = record { path = written_path path; op = op_of act }
 
-abbrev pub update_told : Act → Update → ResultRead
-update_told act update = result_told act update.path
+abbrev pub written_update : Act → Update → ResultRead
+written_update act update = written_result act update.path
 
 -- The prefix where the request has one, a result for each operation in the order in which they act, and the stamp. A stamp of
 -- 2^63 and more is read as that less 2^64, which is below 0.
-abbrev pub reply_told : ℕ → SetRequest → ReplyRead
-reply_told stamp request = record {
-  prefix = if request.has_prefix then Some (path_told request.prefix) else None;
-  results = map (result_told acts.Delete) request.deletes
-      ++ map (update_told acts.Replace) request.replaces
-      ++ map (update_told acts.Update) request.updates;
+abbrev pub written_reply : ℕ → SetRequest → ReplyRead
+written_reply stamp request = record {
+  prefix = if request.has_prefix then Some (written_path request.prefix) else None;
+  results = map (written_result acts.Delete) request.deletes
+      ++ map (written_update acts.Replace) request.replaces
+      ++ map (written_update acts.Update) request.updates;
   stamp = cast_signed w64 stamp;
 }

@@ -2,7 +2,7 @@
 ghost use Rattle.std.specs.Prelude.{◌≡◌, ◌↔◌, ◌<◌, ◌^◌, ℕ, List, Some, None, length};
 ghost use Rattle.gnmi_set_msg.specs.declared.request.SetRequest.{SetRequest as Request};
 ghost use Rattle.gnmi_set_msg.specs.Asks.{set_of};
-ghost use Rattle.gnmi_set_msg.specs.ReadBack.{reply_in, reply_told};
+ghost use Rattle.gnmi_set_msg.specs.ReadBack.{reply_in, written_reply};
 ghost use Rattle.gnmi_set_msg.specs.Replies.{reply_of};
 ghost use Rattle.gnmi_set_msg.specs.Requests.{request_of};
 
@@ -17,5 +17,5 @@ pub fn set_replies_read_back()
     ensures { (octets reply : List ℕ) (stamp : ℕ) → stamp < 2 ^ 64
         → reply_of octets stamp ≡ Some reply → length reply < 2 ^ 64
         → (request : Request) × (request_of octets ≡ Some request)
-        × (reply_in reply ≡ Some (reply_told stamp request)) }
+        × (reply_in reply ≡ Some (written_reply stamp request)) }
 {}

@@ -30,7 +30,8 @@ is_named name header = bytes_eq header.name name
 -- The value of the first header of the name. Several of one name are together their values in order, with commas between
 -- them (RFC 9110 section 5.2), so that the first one also says how that begins.
 abbrev pub value_of : List ℕ → List Header → Option (List ℕ)
-value_of name headers = option_map (λ (header : Header). header.value) (find (is_named name) headers)
+value_of name headers = option_map (λ (header : Header). header.value)
+    (find (is_named name) headers)
 
 abbrev pub is_value : List ℕ → Option (List ℕ) → Bool
 is_value wanted None = false

@@ -47,7 +47,8 @@ end_at (Some fault) = Faulty fault
 
 -- The octets are these messages and then a rest, which is the beginning of a message that is not whole, or with which a
 -- fault stands. All octets are so in one way (laws computed and one_list).
-pub record Splits (octets : List ℕ) (messages : List (List ℕ)) (rest : List ℕ) (fault : Option SplitFault) : Type 0 where
+pub record Splits (octets : List ℕ) (messages : List (List ℕ)) (rest : List ℕ)
+    (fault : Option SplitFault) : Type 0 where
   pub leading : AreMessages octets messages rest
   pub ends : standing rest ≡ end_at fault
 
@@ -68,7 +69,8 @@ with_message message others = record others { messages = message ∷ others.mess
 abbrev pub cut_at : (List ℕ → Cut) → List ℕ → Standing → Cut
 cut_at others octets Waiting = record { messages = []; rest = octets; fault = None }
 cut_at others octets (Faulty fault) = record { messages = []; rest = octets; fault = Some fault }
-cut_at others octets (Whole size) = with_message (take size (drop 5 octets)) (others (drop (5 + size) octets))
+cut_at others octets (Whole size) =
+    with_message (take size (drop 5 octets)) (others (drop (5 + size) octets))
 
 -- so many messages at most
 abbrev pub cut_within : ℕ → List ℕ → Cut

@@ -9,7 +9,8 @@ use Rattle.hpack_block.specs.StaticTable.{pair}
 -- before the first message ("Response-Headers")
 abbrev pub opening_headers : List Header
 opening_headers =
-    pair (codes ":status") (codes "200") ∷ pair (codes "content-type") (codes "application/grpc") ∷ []
+    pair (codes ":status") (codes "200")
+    ∷ pair (codes "content-type") (codes "application/grpc") ∷ []
 
 -- 0 to 9 and A to F
 abbrev pub hex_digit : ℕ → ℕ

@@ -17,7 +17,8 @@ pub record Gives (octets : List ℕ) (before after : List (List ℕ)) (rest : Li
 
 -- The messages before the fault were added, and with the rest that fault stands. Where memory was wanting they are the
 -- first messages of the octets.
-pub record Stops (octets : List ℕ) (before after : List (List ℕ)) (fault : SplitFault) : Type 0 where
+pub record Stops (octets : List ℕ) (before after : List (List ℕ))
+    (fault : SplitFault) : Type 0 where
   pub messages : List (List ℕ)
   pub rest : List ℕ
   pub added : after ≡ before ++ messages

@@ -57,7 +57,8 @@ impl Splitter {
         piece: &[u8],
         out: &mut Messages,
     ) -> Result<(), SplitFault>
-        ensures ok { OnOk result (Gives (self.old.rest ++ piece.now) out.old out.new self.new.rest) }
+        ensures ok { OnOk result (Gives (self.old.rest ++ piece.now) out.old out.new
+            self.new.rest) }
         ensures fault { IfErr result (λ fault. self.old.fault ≡ None
             → Stops (self.old.rest ++ piece.now) out.old out.new fault) }
         ensures goes_on { OnOk result ((self.old.fault ≡ None) × (self.new.fault ≡ None)) }

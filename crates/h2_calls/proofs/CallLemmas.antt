@@ -5,7 +5,7 @@ use Rattle.h2_events.specs.declared.event.RecvEvent.{RecvEvent}
 use Rattle.h2_events.specs.Events.{highest_from}
 use Rattle.h2_events.specs.Items.{Read, Event, Ended}
 use Rattle.h2_calls.specs.declared.peer.Peer.{Peer}
-use Rattle.h2_calls.specs.Outcomes.{Told}
+use Rattle.h2_calls.specs.Outcomes.{EventAndPeer}
 use Rattle.h2_calls.specs.Calls.{Moment, read, ended, Cause, came, ends, Leads, Calls, causes_of, frames_of, events_of, reads_of}
 use Rattle.h2_calls.proofs.OutcomeLemmas.{one_outcome}
 use Rattle.h2_calls.proofs.LawLemmas.{tells_highest}
@@ -39,8 +39,8 @@ reads_joined (ended s ∷ one) two = ap (λ (rs : List Read). Ended s ∷ rs) (r
 
 -- ---- frames and ends decide
 
-same_event : (one other : Told) → ◌≡◌ {A = Result Told ℕ} (Ok one) (Ok other) → (one.event ≡ other.event) × (one.peer ≡ other.peer)
-same_event one other e = let same : one ≡ other = cc in (ap (λ (t : Told). t.event) same, ap (λ (t : Told). t.peer) same)
+same_event : (one other : EventAndPeer) → ◌≡◌ {A = Result EventAndPeer ℕ} (Ok one) (Ok other) → (one.event ≡ other.event) × (one.peer ≡ other.peer)
+same_event one other e = let same : one ≡ other = cc in (ap (λ (t : EventAndPeer). t.event) same, ap (λ (t : EventAndPeer). t.peer) same)
 
 first_cause : (a b : Cause) (rest more : List Cause) → ◌≡◌ {A = List Cause} (a ∷ rest) (b ∷ more) → (a ≡ b) × (rest ≡ more)
 first_cause a b rest more e = (cc, cc)

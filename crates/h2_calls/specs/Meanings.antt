@@ -34,7 +34,8 @@ abbrev pub data_on : Head → List ℕ → StreamState → Peer → Outcome
 data_on head octets state.Closed peer = gives (event.Piece head.stream [] head.length true) peer
 data_on head octets state.HalfClosedRemote peer = stream_fault head.stream stream_closed peer
 data_on head octets _ peer =
-    gives (event.Piece head.stream octets head.length (has end_stream_flag head.flags)) (if has end_stream_flag head.flags then peer_ends head.stream peer else peer)
+    gives (event.Piece head.stream octets head.length (has end_stream_flag head.flags))
+    (if has end_stream_flag head.flags then peer_ends head.stream peer else peer)
 
 abbrev pub data_with : Head → Result (List ℕ) ℕ → Peer → Outcome
 data_with head (Err code) peer = Err code

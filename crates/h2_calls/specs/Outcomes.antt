@@ -8,13 +8,13 @@ use Rattle.h2_calls.specs.declared.peer.Peer.{Peer}
 use Rattle.h2_calls.specs.States.{reset}
 
 -- one event at most, and what is known of the peer then
-pub record Told : Type 0 where
+pub record EventAndPeer : Type 0 where
   pub event : Option RecvEvent
   pub peer : Peer
 
 -- or the code of a connection fault (RFC 9113 section 5.4.1)
 abbrev pub Outcome : Type 0
-Outcome = Result Told ℕ
+Outcome = Result EventAndPeer ℕ
 
 abbrev pub nothing : Peer → Outcome
 nothing peer = Ok (record { event = None; peer = peer })

@@ -49,5 +49,6 @@ and_then rest (Ok told) = rest told
 -- Settings are taken in their order, six octets each (section 6.5.1).
 abbrev pub with_settings : List ℕ → Settings → Result Settings ℕ
 with_settings (n1 ∷ n0 ∷ v3 ∷ v2 ∷ v1 ∷ v0 ∷ rest) told =
-    and_then (with_settings rest) (with_setting (number 0 (n1 ∷ n0 ∷ [])) (number 0 (v3 ∷ v2 ∷ v1 ∷ v0 ∷ [])) told)
+    and_then (with_settings rest)
+    (with_setting (number 0 (n1 ∷ n0 ∷ [])) (number 0 (v3 ∷ v2 ∷ v1 ∷ v0 ∷ [])) told)
 with_settings _ told = Ok told

@@ -106,7 +106,8 @@ pub fn worked_settings_frames()
         ≡ said (Err 1) }
     ensures settings_first_fault { meaning_of (frame 4 0 0 (0 ∷ 4 ∷ 0x80 ∷ 0 ∷ 0 ∷ 0 ∷ 0 ∷ 2 ∷ 0 ∷ 0 ∷ 0 ∷ 2 ∷ [])) busy
         ≡ said (Err 3) }
-    ensures settings_table { meaning_of (frame 4 0 0 (0 ∷ 1 ∷ 0 ∷ 0 ∷ 0 ∷ 0 ∷ 0 ∷ 4 ∷ 0 ∷ 0 ∷ 1 ∷ 0 ∷ [])) busy
+    ensures settings_table { meaning_of
+        (frame 4 0 0 (0 ∷ 1 ∷ 0 ∷ 0 ∷ 0 ∷ 0 ∷ 0 ∷ 4 ∷ 0 ∷ 0 ∷ 1 ∷ 0 ∷ [])) busy
         ≡ said (gives (event.Settings 256 true) (record busy { window = 256 })) }
     ensures settings_large_frame { meaning_of (frame 4 0 0 (0 ∷ 5 ∷ 1 ∷ 0 ∷ 0 ∷ 0 ∷ [])) busy
         ≡ said (Err 1) }
@@ -163,9 +164,11 @@ pub fn worked_request_headers()
         ≡ false }
     ensures upper_case { is_well_formed (post ++ pair (codes "tE") [] ∷ []) ≡ false }
     ensures of_the_connection { is_well_formed (post ++ pair (codes "upgrade") [] ∷ []) ≡ false }
-    ensures no_path { is_well_formed (pair (codes ":method") (codes "POST") ∷ pair (codes ":scheme") (codes "http") ∷ [])
+    ensures no_path { is_well_formed
+        (pair (codes ":method") (codes "POST") ∷ pair (codes ":scheme") (codes "http") ∷ [])
         ≡ false }
     ensures other_pseudo { is_well_formed (pair (codes ":status") (codes "200") ∷ post) ≡ false }
-    ensures two_authorities { is_well_formed (pair (codes ":authority") [] ∷ pair (codes ":authority") [] ∷ post)
+    ensures two_authorities { is_well_formed
+        (pair (codes ":authority") [] ∷ pair (codes ":authority") [] ∷ post)
         ≡ false }
 {}

@@ -31,7 +31,8 @@ IsSound (event.Settings size resizes) = size ≤ largest_window
 IsSound event.SettingsAck = ⊤
 IsSound (event.Ping octets) = octets < 2 ^ 64
 IsSound (event.Window stream by) = ((stream ≡ 0) ⊎ IsClientStream stream) × (0 < by) × (by < 2 ^ 31)
-IsSound (event.Call stream headers ends) = IsClientStream stream × (size_of_all headers ≤ largest_list)
+IsSound (event.Call stream headers ends) = IsClientStream stream
+    × (size_of_all headers ≤ largest_list)
 IsSound (event.TooLong stream) = IsClientStream stream
 IsSound (event.Piece stream octets size ends) =
     IsClientStream stream × (length octets ≤ size) × (size ≤ largest_frame)

@@ -10,7 +10,8 @@ ghost use Rattle.h2_events.specs.Items.{Item, Meant, Accepted, Wrote, Read, hear
 /// What is read off one order and then another is what is read off both.
 pub fn orders_join()
     ensures heard { (one other : List Item) → heard (one ++ other) ≡ heard one ++ heard other }
-    ensures written { (one other : List Item) → written (one ++ other) ≡ written one ++ written other }
+    ensures written { (one other : List Item)
+        → written (one ++ other) ≡ written one ++ written other }
     ensures said { (stream : ℕ) (one other : List Item)
         → said_on stream (one ++ other) ≡ said_on stream one ++ said_on stream other }
     ensures read { (one other : List Item) → as_read (one ++ other) ≡ as_read one ++ as_read other }
@@ -18,7 +19,8 @@ pub fn orders_join()
         → events_read (one ++ other) ≡ events_read one ++ events_read other }
     // Frames that were written have nothing but themselves in them.
     ensures frames { (frames : List Frame) → written (map Wrote frames) ≡ frames }
-    ensures silent { (frames : List Frame) → (heard (map Wrote frames) ≡ []) × (as_read (map Wrote frames) ≡ []) }
+    ensures silent { (frames : List Frame)
+        → (heard (map Wrote frames) ≡ []) × (as_read (map Wrote frames) ≡ []) }
     ensures unsaid { (stream : ℕ) (frames : List Frame) → said_on stream (map Wrote frames) ≡ [] }
 {}
 

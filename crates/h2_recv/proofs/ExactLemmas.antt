@@ -7,7 +7,7 @@ use Rattle.h2_frame.proofs.Spelling.{alike, not_part}
 use Rattle.h2_events.specs.declared.event.RecvEvent.{RecvEvent}
 use Rattle.h2_events.specs.Events.{largest_frame}
 use Rattle.h2_calls.specs.declared.peer.Peer.{Peer}
-use Rattle.h2_calls.specs.Outcomes.{Told}
+use Rattle.h2_calls.specs.Outcomes.{EventAndPeer}
 use Rattle.h2_calls.specs.States.{this_side_ends}
 use Rattle.h2_calls.specs.Meanings.{Means}
 use Rattle.h2_calls.specs.Calls.{Moment, read, ended, Calls, AreRead, IsFault, frames_of, causes_of}
@@ -34,11 +34,11 @@ not_too_long octets after f p long =
     let c : get_or octets 2 0 ≡ get_or p.front 2 0 = ap (λ (o : List ℕ). get_or o 2 0) p.joined ∙ get_or_append_left p.front after 0 2 (omega arith) in
     omega (arith, long, least, a, b, c, p.allowed)
 
-told_no_fault : (peer : Peer) (f g : Frame) (told : Told) (code : ℕ) → f ≡ g → Means peer f (Ok told) → IsFault peer g code → ⊥
+told_no_fault : (peer : Peer) (f g : Frame) (told : EventAndPeer) (code : ℕ) → f ≡ g → Means peer f (Ok told) → IsFault peer g code → ⊥
 told_no_fault peer f g told code e p q =
     let same = one_outcome peer f (Ok told) (Err code) p (subst (λ (k : Frame). IsFault peer k code) (sym e) q) in absurd cc
 
-stuck_no_frame : (peer : Peer) (octets after : List ℕ) (f : Frame) (told : Told) → Stuck peer octets → BeginsWith largest_frame octets f after → Means peer f (Ok told) → ⊥
+stuck_no_frame : (peer : Peer) (octets after : List ℕ) (f : Frame) (told : EventAndPeer) → Stuck peer octets → BeginsWith largest_frame octets f after → Means peer f (Ok told) → ⊥
 stuck_no_frame peer octets after f told (inl part) p means =
     not_part largest_frame p.front after f p.spells (subst (λ (o : List ℕ). IsPart largest_frame o) p.joined part)
 stuck_no_frame peer octets after f told (inr (code, inl long)) p means = not_too_long octets after f p long.0
@@ -52,8 +52,8 @@ stuck_first peer last octets a g e two b other same last_is stuck p q =
     stuck_no_frame peer octets p.0 g (record { event = e; peer = q.0 })
     (subst (λ (o : List ℕ). Stuck peer o) (sym same) (subst (λ (k : Peer). Stuck k a) (sym last_is) stuck)) p.1 q.1
 
-same_told : (one other : Told) → ◌≡◌ {A = Result Told ℕ} (Ok one) (Ok other) → (one.event ≡ other.event) × (one.peer ≡ other.peer)
-same_told one other e = let same : one ≡ other = cc in (ap (λ (t : Told). t.event) same, ap (λ (t : Told). t.peer) same)
+same_told : (one other : EventAndPeer) → ◌≡◌ {A = Result EventAndPeer ℕ} (Ok one) (Ok other) → (one.event ≡ other.event) × (one.peer ≡ other.peer)
+same_told one other e = let same : one ≡ other = cc in (ap (λ (t : EventAndPeer). t.event) same, ap (λ (t : EventAndPeer). t.peer) same)
 
 one_run : (peer last other : Peer) (octets a b : List ℕ) (one two : List Moment)
     → LeadingFrames largest_frame octets (frames_of one) a → Calls peer one last → AreRead one → Stuck last a

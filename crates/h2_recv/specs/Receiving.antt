@@ -41,7 +41,8 @@ pub record Opens (begun : ℕ) (piece : List ℕ) (now : ℕ) (behind : List ℕ
   pub behind_is : behind ≡ drop (share begun piece) piece
 
 -- With a piece a receiver comes as far as `after`: these frames stood before it, and led to a peer.
-pub record Reaches (old : Reader) (piece : List ℕ) (moments : List Moment) (after : List ℕ) (begun : ℕ) (peer : Peer) : Type 0 where
+pub record Reaches (old : Reader) (piece : List ℕ) (moments : List Moment) (after : List ℕ)
+    (begun : ℕ) (peer : Peer) : Type 0 where
   pub behind : List ℕ
   pub opened : Opens old.begun piece begun behind
   pub leading : LeadingFrames largest_frame (old.rest ++ behind) (frames_of moments) after
@@ -49,7 +50,8 @@ pub record Reaches (old : Reader) (piece : List ℕ) (moments : List Moment) (af
   pub read : AreRead moments
 
 -- all of a piece is read, up to the beginning of a frame
-pub record Reads (old : Reader) (piece : List ℕ) (moments : List Moment) (new : Reader) : Type 0 where
+pub record Reads (old : Reader) (piece : List ℕ) (moments : List Moment)
+    (new : Reader) : Type 0 where
   pub reaches : Reaches old piece moments new.rest new.begun new.peer
   pub part : IsPart largest_frame new.rest
 

@@ -37,7 +37,8 @@ pub fn one_reading()
         → Reads old piece one new → Faults old piece two code → ⊥ }
     ensures not_astray { (old new : Reading) (piece : List ℕ) (one two : List Moment) (code : ℕ)
         → Reads old piece one new → Astray old piece two code → ⊥ }
-    ensures no_other_fault { (old : Reading) (piece : List ℕ) (one two : List Moment) (code other : ℕ)
+    ensures no_other_fault { (old : Reading) (piece : List ℕ) (one two : List Moment)
+        (code other : ℕ)
         → Faults old piece one code → Astray old piece two other → ⊥ }
 {}
 

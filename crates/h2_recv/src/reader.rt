@@ -1,6 +1,7 @@
 //! Octets of frames in pieces.
 ghost use Rattle.std.specs.Prelude.{◌≡◌, ◌+◌, ◌<◌, ◌≤◌, ℕ, [], ◌++◌, length, take, option_to_list, Ok, Err, IfOk, OnOk, OnErr};
 ghost use Rattle.h2_frame.specs.Frames.{IsPart};
+ghost use Rattle.h2_events.specs.Events.{largest_frame};
 ghost use Rattle.h2_recv.specs.inner.Steps.{IsWithin, Looks, Goes, Fails, Began, Advances, AdvancesTo};
 ghost use Rattle.h2_recv.specs.Receiving.{next_end};
 
@@ -37,7 +38,7 @@ fn next_end(octets: &[u8]) -> usize
 
 // How many octets more there are to the next end.
 pub(crate) fn wanted(octets: &[u8]) -> usize
-    requires { IsPart 16384 octets.now }
+    requires { IsPart largest_frame octets.now }
     ensures some { 0 < result }
     ensures end { length octets.now + result ≡ next_end octets.now }
 {
@@ -63,7 +64,7 @@ impl Reader {
         octets: &[u8],
         out: &mut RecvEvents,
     ) -> Result<(), RecvFault>
-        requires part { IsPart 16384 self.old.rest }
+        requires part { IsPart largest_frame self.old.rest }
         ensures begun { self.new.begun ≡ self.old.begun }
         ensures ok { OnOk result (Goes (self.old.rest ++ octets.now) self.old.peer out.old
             self.new.rest [] self.new.peer out.new) }
@@ -86,12 +87,13 @@ impl Reader {
         octets: &'a [u8],
         out: &mut RecvEvents,
     ) -> Result<&'a [u8], RecvFault>
-        requires part { IsPart 16384 self.old.rest }
+        requires part { IsPart largest_frame self.old.rest }
         requires some { 0 < length octets.now }
         ensures shorter { IfOk result (λ behind. length behind.now < length octets.now) }
         ensures begun { self.new.begun ≡ self.old.begun }
-        ensures part { OnOk result (IsPart 16384 self.new.rest) }
-        ensures goes { IfOk result (λ behind. Advances self.old.peer self.old.rest octets.now out.old
+        ensures part { OnOk result (IsPart largest_frame self.new.rest) }
+        ensures goes { IfOk result
+            (λ behind. Advances self.old.peer self.old.rest octets.now out.old
             self.new.peer self.new.rest behind.now out.new) }
         ensures fault { (code : ℕ) → result ≡ Err (RecvFault.Protocol code)
             → AdvancesTo code self.old.peer self.old.rest octets.now out.old out.new }
@@ -114,12 +116,13 @@ impl Reader {
         octets: &'a [u8],
         out: &mut RecvEvents,
     ) -> Result<&'a [u8], RecvFault>
-        requires part { IsPart 16384 self.old.rest }
+        requires part { IsPart largest_frame self.old.rest }
         requires some { 0 < length octets.now }
         ensures shorter { IfOk result (λ behind. length behind.now < length octets.now) }
         ensures begun { self.new.begun ≡ self.old.begun }
-        ensures part { OnOk result (IsPart 16384 self.new.rest) }
-        ensures goes { IfOk result (λ behind. Advances self.old.peer self.old.rest octets.now out.old
+        ensures part { OnOk result (IsPart largest_frame self.new.rest) }
+        ensures goes { IfOk result
+            (λ behind. Advances self.old.peer self.old.rest octets.now out.old
             self.new.peer self.new.rest behind.now out.new) }
         ensures fault { (code : ℕ) → result ≡ Err (RecvFault.Protocol code)
             → AdvancesTo code self.old.peer self.old.rest octets.now out.old out.new }
@@ -133,7 +136,7 @@ impl Reader {
 
     // Takes as many octets as are there, up to the next end, and answers how many.
     fn take(&mut self, octets: &[u8]) -> Result<usize, NoMemory>
-        requires part { IsPart 16384 self.old.rest }
+        requires part { IsPart largest_frame self.old.rest }
         ensures some { IfOk result (λ taken. 0 < length octets.now → 0 < taken) }
         ensures taken { IfOk result (λ taken. taken ≤ length octets.now) }
         ensures new { IfOk result (λ taken. self.new

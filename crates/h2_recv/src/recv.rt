@@ -1,6 +1,7 @@
 //! The receiver.
 ghost use Rattle.std.specs.Prelude.{◌≡◌, ◌≤◌, ◌<◌, ◌↔◌, ℕ, List, [], length, Ok, Err, OnOk, IsTrue};
 ghost use Rattle.h2_frame.specs.Frames.{IsPart};
+ghost use Rattle.h2_events.specs.Events.{largest_frame};
 ghost use Rattle.h2_calls.specs.Calls.{Moment, frames_of};
 ghost use Rattle.h2_calls.specs.declared.peer.Peer.{Peer as Known};
 ghost use Rattle.h2_recv.specs.declared.reader.Reader.{Reader as Reading};
@@ -29,13 +30,14 @@ pub struct Recv {
 impl Model for Recv {
     ghost use Rattle.std.specs.Prelude.{◌≤◌};
     ghost use Rattle.h2_frame.specs.Frames.{IsPart};
+    ghost use Rattle.h2_events.specs.Events.{largest_frame};
     ghost use Rattle.h2_recv.specs.Receiving.{State, state_of};
 
     ghost Value = { State };
 
     ghost view = { λ r. state_of r.fault r.reader };
 
-    ghost invariant = { λ r. (r.reader.begun ≤ 24) × IsPart 16384 r.reader.rest };
+    ghost invariant = { λ r. (r.reader.begun ≤ 24) × IsPart largest_frame r.reader.rest };
 }
 
 impl Recv {
@@ -129,7 +131,7 @@ impl Reader {
     fn unread(alloc: Global) -> Reader
         ensures is { result ≡ new_reader }
         ensures begun { result.begun ≤ 24 }
-        ensures part { IsPart 16384 result.rest }
+        ensures part { IsPart largest_frame result.rest }
     {
         Reader {
             begun: 0,
@@ -141,7 +143,7 @@ impl Reader {
     // How many octets are kept.
     #[tactic(auto, using(crate::proofs::PieceLemmas::part_length))]
     fn held(&self) -> usize
-        requires part { IsPart 16384 self.now.rest }
+        requires part { IsPart largest_frame self.now.rest }
         ensures value { result ≡ reader_held self.now }
         ensures bounded { result ≤ most_held }
     {
@@ -150,7 +152,7 @@ impl Reader {
 
     fn wanted(&self) -> usize
         requires begun { self.now.begun ≤ 24 }
-        requires part { IsPart 16384 self.now.rest }
+        requires part { IsPart largest_frame self.now.rest }
         ensures is { result ≡ missing self.now }
         ensures some { 0 < result }
         ensures one { (piece after : List ℕ) (moments : List Moment) (begun : ℕ) (peer : Known)
@@ -168,9 +170,9 @@ impl Reader {
 
     fn read(&mut self, alloc: Global, piece: &[u8], out: &mut RecvEvents) -> Result<(), RecvFault>
         requires begun { self.old.begun ≤ 24 }
-        requires part { IsPart 16384 self.old.rest }
+        requires part { IsPart largest_frame self.old.rest }
         ensures begun { self.new.begun ≤ 24 }
-        ensures part { OnOk result (IsPart 16384 self.new.rest) }
+        ensures part { OnOk result (IsPart largest_frame self.new.rest) }
         ensures ok { OnOk result (HasRead self.old piece.now out.old self.new out.new) }
         ensures fault { (code : ℕ) → result ≡ Err (RecvFault.Protocol code)
             → HasFailed code self.old piece.now out.old out.new }

@@ -19,7 +19,12 @@ block_with owes headers = update_owed owes ++ block_of headers
 -- a header block in one frame
 abbrev pub block_frame : ℕ → ℕ → List ℕ → Frame
 block_frame id flags block =
-    frame_of (record { length = length block; kind = headers_kind; flags = flags; stream = id }) block
+    frame_of (record {
+      length = length block;
+      kind = headers_kind;
+      flags = flags;
+      stream = id;
+    }) block
 
 abbrev pub headers_frame : Bool → ℕ → ℕ → List Header → Frame
 headers_frame owes id flags headers = block_frame id flags (block_with owes headers)

@@ -8,7 +8,8 @@ use Rattle.h2_frame.specs.Kinds.{settings_kind, ping_kind, rst_stream_kind, wind
 abbrev pub greeting : Frame
 greeting =
     frame_of (record { length = 12; kind = settings_kind; flags = 0; stream = 0 })
-    (bytes_high_first 2 3 ++ bytes_high_first 4 32 ++ bytes_high_first 2 6 ++ bytes_high_first 4 16384)
+    (bytes_high_first 2 3 ++ bytes_high_first 4 32 ++ bytes_high_first 2 6
+    ++ bytes_high_first 4 16384)
 
 -- SETTINGS with ACK (section 6.5)
 abbrev pub settings_ack : Frame

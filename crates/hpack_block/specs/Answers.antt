@@ -26,7 +26,8 @@ fault_of ended.Bad = Bad
 fault_of ended.NoMemory = NoMemory
 
 -- the block gives the headers, and the table is the last one then
-pub record IsRead (table : Table) (octets : List ℕ) (headers : List Header) (new : State) : Type 0 where
+pub record IsRead (table : Table) (octets : List ℕ) (headers : List Header)
+    (new : State) : Type 0 where
   pub last : Table
   pub block : Block octets table headers last
   pub new_is : new ≡ Ok last

@@ -17,7 +17,8 @@ form_of first =
     else Indexed
 
 -- the index of an entry, with a prefix of 7 bits (section 6.1)
-pub record IsIndexed (table : Table) (octets : List ℕ) (header : Header) (rest : List ℕ) : Type 0 where
+pub record IsIndexed (table : Table) (octets : List ℕ) (header : Header)
+    (rest : List ℕ) : Type 0 where
   pub index : ℕ
   pub is_index : IsInteger 7 octets index rest
   pub entry : entry_at table index ≡ Some header
@@ -25,10 +26,12 @@ pub record IsIndexed (table : Table) (octets : List ℕ) (header : Header) (rest
 -- the name of the entry at an index, or where the index is 0 a string that follows
 abbrev pub IsName : Table → ℕ → List ℕ → List ℕ → List ℕ → Type 0
 IsName table zero octets name rest = IsString octets name rest
-IsName table (suc place) octets name rest = (name_at table (suc place) ≡ Some name) × (octets ≡ rest)
+IsName table (suc place) octets name rest = (name_at table (suc place) ≡ Some name)
+    × (octets ≡ rest)
 
 -- the index of the name, with a prefix of so many bits, the name where the index is 0, and the value (section 6.2)
-pub record IsLiteral (bits : ℕ) (table : Table) (octets : List ℕ) (header : Header) (rest : List ℕ) : Type 0 where
+pub record IsLiteral (bits : ℕ) (table : Table) (octets : List ℕ) (header : Header)
+    (rest : List ℕ) : Type 0 where
   pub index : ℕ
   pub after : List ℕ
   pub last : List ℕ

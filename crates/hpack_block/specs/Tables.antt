@@ -30,7 +30,10 @@ fitting_entries room (entry ∷ entries) =
 -- An entry is added (section 4.4). One that is larger than the table's maximum size empties the table.
 abbrev pub with_entry : Header → Table → Table
 with_entry header table =
-    record { entries = fitting_entries table.maximum (header ∷ table.entries); maximum = table.maximum }
+    record {
+      entries = fitting_entries table.maximum (header ∷ table.entries);
+      maximum = table.maximum;
+    }
 
 -- the maximum size is changed (section 4.3)
 abbrev pub with_maximum : ℕ → Table → Table

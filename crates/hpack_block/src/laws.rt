@@ -37,7 +37,8 @@ pub fn answered_exactly()
 
 /// What is written, a decoder reads back as the same headers, whatever its table, and keeps that.
 pub fn read_back()
-    ensures { (table : Table) (headers : List HeaderValue) (result : Result (List HeaderValue) Fault)
+    ensures { (table : Table) (headers : List HeaderValue)
+        (result : Result (List HeaderValue) Fault)
         (new : State) → All IsShort headers → size_of_all headers ≤ largest_list
         → Answers (Ok table) (block_of headers) result new → result ≢ Err OutOfMemory
         → (result ≡ Ok headers) × (new ≡ Ok table) }

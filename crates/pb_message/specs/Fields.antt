@@ -15,7 +15,8 @@ after_field others octets (Some read) = (read.0 ∷ (others read.1).0, (others r
 -- and what is left
 abbrev pub read_most : ℕ → ℕ → List ℕ → List Field × List ℕ
 read_most zero total octets = ([], octets)
-read_most (suc most) total octets = after_field (read_most most total) octets (front_field total octets)
+read_most (suc most) total octets =
+    after_field (read_most most total) octets (front_field total octets)
 
 unfoldable pub read_from : List ℕ → ℕ → List Field × List ℕ
 read_from octets place =

@@ -46,7 +46,8 @@ held_by message (field ∷ fields) =
 
 -- the member of a oneof of messages that a message holds, by its number, and that member's octets
 abbrev pub member_under : List ℕ → List ℕ → Option (ℕ × List ℕ)
-member_under numbers message = held_by message (one_of (message_members numbers) (all_fields message))
+member_under numbers message =
+    held_by message (one_of (message_members numbers) (all_fields message))
 
 -- some field's number is above this one
 abbrev pub has_number_above : ℕ → List ℕ → Bool

@@ -76,8 +76,10 @@ map_value = 2
 
 -- A map's entry is a message with a key and a value, here texts. What is absent is empty.
 abbrev pub entry_of : List ℕ → List Field → List ℕ × List ℕ
-entry_of entry fields =
-    (unwrap_or (last_octets entry map_key fields) [], unwrap_or (last_octets entry map_value fields) [])
+entry_of entry fields = (
+  unwrap_or (last_octets entry map_key fields) [],
+  unwrap_or (last_octets entry map_value fields) [],
+)
 
 abbrev pub has_key : {V : Type 0} → List ℕ → List ℕ × V → Bool
 has_key key entry = pointwise nat_eq key entry.0

@@ -15,7 +15,8 @@ octets_field number octets = (number * 8 + 2) ∷ (shortest (length octets) ++ o
 -- The only field of a message that `octets_field` spells: its octets are the last of the message.
 abbrev pub octets_body : List ℕ → Body
 octets_body octets =
-    Octets (1 + length (shortest (length octets))) (1 + length (shortest (length octets)) + length octets)
+    Octets (1 + length (shortest (length octets)))
+    (1 + length (shortest (length octets)) + length octets)
 
 -- the body of a field before which so many octets are put
 abbrev pub shifted_body : ℕ → Body → Body
@@ -26,4 +27,7 @@ shifted_body by (Four n) = Four n
 
 abbrev pub shifted : ℕ → List Field → List Field
 shifted by fields =
-    map (λ (field : Field). record { number = field.number; body = shifted_body by field.body }) fields
+    map (λ (field : Field). record {
+      number = field.number;
+      body = shifted_body by field.body;
+    }) fields

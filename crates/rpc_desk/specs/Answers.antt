@@ -10,7 +10,8 @@ use Rattle.book_port.specs.Ports.{PortView, TakesTurn}
 use Rattle.rpc_desk.specs.Tasks.{Task, Says, needs_turn, answer_at, left_at}
 
 -- the turn was answered in full, at the history that it found
-pub record IsDone (rules : Rules) (author : ℕ) (task : Task) (turn : Turn) (result : Result (List ℕ) Refusal) : Type 0 where
+pub record IsDone (rules : Rules) (author : ℕ) (task : Task) (turn : Turn)
+    (result : Result (List ℕ) Refusal) : Type 0 where
   pub answer : result ≡ answer_at rules author task turn.found turn.reading
   pub left : turn.left ≡ left_at rules author task turn.found turn.reading
 

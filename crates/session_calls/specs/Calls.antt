@@ -25,7 +25,8 @@ pub record Call : Type 0 where
   pub ended : Bool
 
 abbrev pub with_piece : List ℕ → Bool → Call → Call
-with_piece octets ended call = record call { octets = call.octets ++ octets; ended = call.ended || ended }
+with_piece octets ended call =
+    record call { octets = call.octets ++ octets; ended = call.ended || ended }
 
 -- the stream of an event of a call
 abbrev pub stream_of : RecvEvent → Option ℕ
@@ -41,7 +42,8 @@ stream_of _ = None
 abbrev pub call_after : RecvEvent → Option Call → Option Call
 call_after (events.Call stream headers ended) call =
     Some (record { headers = Some headers; octets = []; ended = ended })
-call_after (events.TooLong stream) call = Some (record { headers = None; octets = []; ended = false })
+call_after (events.TooLong stream) call =
+    Some (record { headers = None; octets = []; ended = false })
 call_after (events.Piece stream octets size ended) call = option_map (with_piece octets ended) call
 call_after (events.Trailers stream) call = option_map (with_piece [] true) call
 call_after (events.Reset stream) call = None

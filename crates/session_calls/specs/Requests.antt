@@ -16,7 +16,8 @@ still_open None = None
 still_open (Some call) = if is_over call then None else Some call
 
 abbrev pub open_after : ℕ → Option Call → RecvEvent → Option Call
-open_after stream call event = if is_on stream (stream_of event) then still_open (call_after event call) else call
+open_after stream call event = if is_on stream (stream_of event)
+    then still_open (call_after event call) else call
 
 -- the call that is open on a stream after these events
 abbrev pub open_call : ℕ → List RecvEvent → Option Call
@@ -38,7 +39,8 @@ requests_of stream asks = map (λ asked. record { stream = stream; asked = asked
 -- the requests that come with an event, behind the events before it
 abbrev pub requests_on : List RecvEvent → RecvEvent → Option ℕ → List Request
 requests_on heard event None = []
-requests_on heard event (Some stream) = requests_of stream (asks_more event (open_call stream heard))
+requests_on heard event (Some stream) =
+    requests_of stream (asks_more event (open_call stream heard))
 
 abbrev pub requests_with : List RecvEvent → RecvEvent → List Request
 requests_with heard event = requests_on heard event (stream_of event)
@@ -46,7 +48,8 @@ requests_with heard event = requests_on heard event (stream_of event)
 -- the requests of events behind others
 abbrev pub requests_after : List RecvEvent → List RecvEvent → List Request
 requests_after heard [] = []
-requests_after heard (event ∷ events) = requests_with heard event ++ requests_after (heard ++ event ∷ []) events
+requests_after heard (event ∷ events) =
+    requests_with heard event ++ requests_after (heard ++ event ∷ []) events
 
 abbrev pub requests : List RecvEvent → List Request
 requests events = requests_after [] events

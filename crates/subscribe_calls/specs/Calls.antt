@@ -38,7 +38,8 @@ abbrev pub messages_with : CallView → ℕ → View → List SubReply
 messages_with call now view = next_messages call.plan call.stream now view
 
 abbrev pub call_after : CallView → ℕ → View → CallView
-call_after call now view = record call { stream = Some (next_stream call.plan call.stream now view) }
+call_after call now view =
+    record call { stream = Some (next_stream call.plan call.stream now view) }
 
 -- ---- octets
 
@@ -57,7 +58,8 @@ replies_octets schema plan messages = map (reply_octets schema plan) messages
 abbrev pub view_in : Plan → List Entry → View
 view_in plan h = view_of h (patterns_of plan.lines)
 
-pub record IsRunning (plan : Plan) (messages : List SubReply) (h : List Entry) (stream : StreamView) : Type 0 where
+pub record IsRunning (plan : Plan) (messages : List SubReply) (h : List Entry)
+    (stream : StreamView) : Type 0 where
   pub first : Moment
   pub later : List Moment
   pub at : IsStreamAt plan first later messages h stream

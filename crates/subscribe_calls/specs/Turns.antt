@@ -11,7 +11,8 @@ use Rattle.subscribe_calls.specs.Calls.{CallView, new_call, messages_with, call_
 
 -- What comes of a look at this reading. Its view gives the octets of what is said of it, and the call goes on; memory may be
 -- wanting for them, and then the call isn't served any more. A look that is refused leaves the call as it was.
-abbrev pub Answers : List SchemaNode → CallView → ℕ → Result View Refusal → Result (List (List ℕ)) Refusal → CallView → Type 0
+abbrev pub Answers : List SchemaNode → CallView → ℕ → Result View Refusal
+    → Result (List (List ℕ)) Refusal → CallView → Type 0
 Answers schema old now (Ok view) (Ok octets) new =
     (octets ≡ replies_octets schema old.plan (messages_with old now view))
     × (new ≡ call_after old now view)
@@ -28,6 +29,7 @@ pub record TurnsOnce (schema : List SchemaNode) (now : ℕ) (old : CallView) (fr
   pub answers : Answers schema old now look result new
 
 -- It takes the first turn of a call with this plan.
-abbrev pub TurnsAnew : List SchemaNode → ℕ → Plan → PortView → Result (List (List ℕ)) Refusal → PortView → Type 0
+abbrev pub TurnsAnew : List SchemaNode → ℕ → Plan → PortView → Result (List (List ℕ)) Refusal
+    → PortView → Type 0
 TurnsAnew schema now plan from result to =
     (call : CallView) × TurnsOnce schema now (new_call plan) from result call to

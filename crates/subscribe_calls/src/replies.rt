@@ -18,7 +18,8 @@ pub type Messages = Seq<Bytes>;
 
 /// The octets of a SubscribeResponse with the notification.
 fn note_octets(alloc: Global, schema: &Schema, plan: &Plan, note: &Note) -> Result<Bytes, NoMemory>
-    ensures { IfOk result (λ octets. octets ≡ reply_octets schema.now plan.now (replies.Note note.now)) }
+    ensures { IfOk result (λ octets. octets
+        ≡ reply_octets schema.now plan.now (replies.Note note.now)) }
 {
     let mut octets = Bytes::empty(alloc);
     write_note(

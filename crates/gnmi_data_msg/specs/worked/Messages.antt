@@ -18,10 +18,14 @@ plain name = record { name = name; keys = [] }
 -- a path of four elements, one with a key, in its 58 octets
 abbrev mtu_octets : List ℕ
 mtu_octets =
-    26 ∷ 12 ∷ 10 ∷ 10 ∷ codes "interfaces" ++ 26 ∷ 25 ∷ 10 ∷ 9 ∷ codes "interface" ++ 18 ∷ 12 ∷ 10 ∷ 4 ∷ codes "name" ++ 18 ∷ 4 ∷ codes "eth0" ++ 26 ∷ 8 ∷ 10 ∷ 6 ∷ codes "config" ++ 26 ∷ 5 ∷ 10 ∷ 3 ∷ codes "mtu"
+    26 ∷ 12 ∷ 10 ∷ 10 ∷ codes "interfaces" ++ 26 ∷ 25 ∷ 10 ∷ 9 ∷ codes "interface" ++ 18 ∷ 12 ∷ 10
+    ∷ 4 ∷ codes "name" ++ 18 ∷ 4 ∷ codes "eth0" ++ 26 ∷ 8 ∷ 10 ∷ 6 ∷ codes "config" ++ 26 ∷ 5 ∷ 10
+    ∷ 3 ∷ codes "mtu"
 
 path_of-mtu : path_of mtu_octets ≡ Some (record {
-  path = plain (codes "interfaces") ∷ record { name = codes "interface"; keys = (codes "name", codes "eth0") ∷ [] } ∷ plain (codes "config") ∷ plain (codes "mtu") ∷ [];
+  path = plain (codes "interfaces")
+      ∷ record { name = codes "interface"; keys = (codes "name", codes "eth0") ∷ [] }
+      ∷ plain (codes "config") ∷ plain (codes "mtu") ∷ [];
   origin = [];
   target = [];
   old_element = false;
@@ -30,7 +34,8 @@ unfolding path_of elem_of entry_of fields_in read_from front_field front_body fr
 path_of-mtu = refl
 
 -- 18 dc 0b 18 f8 0a: the last scalar
-typed_of-last : typed_of (24 ∷ 220 ∷ 11 ∷ 24 ∷ 248 ∷ 10 ∷ []) ≡ Some (given.Scalar (values.Uint 1400))
+typed_of-last : typed_of (24 ∷ 220 ∷ 11 ∷ 24 ∷ 248 ∷ 10 ∷ [])
+    ≡ Some (given.Scalar (values.Uint 1400))
 unfolding typed_of typed_fields given_in scalar_in number_in fields_in read_from front_field front_body front_octets front_varint is_utf8 chars
 typed_of-last = refl
 
@@ -45,22 +50,28 @@ unfolding typed_of typed_fields given_in scalar_in number_in fields_in read_from
 typed_of-none = refl
 
 -- 3a 03 08 96 01 3a 02 10 02: two occurrences of a decimal are one, 1.50
-typed_of-joined : typed_of (58 ∷ 3 ∷ 8 ∷ 150 ∷ 1 ∷ 58 ∷ 2 ∷ 16 ∷ 2 ∷ []) ≡ Some (given.Scalar (values.Dec (pos 150) 2))
+typed_of-joined : typed_of (58 ∷ 3 ∷ 8 ∷ 150 ∷ 1 ∷ 58 ∷ 2 ∷ 16 ∷ 2 ∷ [])
+    ≡ Some (given.Scalar (values.Dec (pos 150) 2))
 unfolding typed_of typed_fields given_in scalar_in number_in decimal_of fields_in read_from front_field front_body front_octets front_varint is_utf8 chars
 typed_of-joined = refl
 
 -- 3a 06 08 80 01 10 ac 02: a precision of 300
-typed_of-precise : typed_of (58 ∷ 6 ∷ 8 ∷ 128 ∷ 1 ∷ 16 ∷ 172 ∷ 2 ∷ []) ≡ Some (given.Scalar (values.Dec (pos 128) 255))
+typed_of-precise : typed_of (58 ∷ 6 ∷ 8 ∷ 128 ∷ 1 ∷ 16 ∷ 172 ∷ 2 ∷ [])
+    ≡ Some (given.Scalar (values.Dec (pos 128) 255))
 unfolding typed_of typed_fields given_in scalar_in number_in decimal_of fields_in read_from front_field front_body front_octets front_varint is_utf8 chars
 typed_of-precise = refl
 
 -- the same path is written so
-path_message-mtu : path_message (plain (codes "interfaces") ∷ record { name = codes "interface"; keys = (codes "name", codes "eth0") ∷ [] } ∷ plain (codes "config") ∷ plain (codes "mtu") ∷ []) ≡ mtu_octets
+path_message-mtu : path_message
+    (plain (codes "interfaces")
+    ∷ record { name = codes "interface"; keys = (codes "name", codes "eth0") ∷ [] }
+    ∷ plain (codes "config") ∷ plain (codes "mtu") ∷ []) ≡ mtu_octets
 unfolding shortest
 path_message-mtu = refl
 
 -- an empty key and an empty value are left out: 1a 02 12 00
-path_message-empty : path_message (record { name = []; keys = ([], []) ∷ [] } ∷ []) ≡ 26 ∷ 2 ∷ 18 ∷ 0 ∷ []
+path_message-empty : path_message (record { name = []; keys = ([], []) ∷ [] } ∷ [])
+    ≡ 26 ∷ 2 ∷ 18 ∷ 0 ∷ []
 unfolding shortest
 path_message-empty = refl
 

@@ -13,7 +13,8 @@ pub set_call :
 set_call = refl
 
 -- 405 comes before 415.
-pub wrong_in_all : head_of (pair (codes ":method") (codes "GET") ∷ pair (codes ":path") (codes "/") ∷ []) ≡ Http 405
+pub wrong_in_all : head_of
+    (pair (codes ":method") (codes "GET") ∷ pair (codes ":path") (codes "/") ∷ []) ≡ Http 405
 wrong_in_all = refl
 
 -- and 415 before the method
@@ -24,7 +25,8 @@ pub plain_text :
 plain_text = refl
 
 pub no_content_type :
-    head_of (pair (codes ":method") (codes "POST") ∷ pair (codes ":path") (codes "/gnmi.gNMI/Set") ∷ []) ≡ Http 415
+    head_of (pair (codes ":method") (codes "POST") ∷ pair (codes ":path") (codes "/gnmi.gNMI/Set")
+    ∷ []) ≡ Http 415
 no_content_type = refl
 
 pub another_service :

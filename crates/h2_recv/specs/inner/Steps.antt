@@ -37,7 +37,8 @@ Looks old (Err fault.NoMemory) new = ⊤
 
 -- Of octets, those before `after` are frames that lead from a peer to this one and to these events, and the rest are
 -- those of a frame that isn't whole, and what isn't looked at.
-pub record Goes (octets : List ℕ) (start : Peer) (out : List RecvEvent) (rest after : List ℕ) (peer : Peer) (events : List RecvEvent) : Type 0 where
+pub record Goes (octets : List ℕ) (start : Peer) (out : List RecvEvent) (rest after : List ℕ)
+    (peer : Peer) (events : List RecvEvent) : Type 0 where
   pub moments : List Moment
   pub leading : LeadingFrames largest_frame octets (frames_of moments) (rest ++ after)
   pub calls : Calls start moments peer
@@ -46,7 +47,8 @@ pub record Goes (octets : List ℕ) (start : Peer) (out : List RecvEvent) (rest 
   pub part : IsPart largest_frame rest
 
 -- and before `after`, where a connection fault stands
-pub record Fails (octets : List ℕ) (start : Peer) (out : List RecvEvent) (code : ℕ) (events : List RecvEvent) : Type 0 where
+pub record Fails (octets : List ℕ) (start : Peer) (out : List RecvEvent) (code : ℕ)
+    (events : List RecvEvent) : Type 0 where
   pub moments : List Moment
   pub after : List ℕ
   pub peer : Peer

@@ -22,4 +22,5 @@ list_or_fault (Some headers) = Ok headers
 
 -- what is left of a room beside an entry, if it fits
 abbrev pub room_beside : ℕ → Header → Option ℕ
-room_beside room header = if nat_le (size_of header) room then Some (room - size_of header) else None
+room_beside room header = if nat_le (size_of header) room then Some (room - size_of header)
+    else None

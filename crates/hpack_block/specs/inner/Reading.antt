@@ -14,7 +14,8 @@ with_group b (Some higher) = bounded (b % 128 + 128 * higher.0) higher.1
 abbrev pub groups_at : ℕ → List ℕ → Option (ℕ × List ℕ)
 groups_at zero octets = None
 groups_at (suc more) [] = None
-groups_at (suc more) (b ∷ bs) = if nat_lt b 128 then Some (b, bs) else with_group b (groups_at more bs)
+groups_at (suc more) (b ∷ bs) = if nat_lt b 128 then Some (b, bs)
+    else with_group b (groups_at more bs)
 
 abbrev pub above : ℕ → Option (ℕ × List ℕ) → Option (ℕ × List ℕ)
 above most None = None
@@ -22,4 +23,5 @@ above most (Some more) = bounded (most + more.0) more.1
 
 abbrev pub integer_at : ℕ → List ℕ → Option (ℕ × List ℕ)
 integer_at bits [] = None
-integer_at bits (first ∷ after) = if nat_lt (first % 2 ^ bits) (2 ^ bits - 1) then Some (first % 2 ^ bits, after) else above (2 ^ bits - 1) (groups_at most_groups after)
+integer_at bits (first ∷ after) = if nat_lt (first % 2 ^ bits) (2 ^ bits - 1)
+    then Some (first % 2 ^ bits, after) else above (2 ^ bits - 1) (groups_at most_groups after)

@@ -20,11 +20,13 @@ is_message-empty = refl
 
 -- 0a 01 61 12 01 62 0a 01 63: the octets of 1 are joined, and a oneof of 1 and 2 holds the last 1
 -- alone
-message_under-1 : message_under 1 (10 ∷ 1 ∷ 97 ∷ 18 ∷ 1 ∷ 98 ∷ 10 ∷ 1 ∷ 99 ∷ []) ≡ Some (97 ∷ 99 ∷ [])
+message_under-1 : message_under 1 (10 ∷ 1 ∷ 97 ∷ 18 ∷ 1 ∷ 98 ∷ 10 ∷ 1 ∷ 99 ∷ [])
+    ≡ Some (97 ∷ 99 ∷ [])
 unfolding read_from front_varint front_octets front_body front_field
 message_under-1 = refl
 
-member_under-1 : member_under (1 ∷ 2 ∷ []) (10 ∷ 1 ∷ 97 ∷ 18 ∷ 1 ∷ 98 ∷ 10 ∷ 1 ∷ 99 ∷ []) ≡ Some (1, 99 ∷ [])
+member_under-1 : member_under (1 ∷ 2 ∷ []) (10 ∷ 1 ∷ 97 ∷ 18 ∷ 1 ∷ 98 ∷ 10 ∷ 1 ∷ 99 ∷ [])
+    ≡ Some (1, 99 ∷ [])
 unfolding read_from front_varint front_octets front_body front_field
 member_under-1 = refl
 

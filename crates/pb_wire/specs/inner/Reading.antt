@@ -14,7 +14,8 @@ abbrev pub last_place : List ℕ → Option ℕ
 last_place octets = position (λ b. nat_lt b 128) octets
 
 abbrev pub value_in : List ℕ → Option ℕ
-value_in octets = if nat_lt (number_of_groups octets) (2 ^ 64) then Some (number_of_groups octets) else None
+value_in octets = if nat_lt (number_of_groups octets) (2 ^ 64) then Some (number_of_groups octets)
+    else None
 
 abbrev pub spelling_at : List ℕ → Option (List ℕ × List ℕ)
 spelling_at octets = do
@@ -28,13 +29,15 @@ varint_at octets = do
   Some (n, parts.1)
 
 abbrev pub number_at : Width → List ℕ → Option (ℕ × List ℕ)
-number_at w octets = if nat_lt (length octets) (byte_len w) then None else Some (from_le_bytes w (take (byte_len w) octets), drop (byte_len w) octets)
+number_at w octets = if nat_lt (length octets) (byte_len w) then None
+    else Some (from_le_bytes w (take (byte_len w) octets), drop (byte_len w) octets)
 
 -- `total` octets are in the message, of which these are the last
 unfoldable pub delimited_at : ℕ → List ℕ → Option (Body × List ℕ)
 delimited_at total octets = do
   n ← varint_at octets
-  if nat_lt (length n.1) n.0 then None else Some (Octets (total - length n.1) (total - length n.1 + n.0), drop n.0 n.1)
+  if nat_lt (length n.1) n.0 then None
+      else Some (Octets (total - length n.1) (total - length n.1 + n.0), drop n.0 n.1)
 
 unfoldable pub body_at : ℕ → ℕ → List ℕ → Option (Body × List ℕ)
 body_at total kind octets =

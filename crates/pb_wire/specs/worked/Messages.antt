@@ -21,7 +21,8 @@ number_of_groups-150 = refl
 number_of_groups-long : number_of_groups (150 ∷ 129 ∷ 128 ∷ 0 ∷ []) ≡ 150
 number_of_groups-long = refl
 
-number_of_groups-largest : number_of_groups (255 ∷ 255 ∷ 255 ∷ 255 ∷ 255 ∷ 255 ∷ 255 ∷ 255 ∷ 255 ∷ 1 ∷ []) ≡ 2 ^ 64 - 1
+number_of_groups-largest : number_of_groups
+    (255 ∷ 255 ∷ 255 ∷ 255 ∷ 255 ∷ 255 ∷ 255 ∷ 255 ∷ 255 ∷ 1 ∷ []) ≡ 2 ^ 64 - 1
 number_of_groups-largest = refl
 
 IsVarint-150 : IsVarint (150 ∷ 1 ∷ []) 150
@@ -31,7 +32,8 @@ shortest-150 : shortest 150 ≡ 150 ∷ 1 ∷ []
 unfolding shortest
 shortest-150 = refl
 
-shortest-largest : shortest (2 ^ 64 - 1) ≡ 255 ∷ 255 ∷ 255 ∷ 255 ∷ 255 ∷ 255 ∷ 255 ∷ 255 ∷ 255 ∷ 1 ∷ []
+shortest-largest : shortest (2 ^ 64 - 1)
+    ≡ 255 ∷ 255 ∷ 255 ∷ 255 ∷ 255 ∷ 255 ∷ 255 ∷ 255 ∷ 255 ∷ 1 ∷ []
 unfolding shortest
 shortest-largest = refl
 
@@ -41,7 +43,8 @@ unfolding shortest
 varint_field-150 = refl
 
 -- 12 07 74 65 73 74 69 6e 67
-octets_field-testing : octets_field 2 (116 ∷ 101 ∷ 115 ∷ 116 ∷ 105 ∷ 110 ∷ 103 ∷ []) ≡ 18 ∷ 7 ∷ 116 ∷ 101 ∷ 115 ∷ 116 ∷ 105 ∷ 110 ∷ 103 ∷ []
+octets_field-testing : octets_field 2 (116 ∷ 101 ∷ 115 ∷ 116 ∷ 105 ∷ 110 ∷ 103 ∷ [])
+    ≡ 18 ∷ 7 ∷ 116 ∷ 101 ∷ 115 ∷ 116 ∷ 105 ∷ 110 ∷ 103 ∷ []
 unfolding shortest
 octets_field-testing = refl
 
@@ -66,7 +69,8 @@ IsMessage-150 = record {
 shifted-places : shifted 3 (varint 1 150 ∷ octets 2 2 4 ∷ []) ≡ varint 1 150 ∷ octets 2 5 7 ∷ []
 shifted-places = refl
 
-varints-3 : varints 3 (varint 3 1500 ∷ octets 3 0 1 ∷ varint 4 7 ∷ varint 3 1400 ∷ []) ≡ 1500 ∷ 1400 ∷ []
+varints-3 : varints 3 (varint 3 1500 ∷ octets 3 0 1 ∷ varint 4 7 ∷ varint 3 1400 ∷ [])
+    ≡ 1500 ∷ 1400 ∷ []
 varints-3 = refl
 
 last_scalar-3 : last_scalar 3 (varint 3 1500 ∷ varint 3 1400 ∷ varint 4 7 ∷ []) ≡ Some 1400
@@ -96,7 +100,9 @@ last_octets-kind : last_octets three 1 (octets 1 2 3 ∷ varint 1 5 ∷ []) ≡ 
 last_octets-kind = refl
 
 -- the member 2 between ends the first run of the member 1; the unknown field 9 does not
-one_of-run : one_of ((1, 2) ∷ (2, 2) ∷ []) (octets 1 2 3 ∷ octets 2 5 6 ∷ octets 1 8 9 ∷ varint 9 0 ∷ octets 1 12 13 ∷ []) ≡ octets 1 8 9 ∷ octets 1 12 13 ∷ []
+one_of-run : one_of ((1, 2) ∷ (2, 2) ∷ [])
+    (octets 1 2 3 ∷ octets 2 5 6 ∷ octets 1 8 9 ∷ varint 9 0 ∷ octets 1 12 13 ∷ [])
+    ≡ octets 1 8 9 ∷ octets 1 12 13 ∷ []
 one_of-run = refl
 
 -- a member with another wire type is skipped
@@ -104,14 +110,17 @@ one_of-kind : one_of ((1, 2) ∷ (2, 0) ∷ []) (octets 1 2 3 ∷ octets 2 5 6 �
 one_of-kind = refl
 
 -- 0a 01 6b 12 01 76, and 12 01 76 with no key
-entry_of-both : entry_of (10 ∷ 1 ∷ 107 ∷ 18 ∷ 1 ∷ 118 ∷ []) (octets 1 2 3 ∷ octets 2 5 6 ∷ []) ≡ (107 ∷ [], 118 ∷ [])
+entry_of-both : entry_of (10 ∷ 1 ∷ 107 ∷ 18 ∷ 1 ∷ 118 ∷ []) (octets 1 2 3 ∷ octets 2 5 6 ∷ [])
+    ≡ (107 ∷ [], 118 ∷ [])
 entry_of-both = refl
 
 entry_of-no_key : entry_of (18 ∷ 1 ∷ 118 ∷ []) (octets 2 2 3 ∷ []) ≡ ([], 118 ∷ [])
 entry_of-no_key = refl
 
-last_entries-name : last_entries {V = ℕ} ((1 ∷ [], 5) ∷ (2 ∷ [], 6) ∷ (1 ∷ [], 7) ∷ []) ≡ (2 ∷ [], 6) ∷ (1 ∷ [], 7) ∷ []
+last_entries-name : last_entries {V = ℕ} ((1 ∷ [], 5) ∷ (2 ∷ [], 6) ∷ (1 ∷ [], 7) ∷ [])
+    ≡ (2 ∷ [], 6) ∷ (1 ∷ [], 7) ∷ []
 last_entries-name = refl
 
-value_of_key-name : value_of_key {V = ℕ} (1 ∷ []) ((1 ∷ [], 5) ∷ (2 ∷ [], 6) ∷ (1 ∷ [], 7) ∷ []) ≡ Some 7
+value_of_key-name : value_of_key {V = ℕ} (1 ∷ []) ((1 ∷ [], 5) ∷ (2 ∷ [], 6) ∷ (1 ∷ [], 7) ∷ [])
+    ≡ Some 7
 value_of_key-name = refl

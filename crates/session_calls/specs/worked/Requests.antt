@@ -28,7 +28,8 @@ pub one_piece :
 one_piece = refl
 
 pub two_pieces :
-    requests (Call 1 set false ∷ Piece 1 (0 ∷ 0 ∷ 0 ∷ []) 3 false ∷ Ping 0 ∷ Piece 1 (0 ∷ 1 ∷ 7 ∷ []) 3 true ∷ [])
+    requests (Call 1 set false ∷ Piece 1 (0 ∷ 0 ∷ 0 ∷ []) 3 false ∷ Ping 0
+    ∷ Piece 1 (0 ∷ 1 ∷ 7 ∷ []) 3 true ∷ [])
     ≡ asks_for 1 (asks.Call methods.Set (7 ∷ []))
 two_pieces = refl
 
@@ -51,11 +52,13 @@ second_message = refl
 
 -- A fault is answered at once, and what follows on the stream makes no further request.
 pub compressed :
-    requests (Call 1 set false ∷ Piece 1 (1 ∷ 0 ∷ 0 ∷ 0 ∷ 9 ∷ []) 5 false ∷ Piece 1 (7 ∷ []) 1 true ∷ [])
+    requests (Call 1 set false ∷ Piece 1 (1 ∷ 0 ∷ 0 ∷ 0 ∷ 9 ∷ []) 5 false
+    ∷ Piece 1 (7 ∷ []) 1 true ∷ [])
     ≡ asks_for 1 (asks.Refused refusals.Compressed)
 compressed = refl
 
-pub reset : requests (Call 1 set false ∷ Reset 1 ∷ Piece 1 (0 ∷ 0 ∷ 0 ∷ 0 ∷ 0 ∷ []) 5 true ∷ []) ≡ []
+pub reset : requests (Call 1 set false ∷ Reset 1 ∷ Piece 1 (0 ∷ 0 ∷ 0 ∷ 0 ∷ 0 ∷ []) 5 true
+    ∷ []) ≡ []
 reset = refl
 
 abbrev subscribe : List Header
@@ -63,13 +66,18 @@ subscribe = headers_to (codes "/gnmi.gNMI/Subscribe")
 
 -- A Subscribe call asks with its first message, before the peer ends the stream, with each one behind it, and with its end.
 pub first_and_later :
-    requests (Call 1 subscribe false ∷ Piece 1 (0 ∷ 0 ∷ 0 ∷ 0 ∷ 1 ∷ 7 ∷ []) 6 false ∷ Piece 1 (0 ∷ 0 ∷ 0 ∷ 0 ∷ 0 ∷ 0 ∷ []) 6 false ∷ Piece 1 (0 ∷ 0 ∷ 0 ∷ 1 ∷ 8 ∷ []) 5 true ∷ [])
-    ≡ asks_for 1 (asks.Subscribe (7 ∷ [])) ++ asks_for 1 (asks.Later (later.Message [])) ++ asks_for 1 (asks.Later (later.Message (8 ∷ []))) ++ asks_for 1 (asks.Later later.End)
+    requests (Call 1 subscribe false ∷ Piece 1 (0 ∷ 0 ∷ 0 ∷ 0 ∷ 1 ∷ 7 ∷ []) 6 false
+    ∷ Piece 1 (0 ∷ 0 ∷ 0 ∷ 0 ∷ 0 ∷ 0 ∷ []) 6 false ∷ Piece 1 (0 ∷ 0 ∷ 0 ∷ 1 ∷ 8 ∷ []) 5 true ∷ [])
+    ≡ asks_for 1 (asks.Subscribe (7 ∷ [])) ++ asks_for 1 (asks.Later (later.Message []))
+    ++ asks_for 1 (asks.Later (later.Message (8 ∷ []))) ++ asks_for 1 (asks.Later later.End)
 first_and_later = refl
 
 pub fault_behind_it :
-    requests (Call 1 subscribe false ∷ Piece 1 (0 ∷ 0 ∷ 0 ∷ 0 ∷ 1 ∷ 7 ∷ 1 ∷ 0 ∷ 0 ∷ 0 ∷ 9 ∷ []) 11 false ∷ Piece 1 (0 ∷ 0 ∷ 0 ∷ 0 ∷ 0 ∷ []) 5 true ∷ [])
-    ≡ asks_for 1 (asks.Subscribe (7 ∷ [])) ++ asks_for 1 (asks.Later (later.Fault refusals.Compressed))
+    requests (Call 1 subscribe false
+    ∷ Piece 1 (0 ∷ 0 ∷ 0 ∷ 0 ∷ 1 ∷ 7 ∷ 1 ∷ 0 ∷ 0 ∷ 0 ∷ 9 ∷ []) 11 false
+    ∷ Piece 1 (0 ∷ 0 ∷ 0 ∷ 0 ∷ 0 ∷ []) 5 true ∷ [])
+    ≡ asks_for 1 (asks.Subscribe (7 ∷ []))
+    ++ asks_for 1 (asks.Later (later.Fault refusals.Compressed))
 fault_behind_it = refl
 
 pub ended_within_a_later_one :
@@ -78,7 +86,8 @@ pub ended_within_a_later_one :
 ended_within_a_later_one = refl
 
 pub fault_before_it :
-    requests (Call 1 subscribe false ∷ Piece 1 (1 ∷ 0 ∷ 0 ∷ 0 ∷ 9 ∷ []) 5 false ∷ Piece 1 (0 ∷ 0 ∷ 0 ∷ 0 ∷ 0 ∷ []) 5 true ∷ [])
+    requests (Call 1 subscribe false ∷ Piece 1 (1 ∷ 0 ∷ 0 ∷ 0 ∷ 9 ∷ []) 5 false
+    ∷ Piece 1 (0 ∷ 0 ∷ 0 ∷ 0 ∷ 0 ∷ []) 5 true ∷ [])
     ≡ asks_for 1 (asks.Refused refusals.Compressed)
 fault_before_it = refl
 
@@ -87,10 +96,12 @@ pub ended_within_it :
     ≡ asks_for 1 (asks.Refused refusals.BadSubscribe)
 ended_within_it = refl
 
-pub ended_before_it : requests (Call 1 subscribe true ∷ []) ≡ asks_for 1 (asks.Refused refusals.BadSubscribe)
+pub ended_before_it : requests (Call 1 subscribe true ∷ [])
+    ≡ asks_for 1 (asks.Refused refusals.BadSubscribe)
 ended_before_it = refl
 
-pub no_such_method : requests (Call 1 (headers_to (codes "/x")) false ∷ []) ≡ asks_for 1 (asks.Refused refusals.NoMethod)
+pub no_such_method : requests (Call 1 (headers_to (codes "/x")) false ∷ [])
+    ≡ asks_for 1 (asks.Refused refusals.NoMethod)
 no_such_method = refl
 
 pub another_method_of_http : requests (Call 1 [] true ∷ []) ≡ asks_for 1 (asks.Http 405)
@@ -102,5 +113,6 @@ long_list_of_headers = refl
 -- in the order in which they are whole
 pub two_streams :
     requests (Call 1 set false ∷ Call 3 set true ∷ Piece 1 (0 ∷ 0 ∷ 0 ∷ 0 ∷ 0 ∷ []) 5 true ∷ [])
-    ≡ record { stream = 3; asked = asks.Refused refusals.BadMessage } ∷ record { stream = 1; asked = asks.Call methods.Set [] } ∷ []
+    ≡ record { stream = 3; asked = asks.Refused refusals.BadMessage }
+    ∷ record { stream = 1; asked = asks.Call methods.Set [] } ∷ []
 two_streams = refl
