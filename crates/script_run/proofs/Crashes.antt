@@ -22,7 +22,7 @@ use Rattle.script_text.specs.declared.line.Line.{Line}
 use Rattle.script_text.specs.declared.line.Line.TheVariants as lines
 use Rattle.script_run.specs.AnswerLines.{event_reply, line_answer, look_reply}
 use Rattle.script_run.specs.Restarts.{Restarts, Takes, TakesBy, restarted_state}
-use Rattle.script_run.specs.ScriptStates.{ScriptState, rules_in, event_of_look, line_event, line_look, looked, arming_with, book_in, book_behind, state_after}
+use Rattle.script_run.specs.ScriptStates.{ScriptState, rules_in, event_of_look, line_event, line_look, look_answer, arming_with, book_in, book_behind, state_after}
 use Rattle.script_run.specs.Stops.{Image, OpensAgain, Restarted, calls_to_open}
 use Rattle.script_run.specs.Turns.{BookState, doubt_at, entered, entered_by, event_entry, failed_call, failed_first, look_event, patterns_in, request_reply, settled, settled_by, takes_turn, turn, unless_failed}
 use Rattle.script_run.specs.laws.CrashLaws.{DisksRunOn, IsReopened, IsAttempt, ReopensHistory, StopsReopen, StopsEndTrials, AcknowledgedStay, ShownStay, DoubtsAreSettled, entry_asked}
@@ -405,7 +405,7 @@ record Shown (line : Line) (state : ScriptState) (view : View) : Type 0 where
   shows : view ≡ view_of (after_expiry state.history state.reading) patterns
   history : (state_after line state).history ≡ after_expiry state.history state.reading
 
-shown_look : (line : Line) (state : ScriptState) (view : View) (patterns : List (List Elem)) → line_look line state ≡ Some patterns → looked line state ≡ Ok view → Shown line state view
+shown_look : (line : Line) (state : ScriptState) (view : View) (patterns : List (List Elem)) → line_look line state ≡ Some patterns → look_answer line state ≡ Ok view → Shown line state view
 shown_look line state view patterns some is =
     let event : line_event line state ≡ Some (look_event state.reading) = look_is_event line state patterns some in
     let parts = seen_by (book_behind (line_event line state) state).failed (view_of (after_expiry state.history state.reading) (patterns_in (line_look line state))) view is in
@@ -417,7 +417,7 @@ shown_look line state view patterns some is =
     }
 
 -- which is the part of the state that its line leaves
-pub shown_part : (line : Line) (state : ScriptState) (view : View) (patterns : List (List Elem)) → line_look line state ≡ Some patterns → looked line state ≡ Ok view → view ≡ view_of (state_after line state).history patterns
+pub shown_part : (line : Line) (state : ScriptState) (view : View) (patterns : List (List Elem)) → line_look line state ≡ Some patterns → look_answer line state ≡ Ok view → view ≡ view_of (state_after line state).history patterns
 shown_part line state view patterns some is =
     let event : line_event line state ≡ Some (look_event state.reading) = look_is_event line state patterns some in
     let parts = seen_by (book_behind (line_event line state) state).failed (view_of (after_expiry state.history state.reading) (patterns_in (line_look line state))) view is in
@@ -439,7 +439,7 @@ shown_event line state view (Some event) some is =
 
 shown : (line : Line) (state : ScriptState) (view : View) (look : Option (List (List Elem))) → line_look line state ≡ look → look_reply look line state ≡ Some (OfGet (Ok view)) → Shown line state view
 shown line state view None none is = shown_event line state view (line_event line state) refl is
-shown line state view (Some patterns) some is = let seen : looked line state ≡ Ok view = cc is in shown_look line state view patterns some seen
+shown line state view (Some patterns) some is = let seen : look_answer line state ≡ Ok view = cc is in shown_look line state view patterns some seen
 
 pub shown_stay : ShownStay
 shown_stay line more state left view is answered =

@@ -27,10 +27,10 @@ use Rattle.script_run.specs.AnswerLines.{line_answer}
 use Rattle.script_run.specs.CallViews.{PollCall, StreamCall}
 use Rattle.script_run.specs.OpenCalls.{call_at, call_named, has_name, with_call, without_call, without_place}
 use Rattle.script_run.specs.Restarts.{Takes, TakesBy, restarted_state}
-use Rattle.script_run.specs.ScriptStates.{ScriptState, fresh, line_look, line_step, looked, state_after}
+use Rattle.script_run.specs.ScriptStates.{ScriptState, fresh, line_look, line_step, look_answer, state_after}
 use Rattle.script_run.specs.Stops.{Restarted}
 use Rattle.script_run.specs.declared.subscribing.CallReply.TheVariants as replies
-use Rattle.script_run.specs.Subscribing.{CallStep, answered, calls_left, end_step, open_by, once_reply, open_look, open_planned, open_step, planned_look, poll_look, poll_step, poll_turn, stream_turn, sub_ask, turn_look, turn_step}
+use Rattle.script_run.specs.Subscribing.{CallStep, step_with, calls_left, end_step, open_by, once_reply, open_look, open_planned, open_step, planned_look, poll_look, poll_step, poll_turn, stream_turn, sub_ask, turn_look, turn_step}
 use Rattle.script_run.specs.declared.calls.NamedCall.{NamedCall}
 use Rattle.script_run.specs.declared.calls.OpenCall.{OpenCall}
 use Rattle.script_run.specs.declared.calls.OpenCall.TheVariants as opened
@@ -145,7 +145,7 @@ module _ (h : List Entry) where
   open_over : (author : ℕ) (name : List ℕ) (mode : ListMode) (only : Bool) (subs : List SubLine) (now : ℕ) (result : Result View Refusal) (calls : List NamedCall) → AreOver h calls → Shows (open_look name mode only subs calls) result → AreOver h (open_step author name mode only subs now result calls).calls
   open_over author name mode only subs now result calls all shows = by (is_some (call_named name calls)) shows
     where
-      by : (taken : Bool) → Shows (if taken then None else planned_look mode (plan_of (sub_ask mode only subs))) result → AreOver h (if taken then answered replies.Taken calls else open_planned author name mode (plan_of (sub_ask mode only subs)) now result calls).calls
+      by : (taken : Bool) → Shows (if taken then None else planned_look mode (plan_of (sub_ask mode only subs))) result → AreOver h (if taken then step_with replies.Taken calls else open_planned author name mode (plan_of (sub_ask mode only subs)) now result calls).calls
       by true shows = all
       by false shows = planned_over author name mode (plan_of (sub_ask mode only subs)) now result calls all shows
 
@@ -166,10 +166,10 @@ module _ (h : List Entry) where
   end_over name None calls all = all_without (position (has_name name) calls) calls all
   end_over name (Some call) calls all = all_without (position (has_name name) calls) calls all
 
-  line_over : (line : Line) (state : ScriptState) → AreOver h state.calls → Shows (line_look line state) (looked line state) → AreOver h (calls_left (line_step line state) state.calls)
-  line_over (lines.Open author name mode only) state all shows = open_over author name mode only state.subs state.reading (looked (lines.Open author name mode only) state) state.calls all shows
-  line_over (lines.Turn name) state all shows = turn_over name (call_named name state.calls) state.reading (looked (lines.Turn name) state) state.calls refl all shows
-  line_over (lines.Poll name) state all shows = poll_over name (call_named name state.calls) (looked (lines.Poll name) state) state.calls all
+  line_over : (line : Line) (state : ScriptState) → AreOver h state.calls → Shows (line_look line state) (look_answer line state) → AreOver h (calls_left (line_step line state) state.calls)
+  line_over (lines.Open author name mode only) state all shows = open_over author name mode only state.subs state.reading (look_answer (lines.Open author name mode only) state) state.calls all shows
+  line_over (lines.Turn name) state all shows = turn_over name (call_named name state.calls) state.reading (look_answer (lines.Turn name) state) state.calls refl all shows
+  line_over (lines.Poll name) state all shows = poll_over name (call_named name state.calls) (look_answer (lines.Poll name) state) state.calls all
   line_over (lines.End name) state all shows = end_over name (call_named name state.calls) state.calls all
   line_over (lines.At reading) state all shows = all
   line_over (lines.Add act path value) state all shows = all
@@ -189,7 +189,7 @@ calls_behind : (line : Line) (state : ScriptState) → (state_after line state).
 unfolding state_after
 calls_behind line state = refl
 
-shows_by : (line : Line) (state : ScriptState) (look : Option (List (List Elem))) → line_look line state ≡ look → Shows (state_after line state).history look (looked line state)
+shows_by : (line : Line) (state : ScriptState) (look : Option (List (List Elem))) → line_look line state ≡ look → Shows (state_after line state).history look (look_answer line state)
 shows_by line state None is = tt
 shows_by line state (Some patterns) is = λ view seen. shown_part line state view patterns is seen
 
@@ -229,7 +229,7 @@ record Said (h : List Entry) (name : List ℕ) (call : StreamCall) (now : ℕ) (
   note_is : note ≡ note_of (turn_input_of call.stream now view) view.stamp
   left_is : left ≡ with_call name (opened.Stream (record call { stream = stream_after call.stream now view })) (without_call name calls)
 
-said_by : (h : List Entry) (name : List ℕ) (call : StreamCall) (now : ℕ) (result : Result View Refusal) (note : Option Note) (calls left : List NamedCall) → ((view : View) → result ≡ Ok view → view ≡ view_of h (patterns_of call.stream.lines)) → stream_turn name call now result calls ≡ answered (replies.Turned note) left → Said h name call now note calls left
+said_by : (h : List Entry) (name : List ℕ) (call : StreamCall) (now : ℕ) (result : Result View Refusal) (note : Option Note) (calls left : List NamedCall) → ((view : View) → result ≡ Ok view → view ≡ view_of h (patterns_of call.stream.lines)) → stream_turn name call now result calls ≡ step_with (replies.Turned note) left → Said h name call now note calls left
 said_by h name call now (Err refusal) note calls left shows is = absurd (apart (ap (λ (s : CallStep). s.reply) is))
   where
     apart : replies.Refused refusal ≡ replies.Turned note → ⊥
@@ -244,9 +244,9 @@ turns_say name state call note calls plan first later messages is step at =
     let line : Line = lines.Turn name in
     let h : List Entry = (state_after line state).history in
     let look : line_look line state ≡ Some (patterns_of call.stream.lines) = ap turn_look is in
-    let both : Some (turn_step name (Some (opened.Stream call)) state.reading (looked line state) state.calls) ≡ Some (answered (replies.Turned note) calls) = ap (λ c. Some (turn_step name c state.reading (looked line state) state.calls)) (sym is) ∙ step in
-    let taken : stream_turn name call state.reading (looked line state) state.calls ≡ answered (replies.Turned note) calls = cc both in
-    let said = said_by h name call state.reading (looked line state) note state.calls calls (λ view seen. shown_part line state view (patterns_of call.stream.lines) look seen) taken in
+    let both : Some (turn_step name (Some (opened.Stream call)) state.reading (look_answer line state) state.calls) ≡ Some (step_with (replies.Turned note) calls) = ap (λ c. Some (turn_step name c state.reading (look_answer line state) state.calls)) (sym is) ∙ step in
+    let taken : stream_turn name call state.reading (look_answer line state) state.calls ≡ step_with (replies.Turned note) calls = cc both in
+    let said = said_by h name call state.reading (look_answer line state) note state.calls calls (λ view seen. shown_part line state view (patterns_of call.stream.lines) look seen) taken in
     let on : GoesOn state.history h = line_goes_on state.history state.reading (line_answer line state) h (answers_tell line state) in
     let stays : IsStreamAt plan first later messages h call.stream = subst (λ g. IsStreamAt plan first later messages g call.stream) (sym on.whole) (runs_stay plan first later messages state.history on.later call.stream at) in
     let moment : Moment = moment_of call.stream state.reading (length h) in
@@ -285,7 +285,7 @@ record OnceBy (h : List Entry) (made : Result Plan Refusal) (now : ℕ) (note : 
   left_is : left ≡ calls
   begun : Begins plan h now note stream
 
-not_began : (said : Option Note) (step : CallStep) (calls : List NamedCall) → step ≡ answered (replies.Began said) calls → (step.reply ≡ replies.Began said → ⊥) → ⊥
+not_began : (said : Option Note) (step : CallStep) (calls : List NamedCall) → step ≡ step_with (replies.Began said) calls → (step.reply ≡ replies.Began said → ⊥) → ⊥
 not_began said step calls is apart = apart (ap (λ (s : CallStep). s.reply) is)
 
 once_no_began : (plan : Plan) (result : Result View Refusal) (said : Option Note) → once_reply plan result ≡ replies.Began said → ⊥
@@ -293,7 +293,7 @@ once_no_began plan (Ok view) said is = cc is
 once_no_began plan (Err refusal) said is = cc is
 
 module _ (h : List Entry) (author : ℕ) (name : List ℕ) (now : ℕ) (note : Option Note) (calls left : List NamedCall) where
-  opens_by : (mode : ListMode) (plan : Plan) (result : Result View Refusal) → Shows h (planned_look mode (Ok plan)) result → open_by author name mode plan now result calls ≡ answered (replies.Began note) left → OpensBy h author name (Ok plan) now note calls left
+  opens_by : (mode : ListMode) (plan : Plan) (result : Result View Refusal) → Shows h (planned_look mode (Ok plan)) result → open_by author name mode plan now result calls ≡ step_with (replies.Began note) left → OpensBy h author name (Ok plan) now note calls left
   opens_by modes.Poll plan result shows is = absurd (not_began note _ left is (λ same. cc same))
   opens_by modes.Stream plan (Ok view) shows is =
       let began : replies.Began (begins_with plan.updates_only view) ≡ replies.Began note = ap (λ (s : CallStep). s.reply) is in
@@ -303,15 +303,15 @@ module _ (h : List Entry) (author : ℕ) (name : List ℕ) (now : ℕ) (note : O
   opens_by modes.Once plan result shows is = absurd (once_no_began plan result note (ap (λ (s : CallStep). s.reply) is))
   opens_by modes.Other plan result shows is = absurd (once_no_began plan result note (ap (λ (s : CallStep). s.reply) is))
 
-  opens_planned : (mode : ListMode) (made : Result Plan Refusal) (result : Result View Refusal) → Shows h (planned_look mode made) result → open_planned author name mode made now result calls ≡ answered (replies.Began note) left → OpensBy h author name made now note calls left
+  opens_planned : (mode : ListMode) (made : Result Plan Refusal) (result : Result View Refusal) → Shows h (planned_look mode made) result → open_planned author name mode made now result calls ≡ step_with (replies.Began note) left → OpensBy h author name made now note calls left
   opens_planned mode (Err refusal) result shows is = absurd (not_began note _ left is (λ same. cc same))
   opens_planned mode (Ok plan) result shows is = opens_by mode plan result shows is
 
-  opens_named : (mode : ListMode) (made : Result Plan Refusal) (result : Result View Refusal) (taken : Bool) → Shows h (if taken then None else planned_look mode made) result → (if taken then answered replies.Taken calls else open_planned author name mode made now result calls) ≡ answered (replies.Began note) left → OpensBy h author name made now note calls left
+  opens_named : (mode : ListMode) (made : Result Plan Refusal) (result : Result View Refusal) (taken : Bool) → Shows h (if taken then None else planned_look mode made) result → (if taken then step_with replies.Taken calls else open_planned author name mode made now result calls) ≡ step_with (replies.Began note) left → OpensBy h author name made now note calls left
   opens_named mode made result true shows is = absurd (not_began note _ left is (λ same. cc same))
   opens_named mode made result false shows is = opens_planned mode made result shows is
 
-  replied_once : (mode : ListMode) (plan : Plan) (result : Result View Refusal) → ((view : View) → result ≡ Ok view → view ≡ view_of h (patterns_of plan.lines)) → answered (once_reply plan result) calls ≡ answered (replies.Once note) left → OnceBy h (Ok plan) now note calls left
+  replied_once : (mode : ListMode) (plan : Plan) (result : Result View Refusal) → ((view : View) → result ≡ Ok view → view ≡ view_of h (patterns_of plan.lines)) → step_with (once_reply plan result) calls ≡ step_with (replies.Once note) left → OnceBy h (Ok plan) now note calls left
   replied_once mode plan (Ok view) shows is =
       let once : replies.Once (begins_with plan.updates_only view) ≡ replies.Once note = ap (λ (s : CallStep). s.reply) is in
       let same : begins_with plan.updates_only view ≡ note = cc once in
@@ -321,7 +321,7 @@ module _ (h : List Entry) (author : ℕ) (name : List ℕ) (now : ℕ) (note : O
       apart : replies.Refused refusal ≡ replies.Once note → ⊥
       apart same = cc same
 
-  once_by : (mode : ListMode) (plan : Plan) (result : Result View Refusal) → Shows h (planned_look mode (Ok plan)) result → open_by author name mode plan now result calls ≡ answered (replies.Once note) left → OnceBy h (Ok plan) now note calls left
+  once_by : (mode : ListMode) (plan : Plan) (result : Result View Refusal) → Shows h (planned_look mode (Ok plan)) result → open_by author name mode plan now result calls ≡ step_with (replies.Once note) left → OnceBy h (Ok plan) now note calls left
   once_by modes.Poll plan result shows is = absurd (apart (ap (λ (s : CallStep). s.reply) is))
     where
       apart : replies.Opened ≡ replies.Once note → ⊥
@@ -337,14 +337,14 @@ module _ (h : List Entry) (author : ℕ) (name : List ℕ) (now : ℕ) (note : O
   once_by modes.Once plan result shows is = replied_once modes.Once plan result shows is
   once_by modes.Other plan result shows is = replied_once modes.Other plan result shows is
 
-  once_planned : (mode : ListMode) (made : Result Plan Refusal) (result : Result View Refusal) → Shows h (planned_look mode made) result → open_planned author name mode made now result calls ≡ answered (replies.Once note) left → OnceBy h made now note calls left
+  once_planned : (mode : ListMode) (made : Result Plan Refusal) (result : Result View Refusal) → Shows h (planned_look mode made) result → open_planned author name mode made now result calls ≡ step_with (replies.Once note) left → OnceBy h made now note calls left
   once_planned mode (Err refusal) result shows is = absurd (apart (ap (λ (s : CallStep). s.reply) is))
     where
       apart : replies.Refused refusal ≡ replies.Once note → ⊥
       apart same = cc same
   once_planned mode (Ok plan) result shows is = once_by mode plan result shows is
 
-  once_named : (mode : ListMode) (made : Result Plan Refusal) (result : Result View Refusal) (taken : Bool) → Shows h (if taken then None else planned_look mode made) result → (if taken then answered replies.Taken calls else open_planned author name mode made now result calls) ≡ answered (replies.Once note) left → OnceBy h made now note calls left
+  once_named : (mode : ListMode) (made : Result Plan Refusal) (result : Result View Refusal) (taken : Bool) → Shows h (if taken then None else planned_look mode made) result → (if taken then step_with replies.Taken calls else open_planned author name mode made now result calls) ≡ step_with (replies.Once note) left → OnceBy h made now note calls left
   once_named mode made result true shows is = absurd (apart (ap (λ (s : CallStep). s.reply) is))
     where
       apart : replies.Taken ≡ replies.Once note → ⊥
@@ -355,16 +355,16 @@ pub opens_say : OpensSay
 opens_say author name mode only state note calls step =
     let line : Line = lines.Open author name mode only in
     let h : List Entry = (state_after line state).history in
-    let taken : open_step author name mode only state.subs state.reading (looked line state) state.calls ≡ answered (replies.Began note) calls = cc step in
-    let opens = opens_named h author name state.reading note state.calls calls mode (plan_of (sub_ask mode only state.subs)) (looked line state) (is_some (call_named name state.calls)) (shows_by line state (line_look line state) refl) taken in
+    let taken : open_step author name mode only state.subs state.reading (look_answer line state) state.calls ≡ step_with (replies.Began note) calls = cc step in
+    let opens = opens_named h author name state.reading note state.calls calls mode (plan_of (sub_ask mode only state.subs)) (look_answer line state) (is_some (call_named name state.calls)) (shows_by line state (line_look line state) refl) taken in
     (opens.plan, opens.stream, opens.plan_is, opens.left_is, opens.begun)
 
 pub once_says : OnceSays
 once_says author name mode only state note calls step =
     let line : Line = lines.Open author name mode only in
     let h : List Entry = (state_after line state).history in
-    let taken : open_step author name mode only state.subs state.reading (looked line state) state.calls ≡ answered (replies.Once note) calls = cc step in
-    let once = once_named h author name state.reading note state.calls calls mode (plan_of (sub_ask mode only state.subs)) (looked line state) (is_some (call_named name state.calls)) (shows_by line state (line_look line state) refl) taken in
+    let taken : open_step author name mode only state.subs state.reading (look_answer line state) state.calls ≡ step_with (replies.Once note) calls = cc step in
+    let once = once_named h author name state.reading note state.calls calls mode (plan_of (sub_ask mode only state.subs)) (look_answer line state) (is_some (call_named name state.calls)) (shows_by line state (line_look line state) refl) taken in
     (once.plan, once.stream, once.plan_is, once.left_is, once.begun)
 
 -- ---- what a poll says
@@ -374,7 +374,7 @@ record Polled (h : List Entry) (plan : Plan) (now : ℕ) (note : Option Note) (c
   left_is : left ≡ calls
   begun : Begins plan h now note stream
 
-polled_by : (h : List Entry) (call : PollCall) (now : ℕ) (result : Result View Refusal) (note : Option Note) (calls left : List NamedCall) → ((view : View) → result ≡ Ok view → view ≡ view_of h (patterns_of call.plan.lines)) → answered (poll_turn call result) calls ≡ answered (replies.Began note) left → Polled h call.plan now note calls left
+polled_by : (h : List Entry) (call : PollCall) (now : ℕ) (result : Result View Refusal) (note : Option Note) (calls left : List NamedCall) → ((view : View) → result ≡ Ok view → view ≡ view_of h (patterns_of call.plan.lines)) → step_with (poll_turn call result) calls ≡ step_with (replies.Began note) left → Polled h call.plan now note calls left
 polled_by h call now (Ok view) note calls left shows is =
     let began : replies.Began (begins_with call.plan.updates_only view) ≡ replies.Began note = ap (λ (s : CallStep). s.reply) is in
     let same : begins_with call.plan.updates_only view ≡ note = cc began in
@@ -389,9 +389,9 @@ polls_say name state call note calls is step =
     let line : Line = lines.Poll name in
     let h : List Entry = (state_after line state).history in
     let look : line_look line state ≡ Some (patterns_of call.plan.lines) = ap poll_look is in
-    let both : Some (poll_step name (Some (opened.Poll call)) (looked line state) state.calls) ≡ Some (answered (replies.Began note) calls) = ap (λ c. Some (poll_step name c (looked line state) state.calls)) (sym is) ∙ step in
-    let taken : answered (poll_turn call (looked line state)) state.calls ≡ answered (replies.Began note) calls = cc both in
-    let polled = polled_by h call state.reading (looked line state) note state.calls calls (λ view seen. shown_part line state view (patterns_of call.plan.lines) look seen) taken in
+    let both : Some (poll_step name (Some (opened.Poll call)) (look_answer line state) state.calls) ≡ Some (step_with (replies.Began note) calls) = ap (λ c. Some (poll_step name c (look_answer line state) state.calls)) (sym is) ∙ step in
+    let taken : step_with (poll_turn call (look_answer line state)) state.calls ≡ step_with (replies.Began note) calls = cc both in
+    let polled = polled_by h call state.reading (look_answer line state) note state.calls calls (λ view seen. shown_part line state view (patterns_of call.plan.lines) look seen) taken in
     (polled.stream, polled.left_is, polled.begun)
 
 -- ---- what stays

@@ -8,8 +8,8 @@ use Rattle.memory_disks.specs.Fuses.{FuseView}
 use Rattle.script_text.specs.declared.line.Line.TheVariants as lines
 use Rattle.script_run.specs.inner.ScriptBooks.{IsLeft, left_by_look, looked_at}
 use Rattle.script_run.specs.OpenCalls.{call_named}
-use Rattle.script_run.specs.ScriptStates.{ScriptState, book_behind, event_of_look, looked, state_after}
-use Rattle.script_run.specs.Subscribing.{CallStep, answered, open_look, open_step, poll_look, poll_step, turn_look, turn_step}
+use Rattle.script_run.specs.ScriptStates.{ScriptState, book_behind, event_of_look, look_answer, state_after}
+use Rattle.script_run.specs.Subscribing.{CallStep, step_with, open_look, open_step, poll_look, poll_step, turn_look, turn_step}
 use Rattle.script_run.specs.Turns.{BookState, looked_by}
 use Rattle.script_run.specs.declared.calls.NamedCall.{NamedCall}
 use Rattle.script_run.specs.declared.pending.Pending.{Pending}
@@ -56,7 +56,7 @@ module _ (old : BookView FuseView) (reading : ℕ) (pending : Pending) (subs : L
       ∙ ap (λ (b : BookState). state_with b subs' calls') (look_book look)
 
   pub turned : (name : List ℕ) (new : BookView FuseView) (reply : CallReply) (calls' : List NamedCall) → IsLeft (left_by_look (turn_look (call_named name calls)) reading old) old new
-      → answered reply calls' ≡ turn_step name (call_named name calls) reading (looked_at (turn_look (call_named name calls)) reading old) calls
+      → step_with reply calls' ≡ turn_step name (call_named name calls) reading (looked_at (turn_look (call_named name calls)) reading old) calls
       → state_seen new reading pending subs calls' ≡ state_after (lines.Turn name) seen
   unfolding state_after
   turned name new reply calls' left step =
@@ -66,7 +66,7 @@ module _ (old : BookView FuseView) (reading : ℕ) (pending : Pending) (subs : L
       ∙ ap (λ (s : CallStep). state_with (book_behind (event_of_look look seen) seen) subs s.calls) same
 
   pub polled : (name : List ℕ) (new : BookView FuseView) (reply : CallReply) (calls' : List NamedCall) → IsLeft (left_by_look (poll_look (call_named name calls)) reading old) old new
-      → answered reply calls' ≡ poll_step name (call_named name calls) (looked_at (poll_look (call_named name calls)) reading old) calls
+      → step_with reply calls' ≡ poll_step name (call_named name calls) (looked_at (poll_look (call_named name calls)) reading old) calls
       → state_seen new reading pending subs calls' ≡ state_after (lines.Poll name) seen
   unfolding state_after
   polled name new reply calls' left step =
@@ -79,17 +79,17 @@ module _ (old : BookView FuseView) (reading : ℕ) (pending : Pending) (subs : L
     abbrev opens : Option (List (List Elem))
     opens = open_look name mode only subs calls
 
-    open_same : (reply : CallReply) (calls' : List NamedCall) → answered reply calls' ≡ open_step author name mode only subs reading (looked_at opens reading old) calls → answered reply calls' ≡ open_step author name mode only subs reading (looked (lines.Open author name mode only) seen) calls
+    open_same : (reply : CallReply) (calls' : List NamedCall) → step_with reply calls' ≡ open_step author name mode only subs reading (looked_at opens reading old) calls → step_with reply calls' ≡ open_step author name mode only subs reading (look_answer (lines.Open author name mode only) seen) calls
     open_same reply calls' step = step ∙ ap (λ l. open_step author name mode only subs reading l calls) (look_same opens)
 
     pub opened : (new : BookView FuseView) (reply : CallReply) (calls' : List NamedCall) → IsLeft (left_by_look opens reading old) old new
-        → answered reply calls' ≡ open_step author name mode only subs reading (looked_at opens reading old) calls
+        → step_with reply calls' ≡ open_step author name mode only subs reading (looked_at opens reading old) calls
         → state_seen new reading pending [] calls' ≡ state_after (lines.Open author name mode only) seen
     unfolding state_after
     opened new reply calls' left step =
         subscribed opens new [] calls' left
         ∙ ap (λ (s : CallStep). state_with (book_behind (event_of_look opens seen) seen) [] s.calls) (open_same reply calls' step)
 
-    pub opened_reply : (reply : CallReply) (calls' : List NamedCall) → answered reply calls' ≡ open_step author name mode only subs reading (looked_at opens reading old) calls
-        → reply ≡ (open_step author name mode only subs reading (looked (lines.Open author name mode only) seen) calls).reply
+    pub opened_reply : (reply : CallReply) (calls' : List NamedCall) → step_with reply calls' ≡ open_step author name mode only subs reading (looked_at opens reading old) calls
+        → reply ≡ (open_step author name mode only subs reading (look_answer (lines.Open author name mode only) seen) calls).reply
     opened_reply reply calls' step = ap (λ (s : CallStep). s.reply) (open_same reply calls' step)

@@ -14,7 +14,7 @@ use Rattle.base_kinds.specs.Events.{Event, Answer, OfSet, OfGet}
 use Rattle.base_kinds.specs.Refusals.{number_of, code_of}
 use Rattle.commit_report.specs.Logs.{row_text}
 use Rattle.script_text.specs.declared.line.Line.{Line}
-use Rattle.script_run.specs.ScriptStates.{ScriptState, rules_in, line_event, line_look, line_step, looked, book_behind}
+use Rattle.script_run.specs.ScriptStates.{ScriptState, rules_in, line_event, line_look, line_step, look_answer, book_behind}
 use Rattle.script_run.specs.Subscribing.{CallStep}
 use Rattle.script_run.specs.declared.subscribing.CallReply.{CallReply}
 use Rattle.script_run.specs.declared.subscribing.CallReply.TheVariants as calls
@@ -95,7 +95,7 @@ event_reply (Some event) state =
 -- A look of a subscription is answered with what it shows; what the line prints of that is another thing.
 abbrev pub look_reply : Option (List (List Elem)) → Line → ScriptState → Option Answer
 look_reply None line state = event_reply (line_event line state) state
-look_reply (Some patterns) line state = Some (OfGet (looked line state))
+look_reply (Some patterns) line state = Some (OfGet (look_answer line state))
 
 abbrev pub line_answer : Line → ScriptState → Option Answer
 line_answer line state = look_reply (line_look line state) line state

@@ -27,4 +27,12 @@ with_operation Update path value pending =
 -- a Set of these operations with this action, without a prefix
 abbrev pub set_ask : Action → Pending → SetAsk
 set_ask action pending =
-    record { prefix = []; target = []; deletes = pending.deletes; replaces = pending.replaces; updates = pending.updates; action = action; unsupported = false }
+    record {
+      prefix = [];
+      target = [];
+      deletes = pending.deletes;
+      replaces = pending.replaces;
+      updates = pending.updates;
+      action = action;
+      unsupported = false;
+    }

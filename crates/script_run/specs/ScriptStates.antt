@@ -143,12 +143,13 @@ book_behind None state = book_in state
 book_behind (Some event) state = book_after (rules_in state) event (book_in state)
 
 -- what a look shows, and what a line of subscriptions answers and leaves by that
-abbrev pub looked : Line → ScriptState → Result View Refusal
-looked line state =
-    looked_by (book_behind (line_event line state) state).failed state.history state.reading (line_look line state)
+abbrev pub look_answer : Line → ScriptState → Result View Refusal
+look_answer line state =
+    looked_by (book_behind (line_event line state) state).failed state.history state.reading
+    (line_look line state)
 
 abbrev pub line_step : Line → ScriptState → Option CallStep
-line_step line state = call_step line state.subs state.reading (looked line state) state.calls
+line_step line state = call_step line state.subs state.reading (look_answer line state) state.calls
 
 -- The state behind a line's turn. Where the disk has stopped in it, the book is opened again (Restarts.antt).
 unfoldable pub state_after : Line → ScriptState → ScriptState

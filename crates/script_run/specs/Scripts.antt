@@ -31,7 +31,8 @@ pub record IsTaken
   pub goes_on : follows next rest
 
 -- the other lines follow, unless no book could be opened behind a stop
-abbrev pub Follows : (ScriptState → List ℕ → Type 0) → ScriptEnd → Option ScriptState → List ℕ → Type 0
+abbrev pub Follows : (ScriptState → List ℕ → Type 0) → ScriptEnd → Option ScriptState → List ℕ
+    → Type 0
 Follows others ending (Some next) text = others next text
 Follows others ending None text = (text ≡ codes "disk fault\n") × (ending ≡ DiskFault)
 

@@ -17,7 +17,8 @@ pub record Image : Type 0 where
   pub history : List Entry
 
 -- they are the journal of one of these histories
-pub record IsImageOf (limits : Limits) (histories : List (List Entry)) (image : Image) : Type 0 where
+pub record IsImageOf (limits : Limits) (histories : List (List Entry))
+    (image : Image) : Type 0 where
   pub journal : IsJournal image.octets limits image.history
   pub is_one : IsOneOf histories image.history
 
@@ -32,7 +33,8 @@ calls_to_open image = calls_to_read image + restart_calls image.history
 -- one, with the entry that ends an open trial or without.
 abbrev pub histories_behind : ℕ → ℕ → Image → List (List Entry)
 histories_behind call now image =
-    if nat_lt call (calls_to_read image) then image.history ∷ [] else opening_stages image.history now
+    if nat_lt call (calls_to_read image) then image.history ∷ []
+    else opening_stages image.history now
 
 -- the disk stops in a call of the opening, and leaves the next image
 pub record StopsAgain (limits : Limits) (now : ℕ) (image : Image) (arming : Arming) (next : Image)
@@ -48,7 +50,8 @@ pub record Restarted : Type 0 where
   pub arming : Arming
 
 -- each call passes, and the book goes on from the history, behind the entry that ends an open trial
-pub record IsOpened (now : ℕ) (image : Image) (arming : Arming) (ending : Option Restarted) : Type 0 where
+pub record IsOpened (now : ℕ) (image : Image) (arming : Arming)
+    (ending : Option Restarted) : Type 0 where
   pub passes : failed_call (calls_to_open image) arming ≡ None
   pub ending_is : ending ≡ Some (record {
     history = reopened image.history now;
@@ -68,4 +71,5 @@ OpensAgain image [] limits now arming ending =
     IsOpened now image arming ending ⊎ FailsToOpen image arming ending
 OpensAgain image (next ∷ later) limits now arming ending =
     (stop : StopsAgain limits now image arming next)
-    × OpensAgain next later limits now (restarted (arming_after_calls (suc stop.call) arming)) ending
+    × OpensAgain next later limits now
+    (restarted (arming_after_calls (suc stop.call) arming)) ending

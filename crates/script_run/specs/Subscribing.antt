@@ -40,8 +40,8 @@ pub record CallStep : Type 0 where
   pub reply : CallReply
   pub calls : List NamedCall
 
-abbrev pub answered : CallReply → List NamedCall → CallStep
-answered reply calls = record { reply = reply; calls = calls }
+abbrev pub step_with : CallReply → List NamedCall → CallStep
+step_with reply calls = record { reply = reply; calls = calls }
 
 -- ---- `open`
 
@@ -51,7 +51,8 @@ planned_look mode (Err refusal) = None
 planned_look modes.Poll (Ok plan) = None
 planned_look mode (Ok plan) = Some (patterns_of plan.lines)
 
-abbrev pub open_look : List ℕ → ListMode → Bool → List SubLine → List NamedCall → Option (List (List Elem))
+abbrev pub open_look : List ℕ → ListMode → Bool → List SubLine → List NamedCall
+    → Option (List (List Elem))
 open_look name mode only subs calls =
     if is_some (call_named name calls) then None
     else planned_look mode (plan_of (sub_ask mode only subs))
@@ -61,23 +62,31 @@ once_reply plan (Ok view) = replies.Once (begins_with plan.updates_only view)
 once_reply plan (Err refusal) = replies.Refused refusal
 
 -- A stream is open once its first notification is made; a call of mode ONCE ends with it and takes no name.
-abbrev pub open_by : ℕ → List ℕ → ListMode → Plan → ℕ → Result View Refusal → List NamedCall → CallStep
+abbrev pub open_by : ℕ → List ℕ → ListMode → Plan → ℕ → Result View Refusal → List NamedCall
+    → CallStep
 open_by author name modes.Poll plan now looked calls =
-    answered replies.Opened (with_call name (opened.Poll (record { author = author; plan = plan })) calls)
+    step_with replies.Opened (with_call name
+    (opened.Poll (record { author = author; plan = plan })) calls)
 open_by author name modes.Stream plan now (Ok view) calls =
-    answered (replies.Began (begins_with plan.updates_only view))
-    (with_call name (opened.Stream (record { author = author; stream = stream_from plan now view })) calls)
-open_by author name modes.Stream plan now (Err refusal) calls = answered (replies.Refused refusal) calls
-open_by author name mode plan now looked calls = answered (once_reply plan looked) calls
+    step_with (replies.Began (begins_with plan.updates_only view))
+    (with_call name (opened.Stream
+    (record { author = author; stream = stream_from plan now view })) calls)
+open_by author name modes.Stream plan now (Err refusal) calls =
+    step_with (replies.Refused refusal) calls
+open_by author name mode plan now looked calls = step_with (once_reply plan looked) calls
 
-abbrev pub open_planned : ℕ → List ℕ → ListMode → Result Plan Refusal → ℕ → Result View Refusal → List NamedCall → CallStep
-open_planned author name mode (Err refusal) now looked calls = answered (replies.Refused refusal) calls
-open_planned author name mode (Ok plan) now looked calls = open_by author name mode plan now looked calls
+abbrev pub open_planned : ℕ → List ℕ → ListMode → Result Plan Refusal → ℕ → Result View Refusal
+    → List NamedCall → CallStep
+open_planned author name mode (Err refusal) now looked calls =
+    step_with (replies.Refused refusal) calls
+open_planned author name mode (Ok plan) now looked calls =
+    open_by author name mode plan now looked calls
 
 -- the name is looked at first
-abbrev pub open_step : ℕ → List ℕ → ListMode → Bool → List SubLine → ℕ → Result View Refusal → List NamedCall → CallStep
+abbrev pub open_step : ℕ → List ℕ → ListMode → Bool → List SubLine → ℕ → Result View Refusal
+    → List NamedCall → CallStep
 open_step author name mode only subs now looked calls =
-    if is_some (call_named name calls) then answered replies.Taken calls
+    if is_some (call_named name calls) then step_with replies.Taken calls
     else open_planned author name mode (plan_of (sub_ask mode only subs)) now looked calls
 
 -- ---- `turn`, `poll` and `end`
@@ -92,14 +101,17 @@ poll_look _ = None
 
 -- A turn that is refused is none. One without a notification is, and its time goes on.
 abbrev pub stream_turn : List ℕ → StreamCall → ℕ → Result View Refusal → List NamedCall → CallStep
-stream_turn name call now (Err refusal) calls = answered (replies.Refused refusal) calls
+stream_turn name call now (Err refusal) calls = step_with (replies.Refused refusal) calls
 stream_turn name call now (Ok view) calls =
-    answered (replies.Turned (note_of (turn_input_of call.stream now view) view.stamp))
-    (with_call name (opened.Stream (record call { stream = stream_after call.stream now view })) (without_call name calls))
+    step_with (replies.Turned (note_of (turn_input_of call.stream now view) view.stamp))
+    (with_call name (opened.Stream (record call { stream = stream_after call.stream now view }))
+    (without_call name calls))
 
-abbrev pub turn_step : List ℕ → Option OpenCall → ℕ → Result View Refusal → List NamedCall → CallStep
-turn_step name None now looked calls = answered replies.NoStream calls
-turn_step name (Some (opened.Poll call)) now looked calls = answered (replies.Refused BadSubscribe) calls
+abbrev pub turn_step : List ℕ → Option OpenCall → ℕ → Result View Refusal → List NamedCall
+    → CallStep
+turn_step name None now looked calls = step_with replies.NoStream calls
+turn_step name (Some (opened.Poll call)) now looked calls =
+    step_with (replies.Refused BadSubscribe) calls
 turn_step name (Some (opened.Stream call)) now looked calls = stream_turn name call now looked calls
 
 -- A poll of a stream ends it.
@@ -108,14 +120,14 @@ poll_turn call (Err refusal) = replies.Refused refusal
 poll_turn call (Ok view) = replies.Began (begins_with call.plan.updates_only view)
 
 abbrev pub poll_step : List ℕ → Option OpenCall → Result View Refusal → List NamedCall → CallStep
-poll_step name None looked calls = answered replies.NoStream calls
-poll_step name (Some (opened.Poll call)) looked calls = answered (poll_turn call looked) calls
+poll_step name None looked calls = step_with replies.NoStream calls
+poll_step name (Some (opened.Poll call)) looked calls = step_with (poll_turn call looked) calls
 poll_step name (Some (opened.Stream call)) looked calls =
-    answered (replies.Refused BadSubscribe) (without_call name calls)
+    step_with (replies.Refused BadSubscribe) (without_call name calls)
 
 abbrev pub end_step : List ℕ → Option OpenCall → List NamedCall → CallStep
-end_step name None calls = answered replies.NoStream (without_call name calls)
-end_step name (Some call) calls = answered replies.Ended (without_call name calls)
+end_step name None calls = step_with replies.NoStream (without_call name calls)
+end_step name (Some call) calls = step_with replies.Ended (without_call name calls)
 
 -- ---- lines
 
@@ -127,14 +139,16 @@ look_of (lines.Poll name) subs calls = poll_look (call_named name calls)
 look_of _ subs calls = None
 
 -- what it answers and leaves, by the reading of the clock and by what the look showed
-abbrev pub call_step : Line → List SubLine → ℕ → Result View Refusal → List NamedCall → Option CallStep
+abbrev pub call_step : Line → List SubLine → ℕ → Result View Refusal → List NamedCall
+    → Option CallStep
 call_step (lines.Open author name mode only) subs now looked calls =
     Some (open_step author name mode only subs now looked calls)
 call_step (lines.Turn name) subs now looked calls =
     Some (turn_step name (call_named name calls) now looked calls)
 call_step (lines.Poll name) subs now looked calls =
     Some (poll_step name (call_named name calls) looked calls)
-call_step (lines.End name) subs now looked calls = Some (end_step name (call_named name calls) calls)
+call_step (lines.End name) subs now looked calls =
+    Some (end_step name (call_named name calls) calls)
 call_step _ subs now looked calls = None
 
 abbrev pub calls_left : Option CallStep → List NamedCall → List NamedCall

@@ -5,7 +5,7 @@ ghost use Rattle.base_kinds.specs.declared.request.ListMode.TheVariants.{Stream 
 ghost use Rattle.sub_plan.specs.Groups.{patterns_of};
 ghost use Rattle.stream_laws.specs.Streams.{begins_with};
 ghost use Rattle.script_run.specs.OpenCalls.{call_named};
-ghost use Rattle.script_run.specs.Subscribing.{answered, end_step, open_by, open_look, once_reply, open_step, planned_look, poll_look, poll_step, sub_ask, turn_look, turn_step};
+ghost use Rattle.script_run.specs.Subscribing.{step_with, end_step, open_by, open_look, once_reply, open_step, planned_look, poll_look, poll_step, sub_ask, turn_look, turn_step};
 ghost use Rattle.script_run.specs.inner.ScriptBooks.{IsLeft, MayStand, left_by_look, looked_at};
 ghost use Rattle.script_run.specs.inner.StreamCalls.{IsStreamOf};
 
@@ -91,9 +91,10 @@ fn open_stream(
     requires author { 0 < author }
     requires may_stand { MayStand book.old }
     ensures may_stand { MayStand book.new }
-    ensures left { OnOk result (IsLeft (left_by_look (Some (patterns_of plan.lines)) reading book.old)
+    ensures left { OnOk result
+        (IsLeft (left_by_look (Some (patterns_of plan.lines)) reading book.old)
         book.old book.new) }
-    ensures step { IfOk result (λ reply. answered reply calls.new.items
+    ensures step { IfOk result (λ reply. step_with reply calls.new.items
         ≡ open_by author name Streams plan reading
         (looked_at (Some (patterns_of plan.lines)) reading book.old) calls.old.items) }
 {
@@ -120,7 +121,8 @@ fn look_once(
     requires author { 0 < author }
     requires may_stand { MayStand book.old }
     ensures may_stand { MayStand book.new }
-    ensures left { OnOk result (IsLeft (left_by_look (Some (patterns_of plan.lines)) reading book.old)
+    ensures left { OnOk result
+        (IsLeft (left_by_look (Some (patterns_of plan.lines)) reading book.old)
         book.old book.new) }
     ensures reply { IfOk result (λ reply. reply
         ≡ once_reply plan (looked_at (Some (patterns_of plan.lines)) reading book.old)) }
@@ -144,9 +146,10 @@ fn open_accepted(
     requires author { 0 < asked.author }
     requires may_stand { MayStand book.old }
     ensures may_stand { MayStand book.new }
-    ensures left { OnOk result (IsLeft (left_by_look (planned_look asked.mode (Ok plan)) reading book.old)
+    ensures left { OnOk result
+        (IsLeft (left_by_look (planned_look asked.mode (Ok plan)) reading book.old)
         book.old book.new) }
-    ensures step { IfOk result (λ reply. answered reply calls.new.items
+    ensures step { IfOk result (λ reply. step_with reply calls.new.items
         ≡ open_by asked.author asked.name asked.mode plan reading
         (looked_at (planned_look asked.mode (Ok plan)) reading book.old) calls.old.items) }
 {
@@ -182,7 +185,7 @@ pub fn open(
     ensures left { OnOk result (IsLeft
         (left_by_look (open_look asked.name asked.mode asked.only subs calls.old.items) reading book.old)
         book.old book.new) }
-    ensures step { IfOk result (λ reply. answered reply calls.new.items
+    ensures step { IfOk result (λ reply. step_with reply calls.new.items
         ≡ open_step asked.author asked.name asked.mode asked.only subs reading
         (looked_at (open_look asked.name asked.mode asked.only subs calls.old.items) reading book.old)
         calls.old.items) }
@@ -212,7 +215,7 @@ fn turn_stream(
 ) -> Result<CallReply, NoMemory>
     requires rows { IsRising view.rows }
     requires stream { IsStreamOf (call_named name calls.old.items) }
-    ensures { IfOk result (λ reply. answered reply calls.new.items
+    ensures { IfOk result (λ reply. step_with reply calls.new.items
         ≡ turn_step name (call_named name calls.old.items) reading (Ok view) calls.old.items) }
 {
     match take_call(calls, &name) {
@@ -240,7 +243,7 @@ pub fn turn(
     ensures left { OnOk result (IsLeft
         (left_by_look (turn_look (call_named name calls.old.items)) reading book.old)
         book.old book.new) }
-    ensures step { IfOk result (λ reply. answered reply calls.new.items
+    ensures step { IfOk result (λ reply. step_with reply calls.new.items
         ≡ turn_step name (call_named name calls.old.items) reading
         (looked_at (turn_look (call_named name calls.old.items)) reading book.old) calls.old.items) }
 {
@@ -269,7 +272,7 @@ pub fn poll(
     ensures left { OnOk result (IsLeft
         (left_by_look (poll_look (call_named name calls.old.items)) reading book.old)
         book.old book.new) }
-    ensures step { IfOk result (λ reply. answered reply calls.new.items
+    ensures step { IfOk result (λ reply. step_with reply calls.new.items
         ≡ poll_step name (call_named name calls.old.items)
         (looked_at (poll_look (call_named name calls.old.items)) reading book.old) calls.old.items) }
 {
@@ -290,7 +293,7 @@ pub fn poll(
 
 /// Ends the call of this name.
 pub fn end(calls: &mut Vec<NamedCall>, name: &Text) -> CallReply
-    ensures { answered result calls.new.items
+    ensures { step_with result calls.new.items
         ≡ end_step name.now (call_named name.now calls.old.items) calls.old.items }
 {
     match take_call(calls, name) {

@@ -44,7 +44,8 @@ pub record IsMemory (disk : SeenDisk) : Type 0 where
 
 abbrev pub line_of : ℕ → ℕ → ℕ → ℕ → ℕ → List ℕ
 line_of sets ok entries leaves stamp =
-    codes "sets " ++ decimal sets ++ codes " ok " ++ decimal ok ++ codes " entries " ++ decimal entries
+    codes "sets " ++ decimal sets ++ codes " ok " ++ decimal ok ++ codes " entries "
+    ++ decimal entries
     ++ codes " leaves " ++ decimal leaves ++ codes " stamp " ++ decimal stamp ++ 10 ∷ []
 
 -- How many Sets were made and how many of them stand, how many entries the log has, how many rows the tree, and the stamp of

@@ -23,7 +23,8 @@ WithoutDisk Work returned = Work × (returned ≡ None)
 
 -- what each command does; `returned` is the disk that is handed back, as it is then, and `how` tells how a connection ended that
 -- was served
-abbrev pub Does : Command → Environment → Environment → Option SeenDisk → Option How → Ending → Type 0
+abbrev pub Does : Command → Environment → Environment → Option SeenDisk → Option How → Ending
+    → Type 0
 Does (Check schema) before after returned how ending =
     WithoutDisk (CheckRun schema before after ending) returned
 Does (Script schema limits) before after returned how ending =

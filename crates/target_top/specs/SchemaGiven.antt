@@ -8,7 +8,8 @@ use Rattle.target_top.specs.declared.schema_file.SchemaFileError.TheVariants.{Un
 use Rattle.target_top.specs.Environment.{SeenFiles, GaveText, FailedToGive, files_after_ask}
 
 -- the file of this name gave the text of this schema
-pub record GaveSchema (name : List ℕ) (schema : List SchemaNode) (old new : SeenFiles) : Type 0 where
+pub record GaveSchema (name : List ℕ) (schema : List SchemaNode)
+    (old new : SeenFiles) : Type 0 where
   pub text : List ℕ
   pub gave : GaveText name text old new
   pub is : schema_of text ≡ Ok schema

@@ -124,7 +124,8 @@ module _ (schema : List SchemaNode) (now : ℕ) (initial final : SeenDisk) (endi
   pub record FailsToOpen : Type 0 where
     pub is : ending ≡ ends.DiskFault
     pub fault : Rose initial.faults final.faults
-    pub content : (final.told ≡ initial.told) ⊎ WhereTold initial.told final.told IsSynced ⊎ CutAtRestart
+    pub content : (final.told ≡ initial.told) ⊎ WhereTold initial.told final.told IsSynced
+        ⊎ CutAtRestart
 
   -- memory was wanting
   pub record StarvesOpening : Type 0 where

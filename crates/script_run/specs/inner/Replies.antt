@@ -38,7 +38,8 @@ state_if true state = Some state
 state_if false state = None
 
 -- a line is taken, and what it prints is added
-pub record Acts (line : Line) (old new : ScriptState) (before after : List ℕ) (goes_on : Bool) : Type 0 where
+pub record Acts (line : Line) (old new : ScriptState) (before after : List ℕ)
+    (goes_on : Bool) : Type 0 where
   pub printed : List ℕ
   pub takes : Takes line old printed (state_if goes_on new)
   pub added : after ≡ before ++ printed

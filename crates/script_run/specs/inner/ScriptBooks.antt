@@ -39,7 +39,8 @@ state_of book = record {
 }
 
 -- a book without entries, on a disk for which nothing waits
-pub record IsNew (schema : List SchemaNode) (limits : Limits) (book : BookView FuseView) : Type 0 where
+pub record IsNew (schema : List SchemaNode) (limits : Limits)
+    (book : BookView FuseView) : Type 0 where
   pub schema_is : book.opened.schema ≡ schema
   pub limits_are : book.opened.limits ≡ limits
   pub history : history_in book ≡ []
@@ -60,11 +61,16 @@ left_by event book = book_after (rules_in book.opened) event (state_of book)
 -- a Set of this author, and the turn of one that asks for this
 abbrev pub asked_event : BookView FuseView → ℕ → ℕ → SetAsk → Event
 asked_event book reading author request =
-    record { reading = reading; author = author; request = Set (resolved book.opened.schema request) }
+    record {
+      reading = reading;
+      author = author;
+      request = Set (resolved book.opened.schema request);
+    }
 
 abbrev pub asked_turn : BookView FuseView → ℕ → ℕ → Ask → BookState
 asked_turn book reading author ask =
-    turn reading (answer_entry (step (rules_in book.opened) (history_in book) reading author ask)) (state_of book)
+    turn reading (answer_entry (step (rules_in book.opened) (history_in book) reading author ask))
+    (state_of book)
 
 -- a read of one pattern
 abbrev pub read_event : ℕ → ℕ → List Elem → Event
@@ -78,7 +84,8 @@ left_by_look (Some patterns) reading book = left_by (look_event reading) book
 
 -- what it shows
 abbrev pub looked_at : Option (List (List Elem)) → ℕ → BookView FuseView → Result View Refusal
-looked_at look reading book = looked_by (left_by_look look reading book).failed (history_in book) reading look
+looked_at look reading book =
+    looked_by (left_by_look look reading book).failed (history_in book) reading look
 
 -- the state behind a Set
 abbrev pub state_after_set : Event → ScriptState → ScriptState
@@ -125,7 +132,8 @@ pub record IsRestarted (schema : List SchemaNode) (limits : Limits) (restart : R
   pub no_doubt : book.doubt ≡ None
   pub arming_is : book.disk.arming ≡ restart.arming
 
-abbrev pub IsRestartedIfAny : List SchemaNode → Limits → Option Restarted → Option (BookView FuseView) → Type 0
+abbrev pub IsRestartedIfAny : List SchemaNode → Limits → Option Restarted
+    → Option (BookView FuseView) → Type 0
 IsRestartedIfAny schema limits None None = Unit {0}
 IsRestartedIfAny schema limits None (Some book) = ⊥
 IsRestartedIfAny schema limits (Some restart) None = ⊥
@@ -141,7 +149,8 @@ pub record Restarting (schema : List SchemaNode) (limits : Limits) (now : ℕ) (
   pub book_is : IsRestartedIfAny schema limits ending book
 
 -- that from what the disk has
-abbrev pub RestartsOn : List SchemaNode → ℕ → FuseView → List ℕ → List ℕ → Option (BookView FuseView) → Type 0
+abbrev pub RestartsOn : List SchemaNode → ℕ → FuseView → List ℕ → List ℕ
+    → Option (BookView FuseView) → Type 0
 RestartsOn schema now disk before after book =
     (limits : Limits) (history : List Entry) → IsJournal disk.content.seen limits history →
     Restarting schema limits now (image_on disk history) disk.arming before after book
@@ -175,7 +184,8 @@ pub record IsFailed (image : Image) (arming : Arming) : Type 0 where
 
 abbrev pub ReopensTo : List SchemaNode → Limits → ℕ → Image → Arming → Reopening → Type 0
 ReopensTo schema limits now image arming (Ready book) = IsReady schema limits now image arming book
-ReopensTo schema limits now image arming (Stopped next) = IsStopped schema limits now image arming next
+ReopensTo schema limits now image arming (Stopped next) =
+    IsStopped schema limits now image arming next
 ReopensTo schema limits now image arming Failed = IsFailed image arming
 
 abbrev pub Reopens : List SchemaNode → ℕ → FuseView → Reopening → Type 0
@@ -199,5 +209,6 @@ pub record RestartsBook (now : ℕ) (old new : BookView FuseView) (before after 
     (goes_on : Bool) : Type 0 where
   pub first : Image
   pub leaves : IsImageOf old.opened.limits (histories_or (history_in old) old.doubt) first
-  pub restarts : Restarting old.opened.schema old.opened.limits now first (restarted old.disk.arming)
+  pub restarts : Restarting old.opened.schema old.opened.limits now first
+      (restarted old.disk.arming)
       before after (book_if goes_on new)

@@ -59,7 +59,8 @@ StopsEndTrials =
 -- the disk that is made of what a stop left hasn't stopped
 abbrev pub DisksRunOn : Type 0
 DisksRunOn =
-    (line : Line) (state next : ScriptState) (printed : List ℕ) → Takes line state printed (Some next) →
+    (line : Line) (state next : ScriptState) (printed : List ℕ)
+    → Takes line state printed (Some next) →
     next.arming.stopped ≡ false
 
 -- a line's answer was printed, and the lines behind it lead to this state

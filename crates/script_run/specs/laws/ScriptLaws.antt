@@ -149,7 +149,8 @@ HaveNoStops script = AllByRecursion HasNoStop (lines_of (within_limit script))
 -- histories.
 abbrev pub PrintsOne : Type 0
 PrintsOne =
-    (schema : List SchemaNode) (limits : Limits) (script text other : List ℕ) (ending another : ScriptEnd) →
+    (schema : List SchemaNode) (limits : Limits) (script text other : List ℕ)
+    (ending another : ScriptEnd) →
     HaveNoStops script → RunsScript schema limits script text ending →
     RunsScript schema limits script other another → (text ≡ other) × (ending ≡ another)
 

@@ -67,6 +67,7 @@ ArePlain = AllByRecursion IsPlain
 -- lines are
 abbrev pub AnswersEvents : Type 0
 AnswersEvents =
-    (schema : List SchemaNode) (limits : Limits) (lines : List Line) → LetPass lines → ArePlain lines →
+    (schema : List SchemaNode) (limits : Limits) (lines : List Line) → LetPass lines
+    → ArePlain lines →
     whole_text schema limits lines
     ≡ events_text schema limits (script_events lines (fresh schema limits))

@@ -19,7 +19,7 @@ use Rattle.script_text.specs.declared.line.Line.TheVariants as lines
 use Rattle.script_run.specs.CallViews.{PollCall, StreamCall}
 use Rattle.script_run.specs.OpenCalls.{call_named, with_call, without_call}
 use Rattle.script_run.specs.ScriptStates.{ScriptState, fresh, line_step, state_after}
-use Rattle.script_run.specs.Subscribing.{answered, sub_ask}
+use Rattle.script_run.specs.Subscribing.{step_with, sub_ask}
 use Rattle.script_run.specs.declared.subscribing.CallReply.TheVariants as replies
 use Rattle.script_run.specs.declared.calls.OpenCall.{OpenCall}
 use Rattle.script_run.specs.declared.calls.OpenCall.TheVariants as opened
@@ -73,7 +73,7 @@ OpensSay =
     (author : ℕ) (name : List ℕ) (mode : ListMode) (only : Bool) (state : ScriptState)
     (note : Option Note) (calls : List NamedCall) →
     line_step (lines.Open author name mode only) state
-    ≡ Some (answered (replies.Began note) calls) →
+    ≡ Some (step_with (replies.Began note) calls) →
     (plan : Plan) × (stream : StreamView)
     × (plan_of (sub_ask mode only state.subs) ≡ Ok plan)
     × (calls
@@ -87,7 +87,7 @@ OnceSays =
     (author : ℕ) (name : List ℕ) (mode : ListMode) (only : Bool) (state : ScriptState)
     (note : Option Note) (calls : List NamedCall) →
     line_step (lines.Open author name mode only) state
-    ≡ Some (answered (replies.Once note) calls) →
+    ≡ Some (step_with (replies.Once note) calls) →
     (plan : Plan) × (stream : StreamView)
     × (plan_of (sub_ask mode only state.subs) ≡ Ok plan) × (calls ≡ state.calls)
     × Begins plan (history_behind (lines.Open author name mode only) state) state.reading
@@ -99,7 +99,7 @@ PollsSay =
     (name : List ℕ) (state : ScriptState) (call : PollCall) (note : Option Note)
     (calls : List NamedCall) →
     call_named name state.calls ≡ Some (opened.Poll call) →
-    line_step (lines.Poll name) state ≡ Some (answered (replies.Began note) calls) →
+    line_step (lines.Poll name) state ≡ Some (step_with (replies.Began note) calls) →
     (stream : StreamView) × (calls ≡ state.calls)
     × Begins call.plan (history_behind (lines.Poll name) state) state.reading note stream
 
@@ -111,7 +111,7 @@ TurnsSay =
     (calls : List NamedCall) (plan : Plan) (first : Moment) (later : List Moment)
     (messages : List SubReply) →
     call_named name state.calls ≡ Some (opened.Stream call) →
-    line_step (lines.Turn name) state ≡ Some (answered (replies.Turned note) calls) →
+    line_step (lines.Turn name) state ≡ Some (step_with (replies.Turned note) calls) →
     IsStreamAt plan first later messages state.history call.stream →
     (next : StreamView)
     × (next ≡ stream_after call.stream state.reading

@@ -53,7 +53,8 @@ AreKept (line ∷ lines) state last text =
     × IsKept line state next last × AreKept lines next last rest
 
 -- so of the lines that the script's octets are
-pub record KeepsAnswers (schema : List SchemaNode) (limits : Limits) (script text : List ℕ) : Type 0 where
+pub record KeepsAnswers (schema : List SchemaNode) (limits : Limits)
+    (script text : List ℕ) : Type 0 where
   pub lines : List Line
   pub are : AreScriptLines (lines_of (within_limit script)) lines
   pub last : ScriptState

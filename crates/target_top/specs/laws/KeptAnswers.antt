@@ -16,7 +16,8 @@ use Rattle.target_top.specs.Run.{Run}
 
 -- This script was read, and this text was written, all of it and nothing else. Of each answer in it what was answered holds of the
 -- history whose log it ends with.
-pub record RanWhole (schema : List SchemaNode) (limits : Limits) (before after : Environment) : Type 0 where
+pub record RanWhole (schema : List SchemaNode) (limits : Limits)
+    (before after : Environment) : Type 0 where
   pub script : List ℕ
   pub read : ReadsToLimit most_script_octets script before.input after.input
   pub text : List ℕ
