@@ -21,9 +21,9 @@ abbrev pub LeavesBehind : {L : Type 0} → L → Option (List L) → Option (Lis
 LeavesBehind link None now = now ≡ None
 LeavesBehind link (Some left) now = (rest : List _) × (left ≡ link ∷ rest) × (now ≡ Some rest)
 
--- no connection is left, where they are told
+-- No connection is left. A door that doesn't tell which ones come is never at its end.
 abbrev pub IsAtEnd : {L : Type 0} → Option (List L) → Type 0
-IsAtEnd None = Unit {0}
+IsAtEnd None = ⊥
 IsAtEnd (Some left) = left ≡ []
 
 -- what is seen behind what came next

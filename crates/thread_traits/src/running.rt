@@ -30,6 +30,8 @@ impl<J: Job> Promise<Outcome<J, J::Done>> for Promised<J> {
 }
 
 /// A job that was started, in a thread of its own, or that was done at once. Contracts see the job.
+/// One that is dropped isn't waited for, and what it gives is dropped then.
+#[derive(Drop)]
 pub struct Running<J: Job> {
     job: Snapshot<J>,
     started: Result<PromisedHandle<Outcome<J, J::Done>, Promised<J>>, J::Done>,
