@@ -48,4 +48,9 @@ opened_in (items.Opened opened ∷ later) = record {
   base = opened.base;
   faults = opened.faults;
 }
-opened_in other = record { schema = []; limits = record { entries = 0; octets = 0 }; base = []; faults = 0 }
+opened_in other = record {
+  schema = [];
+  limits = record { entries = 0; octets = 0 };
+  base = [];
+  faults = 0;
+}

@@ -6,7 +6,7 @@ use mathlib.Core.Logic.{dite}
 use mathlib.Core.Option.{none, some, some-injective, some-ne-none}
 use Rattle.std.proofs.lemmas.List.{append-nil}
 use Rattle.std.proofs.Math.Seq.{drop-append_seam}
-use Rattle.turn_lock.proofs.Counts.{times_hit, times_miss}
+use Rattle.turn_lock.proofs.Counts.{census_at, times_hit, times_miss}
 use mathlib.Core.Option as maybe
 use mathlib.Core.List.{IsPrefix, map-append}
 use native.Mathlib.Decide.{ℕ_discrete}
@@ -20,7 +20,7 @@ use Rattle.turn_lock.specs.declared.view.Turn.{Turn}
 use Rattle.turn_lock.specs.inner.Turns.{ticket_modulus, KeepsTurns, turn_outside}
 use Rattle.turn_lock.specs.Chronicles.{entries_by, entries_past, AreBy}
 use Rattle.turn_lock.specs.inner.Rule.{KeepsLists, KeepsNumbers, HasSeen, OwnsEntries, SeesItsEntries, turn_of, KeepsRule}
-use Rattle.turn_lock.specs.inner.Steps.{AfterDraw, AfterLook, AfterFind, AfterNote, AfterServe, AfterTake, AfterCount, AfterEnrol, AfterKnow, spent_view}
+use Rattle.turn_lock.specs.inner.Steps.{AfterDraw, AfterLook, AfterFind, AfterNote, AfterServe, AfterTake, AfterCensus, AfterCount, AfterEnrol, AfterKnow, spent_view}
 use Rattle.turn_lock.specs.Passes.{opening_view, split_view, joined_view, HasJust, HasEnded, OwnsItsEntries}
 use Rattle.turn_lock.proofs.Seats.{stay, set_at}
 use Rattle.turn_lock.proofs.Prefixes.{prefix_self, past_longer, past_prefix}
@@ -35,6 +35,9 @@ held_or d (x ∷ xs) = x.1
 
 abbrev SeatState : Type 0 → Type 0 → Type 0
 SeatState V E = Me (Option V) (View E)
+
+none_within : {a b : ℕ} → b ≡ 0 → a ≤ b → a ≡ 0
+none_within above one = omega (arith, above, one)
 
 module _ {V E : Type 0} (entries : V → List E) (author : E → ℕ) (first : List E) where
   abbrev Rule : State (Option V) (View E) → Type 0
@@ -183,6 +186,15 @@ module _ {V E : Type 0} (entries : V → List E) (author : E → ℕ) (first : L
     loaded s.words 3 s.homes (set s.views id (record me.0 { known = n })) (restages s r s.words s.homes id me.0 me.0.turn n at refl refl refl (λ e. e) (omega arith)
         (subst (KeepsTurns (λ x. entries x ≡ r.log) s.words s.homes) (sym (set_again (map turn_of s.views) id me.0.turn there)) r.turns)),
     (refl, (r.numbers.each id me.0 at).known, r.numbers.limit, λ live. seen.seen_up_to author first r.log n me.0 (r.lists.each id me.0 at live) r.numbers.unwritten),
+  )
+
+  pub may_census : (slots id : ℕ) (me : SeatState V E) → Allows Rule slots id me 3 (λ n. n) (AfterCensus author (step slots 3 0 0 none) me)
+  may_census slots id me s r homes at wide = let counted = may_count slots id me s r homes at wide in (
+    counted.0,
+    counted.1,
+    counted.2,
+    counted.3,
+    (counted.4, λ n more. let above = r.numbers.none_above n more in let one = census_at n s.views id me.0 at in none_within above one),
   )
 
   pub may_enrol : (slots id : ℕ) (me : SeatState V E) (a b : ℕ) → b ≡ a + 1 → a < 4294967295 → a ≡ me.0.known → me.0.turn ≡ turn_outside 0 → me.0.live ≡ true → Allows Rule slots id me 3 (λ n. either (eqb n a) b n) (AfterEnrol author (step slots 3 a b none) me)

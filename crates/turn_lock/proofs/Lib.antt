@@ -4,6 +4,7 @@ pub mod TurnsKept
 pub mod Prefixes
 pub mod ListsKept
 pub mod Counts
+pub mod Covering
 pub mod NumbersKept
 pub mod SeenKept
 pub mod AllowedSteps

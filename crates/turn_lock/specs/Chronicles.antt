@@ -4,7 +4,8 @@ use Rattle.std.specs.Prelude.{◌≡◌, ℕ, ◌≤◌, ◌==◌, ◌⊎◌, Li
 -- the entries of the author with this number, in their order
 abbrev pub entries_by : {E : Type 0} → (E → ℕ) → ℕ → List E → List E
 entries_by author n [] = []
-entries_by author n (e ∷ es) = if author e == n then e ∷ entries_by author n es else entries_by author n es
+entries_by author n (e ∷ es) =
+    if author e == n then e ∷ entries_by author n es else entries_by author n es
 
 -- the entries of a list past one that it begins with
 abbrev pub entries_past : {E : Type 0} → List E → List E → List E

@@ -1,12 +1,12 @@
 // The lock and its passes.
-ghost use Rattle.std.specs.Prelude.{◌≡◌, ◌≢◌, ℕ, ◌<◌, ◌≤◌, ◌+◌, ◌%◌, max, true, false, [], ◌∷◌, ◌++◌, IfOk, IfErr, IfSome, IfNone, Some, None};
+ghost use Rattle.std.specs.Prelude.{◌≡◌, ◌≢◌, ℕ, ◌<◌, ◌≤◌, ◌+◌, ◌%◌, max, true, false, [], ◌∷◌, ◌++◌, length, IfOk, IfErr, IfSome, IfNone, Some, None};
 ghost use mathlib.Core.List.{IsPrefix};
 ghost use Rattle.turn_lock.specs.inner.Turns.{ticket_modulus, turn_outside, opening_turn};
 ghost use Rattle.turn_lock.specs.Chronicles.{entries_by, entries_past, AreBy, AreUpTo};
-ghost use Rattle.turn_lock.specs.Passes.{joined_passes, IsFirst, opening_view, split_view, joined_view, longer, IsNew, IsOutside, IsInside, IsSamePass, OwnsItsEntries};
+ghost use Rattle.turn_lock.specs.Passes.{joined_passes, IsFirst, opening_view, split_view, joined_view, longer, AreByOneOf, IsNew, IsOutside, IsInside, IsSamePass, OwnsItsEntries, numbers_of};
 
 use crate::chronicle::Chronicle;
-use crate::steps::{Count, Draw, Enrol, Find, Know, Look, Meet, Note, Serve, Take, Twin};
+use crate::steps::{Census, Count, Draw, Enrol, Find, Know, Look, Meet, Note, Serve, Take, Twin};
 use crate::view::{Ruled, View};
 use atomic_table::{Refused, Seat, Table};
 use std::alloc::{AllocError, Global};
@@ -64,7 +64,9 @@ impl<V: Chronicle> TurnLock<V> {
     pub fn open(alloc: Global, value: &V) -> Result<(TurnLock<V>, Pass<V, V::Entry>), AllocError>
         ensures { IfOk result (λ r. (r.1.seat.table_id ≡ r.0.table.shared.table_id)
             × IsInside r.1.seat
-            × (r.1.seat.me.0 ≡ record (opening_view (V.entries value.now)) { turn = record opening_turn { hollow = false } })) }
+            × (r.1.seat.me.0 ≡ record (opening_view (V.entries value.now)) {
+              turn = record opening_turn { hollow = false };
+            })) }
     {
         let about = Snapshot::of(value);
         let count = value.count();
@@ -116,7 +118,8 @@ impl<V: Chronicle> TurnLock<V> {
             × (pass.new.seat.me.0.made ≡ pass.old.seat.me.0.made) }
         ensures seen { (V.entries result ≡ pass.new.seat.me.0.seen)
             × IsPrefix pass.old.seat.me.0.seen pass.new.seat.me.0.seen }
-        ensures finds { pass.new.seat.me.0.finds ≡ pass.old.seat.me.0.finds ++ pass.new.seat.me.0.seen ∷ [] }
+        ensures finds { pass.new.seat.me.0.finds
+            ≡ pass.old.seat.me.0.finds ++ pass.new.seat.me.0.seen ∷ [] }
         ensures owner { OwnsItsEntries V.author pass.new.seat.me.0 }
     {
         let ticket = self.table.shared.fetch_add::<Draw>(&mut pass.seat, NEXT, 1);
@@ -131,7 +134,12 @@ impl<V: Chronicle> TurnLock<V> {
         requires drawn { (t : ℕ) × (ticket ≡ t % ticket_modulus)
             × (pass.old.me.0.turn.ticket ≡ Some t) }
         ensures same { (pass.new.table_id ≡ pass.old.table_id) × (pass.new.id ≡ pass.old.id) }
-        ensures turn { pass.new.me ≡ (record pass.old.me.0 { turn = record pass.old.me.0.turn { own = true } }, pass.old.me.1) }
+        ensures turn { pass.new.me ≡ (
+          record pass.old.me.0 {
+            turn = record pass.old.me.0.turn { own = true };
+          },
+          pass.old.me.1,
+        ) }
     {
         for _ in rt.forever() {
             let serving = self.table.shared.load::<Look>(pass, SERVING);
@@ -152,11 +160,14 @@ impl<V: Chronicle> TurnLock<V> {
         requires own { pass.old.seat.table_id ≡ self.now.table.shared.table_id }
         requires inside { IsInside pass.old.seat }
         requires extends { IsPrefix pass.old.seat.me.0.seen (V.entries value)
-            × AreBy V.author pass.old.seat.me.0.turn.number (entries_past pass.old.seat.me.0.seen (V.entries value)) }
+            × AreBy V.author pass.old.seat.me.0.turn.number
+            (entries_past pass.old.seat.me.0.seen (V.entries value)) }
         ensures pass { IsSamePass pass.old.seat pass.new.seat × IsOutside pass.new.seat
             × (pass.new.seat.me.0.finds ≡ pass.old.seat.me.0.finds) }
         ensures seen { pass.new.seat.me.0.seen ≡ V.entries value }
-        ensures made { pass.new.seat.me.0.made ≡ pass.old.seat.me.0.made ++ entries_by V.author pass.old.seat.me.0.turn.number (entries_past pass.old.seat.me.0.seen (V.entries value)) }
+        ensures made { pass.new.seat.me.0.made ≡ pass.old.seat.me.0.made
+            ++ entries_by V.author pass.old.seat.me.0.turn.number
+            (entries_past pass.old.seat.me.0.seen (V.entries value)) }
         ensures owner { OwnsItsEntries V.author pass.new.seat.me.0 }
     {
         let count = value.count();
@@ -189,8 +200,14 @@ impl<V: Chronicle> TurnLock<V> {
             × IsNew pass.old.seat p.seat × (pass.old.seat.me.0.known < p.seat.me.0.known)
             × OwnsItsEntries V.author p.seat.me.0) }
         ensures known { IfOk result (λ p. (p.seat.me.0.known ≤ pass.new.seat.me.0.known)
-            × (pass.new.seat.me ≡ (record pass.old.seat.me.0 { known = pass.new.seat.me.0.known }, pass.old.seat.me.1))) }
-        ensures spent { IfErr result (λ _. pass.new.seat.me ≡ (record pass.old.seat.me.0 { known = 4294967295 }, pass.old.seat.me.1)) }
+            × (pass.new.seat.me ≡ (
+              record pass.old.seat.me.0 {
+                known = pass.new.seat.me.0.known;
+              },
+              pass.old.seat.me.1,
+            ))) }
+        ensures spent { IfErr result (λ _. pass.new.seat.me
+            ≡ (record pass.old.seat.me.0 { known = 4294967295 }, pass.old.seat.me.1)) }
         ensures always { pass.old.seat.me.0.known ≡ 4294967295 → IfOk result (λ _. ⊥) }
     {
         let mut seat = self.table.shared.split_seat::<Twin>(&mut pass.seat);
@@ -241,7 +258,8 @@ impl<V: Chronicle> TurnLock<V> {
         requires own { seat.old.table_id ≡ self.now.table.shared.table_id }
         ensures same { (seat.new.table_id ≡ seat.old.table_id) × (seat.new.id ≡ seat.old.id) }
         ensures known { (number ≤ seat.new.me.0.known)
-            × (seat.new.me ≡ (record seat.old.me.0 { known = seat.new.me.0.known }, seat.old.me.1)) }
+            × (seat.new.me
+            ≡ (record seat.old.me.0 { known = seat.new.me.0.known }, seat.old.me.1)) }
     {
         for _ in rt.forever() {
             let known = self.table.shared.load::<Count>(seat, AUTHORS);
@@ -284,5 +302,29 @@ impl<V: Chronicle> TurnLock<V> {
         let value = self.enter(rt, &mut pass);
         self.table.shared.load::<Count>(&mut pass.seat, AUTHORS);
         value
+    }
+
+    /// The same for a pass that counts so many passes, itself and those that were joined into it: each entry behind those that the
+    /// lock began with is one of theirs, or the value's own. Where another pass was made too it waits for ever.
+    pub fn last_of<R: Wait>(&self, rt: &R, mut pass: Pass<V, V::Entry>, passes: u64) -> V
+        requires own { pass.seat.table_id ≡ self.now.table.shared.table_id }
+        requires outside { IsOutside pass.seat }
+        requires counted { length (numbers_of pass.seat.me.0) ≡ passes }
+        ensures { (v : View V.Entry) × (V.entries result ≡ v.seen)
+            × IsPrefix pass.seat.me.0.seen v.seen × (v.made ≡ pass.seat.me.0.made)
+            × (v.ended ≡ pass.seat.me.0.ended) × (v.first ≡ pass.seat.me.0.first)
+            × (v.start ≡ pass.seat.me.0.start)
+            × (v.turn.number ≡ pass.seat.me.0.turn.number) × OwnsItsEntries V.author v
+            × (pass.seat.me.0.known ≤ v.known) × (v.known ≤ 4294967295)
+            × AreUpTo V.author v.known (entries_past v.first v.seen)
+            × AreByOneOf V.author (numbers_of v) (entries_past v.first v.seen) }
+    {
+        let value = self.enter(rt, &mut pass);
+        let given = self.table.shared.load::<Census>(&mut pass.seat, AUTHORS);
+        if given == passes {
+            return value;
+        }
+        for _ in rt.forever() {}
+        unreachable!()
     }
 }

@@ -1,5 +1,5 @@
 // What each step on the table tells.
-ghost use Rattle.turn_lock.specs.inner.Steps.{AfterDraw, AfterLook, AfterFind, AfterNote, AfterServe, AfterCount, AfterEnrol, AfterTake, AfterKnow, spent_view};
+ghost use Rattle.turn_lock.specs.inner.Steps.{AfterDraw, AfterLook, AfterFind, AfterNote, AfterServe, AfterCensus, AfterCount, AfterEnrol, AfterTake, AfterKnow, spent_view};
 ghost use Rattle.turn_lock.specs.Passes.{split_view, joined_view};
 
 use crate::chronicle::Chronicle;
@@ -46,6 +46,12 @@ pub(crate) struct Count;
 
 impl<V: Chronicle> Play<Option<V>, View<V::Entry>> for Count {
     ghost then = { AfterCount V.author };
+}
+
+pub(crate) struct Census;
+
+impl<V: Chronicle> Play<Option<V>, View<V::Entry>> for Census {
+    ghost then = { AfterCensus V.author };
 }
 
 pub(crate) struct Enrol;

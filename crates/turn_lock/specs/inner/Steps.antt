@@ -1,10 +1,10 @@
 -- What each step on the lock's table tells the seat that makes it.
-use Rattle.std.specs.Prelude.{◌≡◌, ◌≢◌, ℕ, ◌%◌, ◌≤◌, ◌+◌, true, false, List, [], ◌∷◌, ◌++◌, Option, Some, None}
+use Rattle.std.specs.Prelude.{◌≡◌, ◌≢◌, ℕ, ◌%◌, ◌<◌, ◌≤◌, ◌+◌, true, false, List, [], ◌∷◌, ◌++◌, Option, Some, None}
 use mathlib.Core.List.{IsPrefix}
 use Rattle.atomic_table.specs.Table.{Me, Step, rest}
 use Rattle.turn_lock.specs.declared.view.View.{View}
 use Rattle.turn_lock.specs.Chronicles.{AreUpTo, entries_by, entries_past}
-use Rattle.turn_lock.specs.Passes.{OwnsItsEntries}
+use Rattle.turn_lock.specs.Passes.{OwnsItsEntries, numbers_of, occurrences}
 use Rattle.turn_lock.specs.inner.Turns.{ticket_modulus, turn_outside}
 
 -- what a seat knows and holds
@@ -43,6 +43,11 @@ module _ {V E : Type 0} where
   abbrev pub AfterCount : (E → ℕ) → Step (Option V) → SeatState V E → ℕ → SeatState V E → Type 0
   AfterCount author st m r m' = (m' ≡ (record m.0 { known = r }, m.1)) × (m.0.known ≤ r) × (r ≤ 4294967295)
       × (m.0.live ≡ true → AreUpTo author r (entries_past m.0.first m.0.seen))
+
+  -- and none of the seat's numbers is above that
+  abbrev pub AfterCensus : (E → ℕ) → Step (Option V) → SeatState V E → ℕ → SeatState V E → Type 0
+  AfterCensus author st m r m' = AfterCount author st m r m'
+      × ((n : ℕ) → r < n → occurrences n (numbers_of m.0) ≡ 0)
 
   abbrev pub AfterEnrol : (E → ℕ) → Step (Option V) → SeatState V E → ℕ → SeatState V E → Type 0
   AfterEnrol author st m r m' = (r ≡ st.first → (m' ≡ (record m.0 { turn = turn_outside (st.first + 1); known = st.first + 1 }, m.1)) × OwnsItsEntries author m'.0)
