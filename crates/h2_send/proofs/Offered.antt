@@ -1,6 +1,6 @@
 -- How a port sees a wire, and what an offer comes to.
 use Rattle.std.proofs.Common.{◌≡◌, ℕ, ◌<◌, ◌≤◌, ◌==◌, Bool, true, false, map, List, [], ◌∷◌, ◌++◌, IsTrue, refl, sym, ap, ◌∙◌, subst, arith, append-nil}
-use Rattle.std.specs.Prelude.{if◌then◌else◌}
+use Rattle.std.specs.Prelude.{if◌then◌else◌, Option, Some}
 use Rattle.std.proofs.lemmas.Bool.{false≢true}
 use Rattle.edge_traits.specs.Output.{Output, Wrote, FailedWithin}
 use Rattle.h2_windows.specs.Written.{octets_of}
@@ -18,7 +18,7 @@ use Rattle.h2_send.specs.Offers.{ready_on}
 use Rattle.h2_send.specs.Acting.{handled}
 use Rattle.h2_send.specs.Orders.{line_after}
 use Rattle.h2_send.specs.Conditions.{IsClosed, readiness}
-use Rattle.h2_send.specs.Port.{Progress, Ends, GoesOn, Takes, Tries, Offers, Asks, accepted_by, line_of, ready_in, said_so_far}
+use Rattle.h2_send.specs.Port.{Progress, Ends, GoesOn, Takes, Tries, Offers, Asks, accepted_by, given_by, line_of, ready_in, said_so_far}
 use Rattle.h2_send.specs.Wires.{WireView, Says, IsFolded, progress_of}
 use Rattle.h2_send.specs.declared.condition.Condition.{Condition}
 use Rattle.h2_send.specs.declared.condition.Condition.TheVariants as condition
@@ -172,3 +172,28 @@ said_by_offer other stream said found new ready.Gone r (is, same) = ap (λ p. sa
 -- of a port that is alone
 pub said_alone : (other stream : ℕ) (said : Said) (r : Took) (old new : Progress) → Offers true r stream said old new → said_so_far other new ≡ said_so_far other old ++ (if stream == other then accepted_by r said else [])
 said_alone other stream said r old new o = said_by_offer other stream said o.found new (ready_in stream o.found) r o.tries ∙ ap (λ p. said_so_far other p ++ (if stream == other then accepted_by r said else [])) (o.alone refl)
+
+-- ---- what an offer gives
+
+one_more_given : (inputs : List Input) (i : Input) → map Some (inputs ++ i ∷ []) ≡ map Some inputs ++ Some i ∷ []
+one_more_given [] i = refl
+one_more_given (first ∷ inputs) i = ap (λ (is : List (Option Input)). Some first ∷ is) (one_more_given inputs i)
+
+same_given : (stream : ℕ) (said : Said) (found new : Progress) (r t : Took) → r ≡ t → accepted_by t said ≡ [] → new ≡ found → map Some new.inputs ≡ map Some found.inputs ++ given_by r stream said
+same_given stream said found new r t is none same =
+    ap (λ (p : Progress). map Some p.inputs) same
+    ∙ sym (append-nil (map Some found.inputs))
+    ∙ ap (λ (words : List Said). map Some found.inputs ++ map (λ word. Some (Speech stream word)) words) (sym (ap (λ (k : Took). accepted_by k said) is ∙ none))
+
+given_by_offer : (stream : ℕ) (said : Said) (found new : Progress) (d : Ready) (r : Took) → Tries d r (Speech stream said) found new → map Some new.inputs ≡ map Some found.inputs ++ given_by r stream said
+given_by_offer stream said found new ready.Free took.Taken (wrote, grows, state) = ap (λ is. map Some is) grows ∙ one_more_given found.inputs (Speech stream said)
+given_by_offer stream said found new ready.Free took.WriteFault (failed, grows, state) = ap (λ is. map Some is) grows ∙ one_more_given found.inputs (Speech stream said)
+given_by_offer stream said found new ready.Free took.NoMemory (same, grows, state) = ap (λ is. map Some is) grows ∙ one_more_given found.inputs (Speech stream said)
+given_by_offer stream said found new ready.Free took.Busy never = absurd never
+given_by_offer stream said found new ready.Free took.Gone never = absurd never
+given_by_offer stream said found new ready.Busy r (is, same) = same_given stream said found new r took.Busy is refl same
+given_by_offer stream said found new ready.Gone r (is, same) = same_given stream said found new r took.Gone is refl same
+
+-- through a port that is alone
+pub given_alone : (stream : ℕ) (said : Said) (r : Took) (old new : Progress) → Offers true r stream said old new → map Some new.inputs ≡ map Some old.inputs ++ given_by r stream said
+given_alone stream said r old new o = given_by_offer stream said o.found new (ready_in stream o.found) r o.tries ∙ ap (λ (p : Progress). map Some p.inputs ++ given_by r stream said) (o.alone refl)

@@ -1,5 +1,5 @@
 -- How a port sees the sender of a connection, and what its calls do there.
-use Rattle.std.specs.Prelude.{◌≡◌, ℕ, ◌+◌, ◌-◌, ◌^◌, ◌≤◌, Bool, IsTrue, min, List, [], ◌∷◌, ◌++◌, map}
+use Rattle.std.specs.Prelude.{◌≡◌, ℕ, ◌+◌, ◌-◌, ◌^◌, ◌≤◌, Bool, IsTrue, min, List, [], ◌∷◌, ◌++◌, Option, Some, length, map}
 use Rattle.edge_traits.specs.Output.{Output, Wrote, FailedWithin}
 use Rattle.h2_windows.specs.Written.{octets_of}
 use Rattle.h2_events.specs.Items.{said_on, written}
@@ -39,8 +39,8 @@ abbrev pub said_so_far : ℕ → Progress → List Said
 said_so_far stream at = said_on stream (map item_of at.inputs)
 
 -- What has gone out of a sending half that was open and that others have closed: all of what they gave, and GOAWAY where they
--- ended the connection with an error; a proper front of that, where a write failed; and where memory was wanting for what was
--- given last, all before that.
+-- ended the connection with an error; a proper front of that, where a write failed; and where memory was wanting, all of it, or
+-- all before what was given last.
 abbrev pub Ends : Condition → Line → List Input → Output → Output → Type 0
 Ends condition.New line others old new = ⊥
 Ends condition.Open line others old new = Unit {0}
@@ -51,7 +51,8 @@ Ends condition.WriteFault line others old new =
     (code : ℕ) × FailedWithin (octets_of (written (order_after line others)
     ++ farewell code (line_after line others))) old new
 Ends condition.NoMemory line others old new =
-    (before : List Input) × (last : Input) × (others ≡ before ++ last ∷ [])
+    (before : List Input) × (lost : List Input) × (length lost ≤ 1)
+    × (others ≡ before ++ lost)
     × Wrote (octets_of (written (order_after line before))) old new
 
 -- What others do between two calls of a port. They may give more, each where it is accepted, and just the frames of that go
@@ -91,7 +92,8 @@ Tries ready.Busy answer input old new = (answer ≡ took.Busy) × (new ≡ old)
 Tries ready.Gone answer input old new = (answer ≡ took.Gone) × (new ≡ old)
 
 -- An offer finds the connection as others left it, and as it was where there are none.
-pub record Offers (is_alone : Bool) (answer : Took) (stream : ℕ) (said : Said) (old new : Progress) : Type 0 where
+pub record Offers (is_alone : Bool) (answer : Took) (stream : ℕ) (said : Said)
+    (old new : Progress) : Type 0 where
   pub found : Progress
   pub goes_on : GoesOn old found
   pub alone : IsTrue is_alone → found ≡ old
@@ -108,6 +110,10 @@ abbrev pub accepted_by : Took → Said → List Said
 accepted_by took.Busy said = []
 accepted_by took.Gone said = []
 accepted_by _ said = said ∷ []
+
+-- What an offer does through its port: it gives the sending half the piece where it was accepted.
+abbrev pub given_by : Took → ℕ → Said → List (Option Input)
+given_by answer stream said = map (λ word. Some (Speech stream word)) (accepted_by answer said)
 
 -- ---- what a port counts
 

@@ -29,11 +29,18 @@ pub record WireView (S : Type 0) : Type 0 where
   pub port : PortView
 
 module _ {S : Type 0} where
-  abbrev pub view_code : Coded S → Coded (Line × (List Input × (Condition × PortView))) → Coded (WireView S)
+  abbrev pub view_code : Coded S → Coded (Line × (List Input × (Condition × PortView)))
+      → Coded (WireView S)
   view_code sink parts =
       code_by (S × (Line × (List Input × (Condition × PortView)))) (coded× sink parts)
       (λ v. (v.sink, (v.line, (v.inputs, (v.condition, v.port)))))
-      (λ p. record { sink = p.0; line = p.1.0; inputs = p.1.1.0; condition = p.1.1.1.0; port = p.1.1.1.1 })
+      (λ p. record {
+        sink = p.0;
+        line = p.1.0;
+        inputs = p.1.1.0;
+        condition = p.1.1.1.0;
+        port = p.1.1.1.1;
+      })
       (λ _. refl)
 
 -- how far the wire has come
@@ -43,10 +50,16 @@ progress_of seen w =
 
 -- What a call on an open wire does. Where it answers Ok the frames are written, all of them. A write fault comes behind a
 -- proper front of their octets, and want of memory, which only some calls can have, before any. Both close the wire.
-abbrev pub Does : {S : Type 0} → (S → Output) → Bool → Condition → List Input → Acted → Result (Unit {0}) WireFaultOut → WireView S → WireView S → Type 0
+abbrev pub Does : {S : Type 0} → (S → Output) → Bool → Condition → List Input → Acted
+    → Result (Unit {0}) WireFaultOut → WireView S → WireView S → Type 0
 Does seen wants_memory next inputs a (Ok tt) old new =
     Wrote (octets_of a.frames) (seen old.sink) (seen new.sink)
-    × (new ≡ record old { sink = new.sink; line = a.line; inputs = old.inputs ++ inputs; condition = next })
+    × (new ≡ record old {
+      sink = new.sink;
+      line = a.line;
+      inputs = old.inputs ++ inputs;
+      condition = next;
+    })
 Does seen wants_memory next inputs a (Err fault.WriteFault) old new =
     FailedWithin (octets_of a.frames) (seen old.sink) (seen new.sink)
     × (new.inputs ≡ old.inputs ++ inputs)
@@ -61,9 +74,11 @@ Does seen wants_memory next inputs a (Err fault.NoMemory) old new =
 Does seen wants_memory next inputs a (Err fault.Overflow) old new = ⊥
 
 -- The same of the connection and the sink alone.
-abbrev pub Responds : Bool → Acted → Result (Unit {0}) WireFaultOut → Line → Output → Output → Type 0
+abbrev pub Responds : Bool → Acted → Result (Unit {0}) WireFaultOut → Line → Output → Output
+    → Type 0
 Responds wants_memory a (Ok tt) line old new = Wrote (octets_of a.frames) old new × (line ≡ a.line)
-Responds wants_memory a (Err fault.WriteFault) line old new = FailedWithin (octets_of a.frames) old new
+Responds wants_memory a (Err fault.WriteFault) line old new =
+    FailedWithin (octets_of a.frames) old new
 Responds wants_memory a (Err fault.NoMemory) line old new = (wants_memory ≡ true) × (new ≡ old)
 Responds wants_memory a (Err fault.Overflow) line old new = ⊥
 
@@ -72,7 +87,8 @@ abbrev pub Says : {S : Type 0} → (S → Output) → Input → Took → WireVie
 Says seen input took.Taken old new =
     Does seen true condition.Open (input ∷ []) (handled input old.line) (Ok tt) old new
 Says seen input took.WriteFault old new =
-    Does seen true condition.Open (input ∷ []) (handled input old.line) (Err fault.WriteFault) old new
+    Does seen true condition.Open (input ∷ []) (handled input old.line) (Err fault.WriteFault)
+    old new
 Says seen input took.NoMemory old new =
     Does seen true condition.Open (input ∷ []) (handled input old.line) (Err fault.NoMemory) old new
 Says seen input _ old new = ⊥

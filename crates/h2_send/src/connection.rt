@@ -263,7 +263,8 @@ impl Connection {
 
     /// Sends what the windows let through.
     pub(crate) fn flush<S: Sink>(&mut self, sink: &mut S) -> Result<(), Failed>
-        ensures writes { Writes result (flushed self.old).frames (S.seen sink.old) (S.seen sink.new) }
+        ensures writes { Writes result (flushed self.old).frames
+            (S.seen sink.old) (S.seen sink.new) }
         ensures line { OnOk result (self.new ≡ (flushed self.old).line) }
     {
         send_allowed(

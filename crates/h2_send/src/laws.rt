@@ -218,7 +218,8 @@ pub fn outputs_go_on()
     ensures failed { (inputs : List Input) (input : Input) (start old new : Output)
         → Wrote (octets_of (greeting ∷ written (order_of inputs))) start old
         → FailedWithin (octets_of (handled input (line_after first_line inputs)).frames) old new
-        → FailedWithin (octets_of (greeting ∷ written (order_of (inputs ++ input ∷ [])))) start new }
+        → FailedWithin (octets_of (greeting ∷ written (order_of (inputs ++ input ∷ []))))
+        start new }
     ensures finished { (inputs : List Input) (code : ℕ) (start old new : Output)
         → Wrote (octets_of (greeting ∷ written (order_of inputs))) start old
         → Wrote (octets_of (farewell code (line_after first_line inputs))) old new

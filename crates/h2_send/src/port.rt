@@ -2,7 +2,7 @@
 ghost use Rattle.std.specs.Prelude.{◌≡◌, ◌≤◌, ◌==◌, ◌++◌, [], ℕ as Number, IsTrue, if◌then◌else◌};
 ghost use Rattle.h2_events.specs.Items.{said_by};
 ghost use Rattle.h2_events.specs.Ports.{FitsMessage};
-ghost use Rattle.h2_send.specs.Port.{Asks, Offers, accepted_by, asked, noted, said_so_far, unused_port};
+ghost use Rattle.h2_send.specs.Port.{Asks, Offers, accepted_by, asked, given_by, noted, said_so_far, unused_port};
 
 use crate::wire::Wire;
 use base_lists::Remembered;
@@ -14,7 +14,8 @@ use std::marker::Model;
 /// A port to the sending half of a connection. Where other threads have ports to the same connection a call may find it
 /// otherwise than the port saw it last.
 pub trait WirePort {
-    ghost use Rattle.std.specs.Prelude.{ℕ, Bool, List};
+    ghost use Rattle.std.specs.Prelude.{ℕ, Bool, List, Option};
+    ghost use Rattle.h2_send.specs.Inputs.{Input};
     ghost use Rattle.h2_send.specs.Port.{PortView, Progress};
 
     /// Which connection it is a port to, among those that have several ports: its name, a list of numbers.
@@ -34,16 +35,26 @@ pub trait WirePort {
     /// Free; how often `offer` was called. Both counts stand still at the end of a u64.
     ghost counts: { Self → PortView };
 
+    /// What was done through this port, in order: what it gave the sending half, and None for each other thing, as the end of the
+    /// connection.
+    ghost given: { Self → List (Option Input) };
+
+    /// The number of its author, and those of the ports that ended by meeting it, in order. None where nobody else can have a port.
+    ghost authors: { Self → List ℕ };
+
     /// Whether the stream takes a piece now: it is Gone where it was never opened, was reset or ended, or the connection is
     /// closed; else Busy where octets wait on it, and Free where none do.
     fn ready(&mut self, stream: u32) -> Ready
-        ensures asks { Asks (is_alone self.old) result stream (progress self.old) (progress self.new) }
+        ensures asks { Asks (is_alone self.old) result stream
+            (progress self.old) (progress self.new) }
         ensures connection { connection self.new ≡ connection self.old }
+        ensures authors { authors self.new ≡ authors self.old }
         ensures alone { is_alone self.new ≡ is_alone self.old }
         ensures owns { owns self.new ≡ owns self.old }
         // Nothing is said by asking,
         ensures own { (other : Number) → IsTrue (owns self.old other)
             → said_so_far other (progress self.new) ≡ said_so_far other (progress self.old) }
+        ensures given { given self.new ≡ given self.old }
         ensures counts { counts self.new ≡ asked result (counts self.old) };
 
     /// Says a piece on the stream where it is free; else the piece is dropped, and nothing changes.
@@ -52,12 +63,14 @@ pub trait WirePort {
         ensures offers { Offers (is_alone self.old) result stream (said_by piece)
             (progress self.old) (progress self.new) }
         ensures connection { connection self.new ≡ connection self.old }
+        ensures authors { authors self.new ≡ authors self.old }
         ensures alone { is_alone self.new ≡ is_alone self.old }
         ensures owns { owns self.new ≡ owns self.old }
         // and by an offer no more than the piece, where it is accepted.
         ensures own { (other : Number) → IsTrue (owns self.old other)
             → said_so_far other (progress self.new) ≡ said_so_far other (progress self.old)
             ++ (if stream == other then accepted_by result (said_by piece) else []) }
+        ensures given { given self.new ≡ given self.old ++ given_by result stream (said_by piece) }
         ensures counts { counts self.new ≡ noted result (stream, piece) (counts self.old) }
         ensures later { (counts self.old).offers ≤ (counts self.new).offers };
 }
@@ -116,7 +129,7 @@ impl Port {
 }
 
 impl<S: Sink> WirePort for Wire<S> {
-    ghost use Rattle.std.specs.Prelude.{true, []};
+    ghost use Rattle.std.specs.Prelude.{true, [], map, Some};
     ghost use Rattle.h2_send.specs.Wires.{progress_of};
 
     ghost connection = { λ w. [] };
@@ -126,6 +139,10 @@ impl<S: Sink> WirePort for Wire<S> {
     ghost is_alone = { λ w. true };
 
     ghost owns = { λ w other. true };
+
+    ghost given = { λ w. map Some w.inputs };
+
+    ghost authors = { λ w. [] };
 
     ghost counts = { λ w. w.port };
 

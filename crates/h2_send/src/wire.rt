@@ -233,11 +233,13 @@ impl<S: Sink> Wire<S> {
     /// `Overflow` comes exactly where the event would take a window above 2,147,483,647. On a wire that isn't open it answers
     /// the fault that closed it, and Ok where none did.
     pub fn act(&mut self, alloc: Global, event: &RecvEvent) -> Result<(), WireFaultOut>
-        ensures acts { self.old.condition ≡ Condition.Open → overflows event.now self.old.line ≡ false
+        ensures acts { self.old.condition ≡ Condition.Open
+            → overflows event.now self.old.line ≡ false
             → Does S.seen (is_new_stream event.now) Condition.Open (Event event.now ∷ [])
             (acted event.now self.old.line) result self.old self.new }
         // A window that would be larger than it may be is left to the caller, and nothing is changed.
-        ensures overflow { self.old.condition ≡ Condition.Open → overflows event.now self.old.line ≡ true
+        ensures overflow { self.old.condition ≡ Condition.Open
+            → overflows event.now self.old.line ≡ true
             → (result ≡ Err WireFaultOut.Overflow) × (self.new ≡ self.old) }
         ensures closed { self.old.condition ≢ Condition.Open
             → (result ≡ answer_of self.old.condition) × (self.new ≡ self.old) }

@@ -63,7 +63,7 @@ ends_on condition.New line xs ys old mid new first ends = absurd ends
 ends_on condition.Open line xs ys old mid new first ends = tt
 ends_on condition.Finished line xs ys old mid new first (code, wrote) = (code, wrote_both old mid new (octets_of (frames_by line xs)) (octets_of (frames_by (line_after line xs) ys ++ farewell code (line_after (line_after line xs) ys))) (octets_of (frames_by line (xs ++ ys) ++ farewell code (line_after line (xs ++ ys)))) (octets_end line xs ys code) first wrote)
 ends_on condition.WriteFault line xs ys old mid new first (code, failed) = (code, failed_behind old mid new (octets_of (frames_by line xs)) (octets_of (frames_by (line_after line xs) ys ++ farewell code (line_after (line_after line xs) ys))) (octets_of (frames_by line (xs ++ ys) ++ farewell code (line_after line (xs ++ ys)))) (octets_end line xs ys code) first failed)
-ends_on condition.NoMemory line xs ys old mid new first (before, last, are, wrote) = (xs ++ before, last, ap (λ is. xs ++ is) are ∙ sym (append_assoc xs before (last ∷ [])), wrote_both old mid new (octets_of (frames_by line xs)) (octets_of (frames_by (line_after line xs) before)) (octets_of (frames_by line (xs ++ before))) (octets_more line xs before) first wrote)
+ends_on condition.NoMemory line xs ys old mid new first (before, lost, one, are, wrote) = (xs ++ before, lost, one, ap (λ is. xs ++ is) are ∙ sym (append_assoc xs before lost), wrote_both old mid new (octets_of (frames_by line xs)) (octets_of (frames_by (line_after line xs) before)) (octets_of (frames_by line (xs ++ before))) (octets_more line xs before) first wrote)
 
 none_behind : {E : Type 0} (xs ys : List E) → xs ++ ys ≡ xs → ys ≡ []
 none_behind xs [] is = refl
@@ -127,7 +127,7 @@ module _ (at left : Progress) (is_open : at.condition ≡ condition.Open) where
   gave_ends condition.Open input out wrote = tt
   gave_ends condition.Finished input out never = absurd never
   gave_ends condition.WriteFault input out failed = (0, subst (λ os. FailedWithin os at.output out) (sym (ap octets_of (append-nil (frames_by (line_of at) (input ∷ []))) ∙ frames_one input)) failed)
-  gave_ends condition.NoMemory input out same = ([], input, refl, wrote_nothing at.output out same)
+  gave_ends condition.NoMemory input out same = ([], input ∷ [], omega arith, refl, wrote_nothing at.output out same)
 
   gave_faults : (state : Condition) (input : Input) (out : Output) → GoesOut state input at out → at.output.faults ≤ out.faults
   gave_faults condition.New input out never = absurd never
@@ -171,12 +171,12 @@ module _ (at left : Progress) (is_open : at.condition ≡ condition.Open) where
     faults = end_faults left.condition code left.output out;
     closed = never_closed;
   }
-  goes_by Starved same = subst (GoesOn at) (sym same) (record {
+  goes_by (Starved input) same = subst (GoesOn at) (sym same) (record {
     others = [];
     inputs = sym (append-nil at.inputs);
     accepted = tt;
     wrote = λ was is. absurd cc;
-    ended = λ was. (0, wrote_nothing at.output at.output refl);
+    ended = λ was. ([], [], omega arith, refl, wrote_nothing at.output at.output refl);
     faults = omega arith;
     closed = λ is. absurd (subst IsClosed is_open is);
   })

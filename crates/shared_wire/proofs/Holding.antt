@@ -18,15 +18,15 @@ use Rattle.h2_send.specs.declared.fault.WireFaultOut.TheVariants as fault
 use Rattle.h2_send.specs.declared.condition.Condition.{Condition}
 use Rattle.h2_send.specs.declared.condition.Condition.TheVariants as condition
 use Rattle.h2_send.proofs.Closing.{open_line}
-use Rattle.shared_wire.specs.Records.{WireRecord, FitsTypes, IsPorts, Leaves, Adds, AddsWhereOpen, AnswersEnd, AnswersPiece, SaysOn, AreRecords, IsLastRoom, IsOpen, ByRoom, fault_behind, last_record, left_in, most_records}
+use Rattle.shared_wire.specs.Records.{WireRecord, FitsTypes, IsPorts, Leaves, Adds, AddsWhereOpen, AnswersEnd, AnswersPiece, SaysOn, AreRecords, HasNoRoom, IsLastRoom, IsOpen, ByRoom, fault_in, last_record, left_in, most_records}
 use Rattle.shared_wire.specs.Parts.{FitTypes, input_parts}
-use Rattle.shared_wire.specs.Visits.{StandsBehind}
+use Rattle.shared_wire.specs.Visits.{IsLeftClosed, StandsBehind}
 use Rattle.shared_wire.specs.inner.Holding.{Holds}
-use Rattle.shared_wire.specs.inner.Telling.{Loses, acted_so, condition_by, deed_of, left_by, starved_left, starved_record, stated_so}
+use Rattle.shared_wire.specs.inner.Logging.{Loses, acted_so, condition_by, deed_of, left_by, starved_record, stated_so}
 use Rattle.shared_wire.specs.declared.log.Noted.{Noted}
 use Rattle.shared_wire.specs.declared.log.Noted.TheVariants as noted
 use Rattle.shared_wire.proofs.Following.{last_is, records_more}
-use Rattle.shared_wire.proofs.Leaving.{told, ends_silently}
+use Rattle.shared_wire.proofs.Leaving.{noted_record, ends_silently}
 
 pub closed_not_open : (state : Condition) → IsClosed state → state ≡ condition.Open → ⊥
 closed_not_open state closed is = subst IsClosed is closed
@@ -64,28 +64,39 @@ module _ {S : Type 0} (seen : S → Output) (v : WireView S) (rs : List WireReco
   are_all : AreRecords all
   are_all = records_more rs r are is_open leaves some
 
-  pub stands_behind : seen v.sink ≡ r.left.output → (r.left.condition ≡ condition.Open → progress_of seen v ≡ r.left) → ((r.left.condition ≡ condition.Open → ⊥) → IsClosed v.condition) → StandsBehind seen all v
+  pub stands_behind : seen v.sink ≡ r.left.output → (r.left.condition ≡ condition.Open → progress_of seen v ≡ r.left) → IsLeftClosed r.left.condition all v.condition → StandsBehind seen all v
   stands_behind output opened closed = record {
     records = are_all;
     output = output ∙ ap (λ (x : WireRecord). x.left.output) (sym last);
     is_open = λ is. opened (ap (λ (x : WireRecord). x.left.condition) (sym last) ∙ is) ∙ ap (λ (x : WireRecord). x.left) (sym last);
-    closed = λ is. closed (λ is_open. is (ap (λ (x : WireRecord). x.left.condition) last ∙ is_open));
+    closed = λ is. subst (λ (x : WireRecord). IsLeftClosed x.left.condition all v.condition) (sym last) closed;
   }
 
   counted : (count : ℕ) → length rs ≡ count → length all ≡ count + 1
   counted count is = let l = length-append rs (r ∷ []) in omega (arith, l, is)
 
+  answers_so : (state : Condition) → r.left.condition ≡ state → answer_of state ≡ fault_in all
+  answers_so state left_state = sym (ap (λ (x : WireRecord). answer_of x.left.condition) last ∙ ap answer_of left_state)
+
+  -- the wire stands as this call left it, and there was room for it
+  left_so : (state : Condition) → v.condition ≡ state → (state ≡ condition.NoMemory → HasNoRoom all → ⊥) → IsLeftClosed state all v.condition
+  left_so condition.New is room = is
+  left_so condition.Open is room = is
+  left_so condition.Finished is room = is
+  left_so condition.WriteFault is room = is
+  left_so condition.NoMemory is room = (λ full. absurd (room refl full), λ _. is)
+
   -- the wire goes on, or this call closed it
-  pub holds_on : (state : Condition) (count : ℕ) → length rs ≡ count → progress_of seen v ≡ r.left → v.condition ≡ state → (state ≡ condition.Open) ⊎ IsClosed state → ((s : Condition) → fault_behind r.deed s ≡ answer_of s) → IsFolded v.condition v.line v.inputs → (state ≡ condition.Open → count + 1 < most_records) → Holds seen state v all (count + 1)
-  holds_on state count long is stands either plain folded room = record {
+  pub holds_on : (state : Condition) (count : ℕ) → length rs ≡ count → progress_of seen v ≡ r.left → v.condition ≡ state → IsFolded v.condition v.line v.inputs → ((state ≡ condition.Open) ⊎ (state ≡ condition.NoMemory) → count + 1 < most_records) → Holds seen state v all (count + 1)
+  holds_on state count long is stands folded room = record {
     counted = counted count long;
-    stands = stands_behind (ap (λ (p : Progress). p.output) is) (λ _. is) (λ shut. closed_then either shut);
-    answers = sym (ap (λ (x : WireRecord). fault_behind x.deed x.left.condition) last ∙ plain r.left.condition ∙ ap answer_of left_state);
+    stands = stands_behind (ap (λ (p : Progress). p.output) is) (λ _. is) (subst (λ s. IsLeftClosed s all v.condition) (sym left_state) (left_so state stands some_room));
+    answers = answers_so state left_state;
     is_open = λ then_. record {
       is_open = ap (λ (x : WireRecord). x.left.condition) last ∙ left_state ∙ then_;
       wire_open = stands ∙ then_;
       line = open_line v.condition v.line v.inputs (stands ∙ then_) folded;
-      room = room then_;
+      room = room (inl then_);
     };
     closed = λ shut is. shut (sym left_state ∙ ap (λ (x : WireRecord). x.left.condition) (sym last) ∙ is);
   }
@@ -93,19 +104,24 @@ module _ {S : Type 0} (seen : S → Output) (v : WireView S) (rs : List WireReco
       left_state : r.left.condition ≡ state
       left_state = ap (λ (p : Progress). p.condition) (sym is) ∙ stands
 
-      closed_then : (state ≡ condition.Open) ⊎ IsClosed state → (r.left.condition ≡ condition.Open → ⊥) → IsClosed v.condition
-      closed_then (inl opened) shut = absurd (shut (left_state ∙ opened))
-      closed_then (inr closed) shut = subst IsClosed (sym stands) closed
+      some_room : state ≡ condition.NoMemory → HasNoRoom all → ⊥
+      some_room wants full = let less = room (inr wants) in let many = counted count long in omega (arith, less, many, full)
 
   -- there was room for this record alone, and the wire is closed
-  pub holds_starved : (count : ℕ) → length rs ≡ count → seen v.sink ≡ r.left.output → IsClosed v.condition → IsClosed r.left.condition → fault_behind r.deed r.left.condition ≡ answer_of condition.NoMemory → Holds seen condition.NoMemory v all (count + 1)
-  holds_starved count long output closed left_closed answers = record {
+  pub holds_starved : (count : ℕ) → length rs ≡ count → IsLastRoom rs → seen v.sink ≡ r.left.output → v.condition ≡ condition.Finished → r.left.condition ≡ condition.NoMemory → Holds seen condition.NoMemory v all (count + 1)
+  holds_starved count long last_room output closed left_state = record {
     counted = counted count long;
-    stands = stands_behind output (λ is. absurd (closed_not_open r.left.condition left_closed is)) (λ shut. closed);
-    answers = sym (ap (λ (x : WireRecord). fault_behind x.deed x.left.condition) last ∙ answers);
+    stands = stands_behind output (λ is. absurd (not_open is)) (subst (λ s. IsLeftClosed s all v.condition) (sym left_state) (λ _. closed, λ room. absurd (room full)));
+    answers = answers_so condition.NoMemory left_state;
     is_open = λ never. absurd cc;
-    closed = λ shut is. closed_not_open r.left.condition left_closed (ap (λ (x : WireRecord). x.left.condition) (sym last) ∙ is);
+    closed = λ shut is. not_open (ap (λ (x : WireRecord). x.left.condition) (sym last) ∙ is);
   }
+    where
+      not_open : r.left.condition ≡ condition.Open → ⊥
+      not_open is = closed_not_open condition.NoMemory tt (sym left_state ∙ is)
+
+      full : HasNoRoom all
+      full = let l = length-append rs (r ∷ []) in omega (arith, l, last_room)
 
 -- ---- what is added
 
@@ -124,12 +140,12 @@ open_of condition.NoMemory never = absurd (never (λ is. absurd cc))
 
 -- ---- one call on a wire that a turn found open
 
-module _ {S : Type 0} (seen : S → Output) (author : ℕ) (w v : WireView S) (state : Condition) (log new : List WireRecord) (count : ℕ) (h : Holds seen state w log count) (is_open : state ≡ condition.Open) (entry deed : Noted) (is : entry ≡ deed) (new_is : new ≡ log ++ told seen author entry v ∷ []) (leaves : Leaves (deed_of deed) (progress_of seen w) (left_by deed (progress_of seen v))) (some : IsPorts author (deed_of deed)) where
+module _ {S : Type 0} (seen : S → Output) (author : ℕ) (w v : WireView S) (state : Condition) (log new : List WireRecord) (count : ℕ) (h : Holds seen state w log count) (is_open : state ≡ condition.Open) (entry deed : Noted) (is : entry ≡ deed) (new_is : new ≡ log ++ noted_record seen author entry v ∷ []) (leaves : Leaves (deed_of deed) (progress_of seen w) (left_by deed (progress_of seen v))) (some : IsPorts author (deed_of deed)) where
   abbrev pub its_record : WireRecord
-  its_record = told seen author deed v
+  its_record = noted_record seen author deed v
 
   all_is : new ≡ log ++ its_record ∷ []
-  all_is = new_is ∙ ap (λ d. log ++ told seen author d v ∷ []) is
+  all_is = new_is ∙ ap (λ d. log ++ noted_record seen author d v ∷ []) is
 
   leaves_here : Leaves its_record.deed (left_in log) its_record.left
   leaves_here = subst (λ at. Leaves its_record.deed at its_record.left) (h.stands.is_open (h.is_open is_open).is_open) leaves
@@ -137,14 +153,14 @@ module _ {S : Type 0} (seen : S → Output) (author : ℕ) (w v : WireView S) (s
   pub noted_adds : Adds author log (its_record ∷ []) new
   noted_adds = subst (Adds author log (its_record ∷ [])) (sym all_is) (adds_one author log its_record refl h.stands.records (h.is_open is_open).is_open leaves_here some)
 
-  pub noted_holds : (next : Condition) → left_by deed (progress_of seen v) ≡ progress_of seen v → v.condition ≡ next → (next ≡ condition.Open) ⊎ IsClosed next → ((s : Condition) → fault_behind (deed_of deed) s ≡ answer_of s) → IsFolded v.condition v.line v.inputs → (next ≡ condition.Open → count + 1 < most_records) → Holds seen next v new (count + 1)
-  noted_holds next kept stands either plain folded room =
+  pub noted_holds : (next : Condition) → left_by deed (progress_of seen v) ≡ progress_of seen v → v.condition ≡ next → IsFolded v.condition v.line v.inputs → ((next ≡ condition.Open) ⊎ (next ≡ condition.NoMemory) → count + 1 < most_records) → Holds seen next v new (count + 1)
+  noted_holds next kept stands folded room =
       subst (λ l. Holds seen next v l (count + 1)) (sym all_is)
-      (holds_on seen v log its_record h.stands.records (h.is_open is_open).is_open leaves_here some next count h.counted (sym kept) stands either plain folded room)
+      (holds_on seen v log its_record h.stands.records (h.is_open is_open).is_open leaves_here some next count h.counted (sym kept) stands folded room)
 
 -- ---- a call for which there was no room but the last
 
-module _ {S : Type 0} (seen : S → Output) (author : ℕ) (w v : WireView S) (state : Condition) (log new : List WireRecord) (count : ℕ) (h : Holds seen state w log count) (is_open : IsOpen log) (deed : Noted) (loses : Loses deed (left_in log)) (new_is : new ≡ log ++ told seen author deed v ∷ []) (some : IsPorts author (deed_of deed)) where
+module _ {S : Type 0} (seen : S → Output) (author : ℕ) (w v : WireView S) (state : Condition) (log new : List WireRecord) (count : ℕ) (h : Holds seen state w log count) (is_open : IsOpen log) (last_room : IsLastRoom log) (deed : Noted) (loses : Loses deed (left_in log)) (new_is : new ≡ log ++ noted_record seen author deed v ∷ []) (some : IsPorts author (deed_of deed)) where
   pub was_open : state ≡ condition.Open
   was_open = open_of state (λ shut. h.closed shut is_open)
 
@@ -154,29 +170,29 @@ module _ {S : Type 0} (seen : S → Output) (author : ℕ) (w v : WireView S) (s
   abbrev pub lost : WireRecord
   lost = starved_record author deed at
 
-  starved_is : (d : Noted) → Loses d at → progress_of seen v ≡ record at { condition = condition.Finished } → left_by d (progress_of seen v) ≡ starved_left d at
+  starved_is : (d : Noted) → Loses d at → progress_of seen v ≡ record at { condition = condition.Finished } → left_by d (progress_of seen v) ≡ left_by d at
   starved_is noted.Began never ends = absurd never
   starved_is (noted.Gave given) never ends = absurd never
   starved_is (noted.Lost given) accepted ends = ap (λ p. left_by (noted.Lost given) p) ends
   starved_is (noted.Refused given) never ends = absurd never
   starved_is (noted.Ended code) never ends = absurd never
-  starved_is noted.Starved any ends = ends
+  starved_is (noted.Starved given) any ends = ap (λ p. left_by (noted.Starved given) p) ends
 
-  starved_leaves : (d : Noted) → Loses d at → Leaves (deed_of d) at (starved_left d at)
+  starved_leaves : (d : Noted) → Loses d at → Leaves (deed_of d) at (left_by d at)
   starved_leaves noted.Began never = absurd never
   starved_leaves (noted.Gave given) never = absurd never
   starved_leaves (noted.Lost given) accepted = (accepted, refl, refl)
   starved_leaves (noted.Refused given) never = absurd never
   starved_leaves (noted.Ended code) never = absurd never
-  starved_leaves noted.Starved any = refl
+  starved_leaves (noted.Starved given) any = refl
 
-  starved_closed : (d : Noted) → Loses d at → IsClosed (starved_left d at).condition × (fault_behind (deed_of d) (starved_left d at).condition ≡ answer_of condition.NoMemory) × (at.output ≡ (starved_left d at).output)
+  starved_closed : (d : Noted) → Loses d at → ((left_by d at).condition ≡ condition.NoMemory) × (at.output ≡ (left_by d at).output)
   starved_closed noted.Began never = absurd never
   starved_closed (noted.Gave given) never = absurd never
-  starved_closed (noted.Lost given) accepted = (tt, refl, refl)
+  starved_closed (noted.Lost given) accepted = (refl, refl)
   starved_closed (noted.Refused given) never = absurd never
   starved_closed (noted.Ended code) never = absurd never
-  starved_closed noted.Starved any = (tt, refl, refl)
+  starved_closed (noted.Starved given) any = (refl, refl)
 
   module _ (result : Result (Unit {0}) WireFaultOut) (does : Does seen false condition.Finished [] (finished 0 w.line) result w v) where
     ends : progress_of seen v ≡ record at { condition = condition.Finished }
@@ -192,41 +208,16 @@ module _ {S : Type 0} (seen : S → Output) (author : ℕ) (w v : WireView S) (s
     starved_holds =
         let shut = starved_closed deed loses in
         subst (λ l. Holds seen condition.NoMemory v l (count + 1)) (sym all_lost)
-        (holds_starved seen v log lost h.stands.records is_open (starved_leaves deed loses) some count h.counted
-        (ap (λ (p : Progress). p.output) ends ∙ shut.2) (subst IsClosed (sym (ap (λ (p : Progress). p.condition) ends)) tt) shut.0 shut.1)
+        (holds_starved seen v log lost h.stands.records is_open (starved_leaves deed loses) some count h.counted last_room
+        (ap (λ (p : Progress). p.output) ends ∙ shut.1) (ap (λ (p : Progress). p.condition) ends) shut.0)
 
 -- ---- what is noted
-
-pub either_after : (next : Condition) → IsClosed next → (result : Result (Unit {0}) WireFaultOut) → (condition_after next result ≡ condition.Open) ⊎ IsClosed (condition_after next result)
-either_after next closed (Ok tt) = inr closed
-either_after next closed (Err fault.WriteFault) = inr tt
-either_after next closed (Err fault.NoMemory) = inr tt
-either_after next closed (Err fault.Overflow) = inl refl
-
-pub either_open : (result : Result (Unit {0}) WireFaultOut) → (condition_after condition.Open result ≡ condition.Open) ⊎ IsClosed (condition_after condition.Open result)
-either_open (Ok tt) = inl refl
-either_open (Err fault.WriteFault) = inr tt
-either_open (Err fault.NoMemory) = inr tt
-either_open (Err fault.Overflow) = inl refl
-
-pub either_by : (answer : Took) → (condition_by answer ≡ condition.Open) ⊎ IsClosed (condition_by answer)
-either_by took.Taken = inl refl
-either_by took.Busy = inl refl
-either_by took.Gone = inl refl
-either_by took.WriteFault = inr tt
-either_by took.NoMemory = inr tt
 
 pub acted_kept : (given : Given) (result : Result (Unit {0}) WireFaultOut) (p : Progress) → left_by (acted_so given result) p ≡ p
 acted_kept given (Ok tt) p = refl
 acted_kept given (Err fault.WriteFault) p = refl
 acted_kept given (Err fault.NoMemory) p = refl
 acted_kept given (Err fault.Overflow) p = refl
-
-pub acted_plain : (given : Given) (result : Result (Unit {0}) WireFaultOut) (s : Condition) → fault_behind (deed_of (acted_so given result)) s ≡ answer_of s
-acted_plain given (Ok tt) s = refl
-acted_plain given (Err fault.WriteFault) s = refl
-acted_plain given (Err fault.NoMemory) s = refl
-acted_plain given (Err fault.Overflow) s = refl
 
 pub stated_kept : (given : Given) (answer : Took) (p : Progress) → left_by (stated_so given answer) p ≡ p
 stated_kept given took.Taken p = refl
@@ -235,19 +226,14 @@ stated_kept given took.Gone p = refl
 stated_kept given took.WriteFault p = refl
 stated_kept given took.NoMemory p = refl
 
-pub stated_plain : (given : Given) (answer : Took) (s : Condition) → fault_behind (deed_of (stated_so given answer)) s ≡ answer_of s
-stated_plain given took.Taken s = refl
-stated_plain given took.Busy s = refl
-stated_plain given took.Gone s = refl
-stated_plain given took.WriteFault s = refl
-stated_plain given took.NoMemory s = refl
-
--- a connection that was ended is closed
-pub closed_after : (code : ℕ) (result : Result (Unit {0}) WireFaultOut) (r : WireRecord) → AnswersEnd code result r → IsClosed (condition_after condition.Finished result)
-closed_after code (Ok tt) r answers = tt
-closed_after code (Err fault.WriteFault) r answers = tt
-closed_after code (Err fault.NoMemory) r never = absurd never
-closed_after code (Err fault.Overflow) r never = absurd never
+-- a connection that was ended is closed, and memory wasn't wanting for that
+pub closed_after : (code : ℕ) (result : Result (Unit {0}) WireFaultOut) (r : WireRecord) → AnswersEnd code result r → (condition_after condition.Finished result ≡ condition.Open) ⊎ (condition_after condition.Finished result ≡ condition.NoMemory) → ⊥
+closed_after code (Ok tt) r answers (inl is) = absurd cc
+closed_after code (Ok tt) r answers (inr is) = absurd cc
+closed_after code (Err fault.WriteFault) r answers (inl is) = absurd cc
+closed_after code (Err fault.WriteFault) r answers (inr is) = absurd cc
+closed_after code (Err fault.NoMemory) r never either = absurd never
+closed_after code (Err fault.Overflow) r never either = absurd never
 
 -- a stream that is free neither keeps octets back nor is gone
 free_not_busy : {P : Type 0} → ready.Free ≡ ready.Busy → P

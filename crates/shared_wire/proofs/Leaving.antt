@@ -24,13 +24,13 @@ use Rattle.h2_send.specs.declared.fault.WireFaultOut.{WireFaultOut}
 use Rattle.h2_send.specs.declared.fault.WireFaultOut.TheVariants as fault
 use Rattle.h2_send.proofs.Holding.{ready_free}
 use Rattle.shared_wire.specs.Records.{Gave, Refused, Ended, WireRecord, GoesOut, EndsOut, Leaves, IsRefused, TakesNoStatus, TookBy, AnswersEvent, AnswersStatus, AnswersEnd}
-use Rattle.shared_wire.specs.inner.Telling.{deed_of, left_by, acted_so, stated_so, condition_by}
+use Rattle.shared_wire.specs.inner.Logging.{deed_of, left_by, acted_so, stated_so, condition_by}
 use Rattle.shared_wire.specs.declared.log.Noted.{Noted}
 use Rattle.shared_wire.specs.declared.log.Noted.TheVariants as noted
 
 -- what is noted of a call, and how it left the wire
-abbrev pub told : {S : Type 0} → (S → Output) → ℕ → Noted → WireView S → WireRecord
-told seen author deed v = record { author = author; deed = deed_of deed; left = left_by deed (progress_of seen v) }
+abbrev pub noted_record : {S : Type 0} → (S → Output) → ℕ → Noted → WireView S → WireRecord
+noted_record seen author deed v = record { author = author; deed = deed_of deed; left = left_by deed (progress_of seen v) }
 
 module _ {S : Type 0} (seen : S → Output) (author : ℕ) (w v : WireView S) (line : w.line ≡ line_after first_line w.inputs) where
   abbrev at : Progress
@@ -67,7 +67,7 @@ module _ {S : Type 0} (seen : S → Output) (author : ℕ) (w v : WireView S) (l
 
   -- ---- an event
 
-  acts_open : (event : RecvEvent) (given : Given) (result : Result (Unit {0}) WireFaultOut) (wants : Bool) → wants ≡ is_new_stream event → input_of given ≡ Event event → overflows event w.line ≡ false → Does seen wants condition.Open (Event event ∷ []) (acted event w.line) result w v → Leaves (deed_of (acted_so given result)) at (left_by (acted_so given result) left) × (v.condition ≡ condition_after condition.Open result) × AnswersEvent event result (told seen author (acted_so given result) v)
+  acts_open : (event : RecvEvent) (given : Given) (result : Result (Unit {0}) WireFaultOut) (wants : Bool) → wants ≡ is_new_stream event → input_of given ≡ Event event → overflows event w.line ≡ false → Does seen wants condition.Open (Event event ∷ []) (acted event w.line) result w v → Leaves (deed_of (acted_so given result)) at (left_by (acted_so given result) left) × (v.condition ≡ condition_after condition.Open result) × AnswersEvent event result (noted_record seen author (acted_so given result) v)
   acts_open event given (Ok tt) wants new is fits does =
       let g = does_gives wants (Event event) (Ok tt) fits does in
       (subst (λ i. Leaves (Gave i) at left) (sym is) g.0, g.1, (ap Gave is, g.1))
@@ -79,16 +79,16 @@ module _ {S : Type 0} (seen : S → Output) (author : ℕ) (w v : WireView S) (l
       (subst (λ i. Leaves (Gave i) at left) (sym is) g.0, g.1, (ap Gave is, g.1, sym new ∙ does.0))
   acts_open event given (Err fault.Overflow) wants new is fits never = absurd never
 
-  acts_over : (event : RecvEvent) (given : Given) (result : Result (Unit {0}) WireFaultOut) → input_of given ≡ Event event → w.condition ≡ condition.Open → overflows event w.line ≡ true → result ≡ Err fault.Overflow → v ≡ w → Leaves (deed_of (acted_so given result)) at (left_by (acted_so given result) left) × (v.condition ≡ condition_after condition.Open result) × AnswersEvent event result (told seen author (acted_so given result) v)
+  acts_over : (event : RecvEvent) (given : Given) (result : Result (Unit {0}) WireFaultOut) → input_of given ≡ Event event → w.condition ≡ condition.Open → overflows event w.line ≡ true → result ≡ Err fault.Overflow → v ≡ w → Leaves (deed_of (acted_so given result)) at (left_by (acted_so given result) left) × (v.condition ≡ condition_after condition.Open result) × AnswersEvent event result (noted_record seen author (acted_so given result) v)
   acts_over event given result is is_open over answer same =
-      subst (λ r. Leaves (deed_of (acted_so given r)) at (left_by (acted_so given r) left) × (v.condition ≡ condition_after condition.Open r) × AnswersEvent event r (told seen author (acted_so given r) v)) (sym answer)
+      subst (λ r. Leaves (deed_of (acted_so given r)) at (left_by (acted_so given r) left) × (v.condition ≡ condition_after condition.Open r) × AnswersEvent event r (noted_record seen author (acted_so given r) v)) (sym answer)
       (subst (λ i. Leaves (Refused i) at left) (sym is) (subst (λ l. overflows event l ≡ true) line over, ap (λ x. progress_of seen x) same), ap (λ (x : WireView S). x.condition) same ∙ is_open, ap Refused is)
 
-  acts_by : (event : RecvEvent) (given : Given) (result : Result (Unit {0}) WireFaultOut) (wants : Bool) (b : Bool) → wants ≡ is_new_stream event → overflows event w.line ≡ b → input_of given ≡ Event event → w.condition ≡ condition.Open → (overflows event w.line ≡ false → Does seen wants condition.Open (Event event ∷ []) (acted event w.line) result w v) → (overflows event w.line ≡ true → (result ≡ Err fault.Overflow) × (v ≡ w)) → Leaves (deed_of (acted_so given result)) at (left_by (acted_so given result) left) × (v.condition ≡ condition_after condition.Open result) × AnswersEvent event result (told seen author (acted_so given result) v)
+  acts_by : (event : RecvEvent) (given : Given) (result : Result (Unit {0}) WireFaultOut) (wants : Bool) (b : Bool) → wants ≡ is_new_stream event → overflows event w.line ≡ b → input_of given ≡ Event event → w.condition ≡ condition.Open → (overflows event w.line ≡ false → Does seen wants condition.Open (Event event ∷ []) (acted event w.line) result w v) → (overflows event w.line ≡ true → (result ≡ Err fault.Overflow) × (v ≡ w)) → Leaves (deed_of (acted_so given result)) at (left_by (acted_so given result) left) × (v.condition ≡ condition_after condition.Open result) × AnswersEvent event result (noted_record seen author (acted_so given result) v)
   acts_by event given result wants false new b is is_open does over = acts_open event given result wants new is b (does b)
   acts_by event given result wants true new b is is_open does over = acts_over event given result is is_open b (over b).0 (over b).1
 
-  pub acts : (event : RecvEvent) (given : Given) (result : Result (Unit {0}) WireFaultOut) (wants : Bool) → wants ≡ is_new_stream event → input_of given ≡ Event event → w.condition ≡ condition.Open → (overflows event w.line ≡ false → Does seen wants condition.Open (Event event ∷ []) (acted event w.line) result w v) → (overflows event w.line ≡ true → (result ≡ Err fault.Overflow) × (v ≡ w)) → Leaves (deed_of (acted_so given result)) at (left_by (acted_so given result) left) × (v.condition ≡ condition_after condition.Open result) × AnswersEvent event result (told seen author (acted_so given result) v)
+  pub acts : (event : RecvEvent) (given : Given) (result : Result (Unit {0}) WireFaultOut) (wants : Bool) → wants ≡ is_new_stream event → input_of given ≡ Event event → w.condition ≡ condition.Open → (overflows event w.line ≡ false → Does seen wants condition.Open (Event event ∷ []) (acted event w.line) result w v) → (overflows event w.line ≡ true → (result ≡ Err fault.Overflow) × (v ≡ w)) → Leaves (deed_of (acted_so given result)) at (left_by (acted_so given result) left) × (v.condition ≡ condition_after condition.Open result) × AnswersEvent event result (noted_record seen author (acted_so given result) v)
   acts event given result wants new is is_open does over = acts_by event given result wants (overflows event w.line) new refl is is_open does over
 
   -- ---- what is said
@@ -109,7 +109,7 @@ module _ {S : Type 0} (seen : S → Output) (author : ℕ) (w v : WireView S) (l
   States stream status given answer =
       Leaves (deed_of (stated_so given answer)) at (left_by (stated_so given answer) left)
       × (v.condition ≡ condition_by answer)
-      × AnswersStatus stream status at answer (told seen author (stated_so given answer) v)
+      × AnswersStatus stream status at answer (noted_record seen author (stated_so given answer) v)
 
   states_given : (stream status : ℕ) (given : Given) (answer : Took) → input_of given ≡ Speech stream (Status status) → IsAccepted (Speech stream (Status status)) w.line → Says seen (Speech stream (Status status)) answer w v → States stream status given answer
   states_given stream status given took.Taken is accepted does = let g = says (Speech stream (Status status)) given took.Taken is accepted does in (g.0, g.1, (ap Gave is, g.2))
@@ -155,7 +155,7 @@ module _ {S : Type 0} (seen : S → Output) (author : ℕ) (w v : WireView S) (l
 
   -- ---- the end
 
-  pub ends : (code : ℕ) (result : Result (Unit {0}) WireFaultOut) → Does seen false condition.Finished [] (finished code w.line) result w v → Leaves (Ended code) at left × (v.condition ≡ condition_after condition.Finished result) × AnswersEnd code result (told seen author (noted.Ended code) v)
+  pub ends : (code : ℕ) (result : Result (Unit {0}) WireFaultOut) → Does seen false condition.Finished [] (finished code w.line) result w v → Leaves (Ended code) at left × (v.condition ≡ condition_after condition.Finished result) × AnswersEnd code result (noted_record seen author (noted.Ended code) v)
   ends code (Ok tt) (wrote, same) =
       let is : v.condition ≡ condition.Finished = ap (λ (x : WireView S). x.condition) same in (
         (

@@ -7,3 +7,5 @@ pub mod Turning
 pub mod Meeting
 pub mod Octets
 pub mod Seeing
+pub mod Together
+pub mod OthersDid

@@ -7,7 +7,7 @@ use Rattle.h2_windows.specs.Holding.{counted}
 use Rattle.h2_events.specs.declared.said.Said.TheVariants as said
 use Rattle.h2_send.specs.Inputs.{Input, Event, Speech}
 use Rattle.h2_send.specs.Port.{Progress}
-use Rattle.shared_wire.specs.Parts.{Kind, FitTypes, Beginning, Settings, SettingsAck, Ping, Window, Call, TooLong, Data, Trailers, Reset, StreamFault, GoAway, Message, Finish, Status, End, Lost}
+use Rattle.shared_wire.specs.Parts.{Kind, FitTypes, Beginning, Settings, SettingsAck, Ping, Window, Call, TooLong, Data, Trailers, Reset, StreamFault, GoAway, Message, Finish, Status, End}
 use Rattle.shared_wire.specs.Records.{Deed, WireRecord, AreRecords, FitsTypes, Follow}
 use Rattle.shared_wire.specs.Records as deed
 use Rattle.shared_wire.specs.Entries.{Ending, Entry, HasRoom, Done, WriteFault, NoMemory, Overflow, Refused, kind_code, ending_code, spelling, deed_parts, entry_of, entries_behind, entries_of, place_in, place_of}
@@ -20,7 +20,7 @@ one_at last (x ∷ xs) zero = x
 one_at last (x ∷ xs) (suc n) = one_at last xs n
 
 abbrev kind_of : ℕ → Kind
-kind_of = one_at Lost (Beginning ∷ Settings ∷ SettingsAck ∷ Ping ∷ Window ∷ Call ∷ TooLong ∷ Data ∷ Trailers ∷ Reset ∷ StreamFault ∷ GoAway ∷ Message ∷ Finish ∷ Status ∷ End ∷ [])
+kind_of = one_at End (Beginning ∷ Settings ∷ SettingsAck ∷ Ping ∷ Window ∷ Call ∷ TooLong ∷ Data ∷ Trailers ∷ Reset ∷ StreamFault ∷ GoAway ∷ Message ∷ Finish ∷ Status ∷ [])
 
 kind_is : (k : Kind) → kind_of (kind_code k) ≡ k
 kind_is Beginning = refl
@@ -39,7 +39,6 @@ kind_is Message = refl
 kind_is Finish = refl
 kind_is Status = refl
 kind_is End = refl
-kind_is Lost = refl
 
 abbrev ending_of_code : ℕ → Ending
 ending_of_code = one_at Refused (Done ∷ WriteFault ∷ NoMemory ∷ Overflow ∷ [])
@@ -105,14 +104,14 @@ deed_small deed.Began at = (omega arith, omega arith)
 deed_small (deed.Gave input) at = place_small input at
 deed_small (deed.Refused input) at = (omega arith, omega arith)
 deed_small (deed.Ended code) at = (omega arith, omega arith)
-deed_small deed.Starved at = (omega arith, omega arith)
+deed_small (deed.Starved input) at = (omega arith, omega arith)
 
 deed_fits : (d : Deed) → FitsTypes d → FitTypes (deed_parts d)
 deed_fits deed.Began fits = (omega arith, omega arith)
 deed_fits (deed.Gave input) fits = fits
 deed_fits (deed.Refused input) fits = fits
 deed_fits (deed.Ended code) small = (omega arith, omega (arith, small))
-deed_fits deed.Starved fits = (omega arith, omega arith)
+deed_fits (deed.Starved input) fits = fits
 
 has_room : (at : Progress) (r : WireRecord) → r.author < 2 ^ 32 → FitsTypes r.deed → HasRoom (entry_of at r)
 has_room at r author fits = let parts = deed_fits r.deed fits in let place = deed_small r.deed at in record {

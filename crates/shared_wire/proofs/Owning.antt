@@ -1,5 +1,5 @@
 -- What a pass knows of its records, and of those of the passes that were joined into it, as what its port shows.
-use Rattle.std.proofs.Common.{◌≡◌, ◌≢◌, ℕ, zero, suc, ◌<◌, ◌≤◌, List, [], ◌∷◌, ◌++◌, drop, length, map, refl, sym, ap, ◌∙◌, subst, arith, length-append}
+use Rattle.std.proofs.Common.{◌≡◌, ◌≢◌, ◌⊎◌, inl, inr, ⊎_elim, ℕ, zero, suc, ◌<◌, ◌≤◌, List, [], ◌∷◌, ◌++◌, drop, length, map, refl, sym, ap, ◌∙◌, subst, arith, length-append}
 use Rattle.std.specs.List.{AllByRecursion}
 use mathlib.Core.Option.{some, some-injective}
 use mathlib.Core.List.{IsPrefix}
@@ -7,13 +7,14 @@ use mathlib.Core.Logic.{dite}
 use native.Mathlib.Decide.{ℕ_discrete}
 use lib.ListN.{get_elem?}
 use Rattle.turn_lock.specs.Chronicles.{AreUpTo, entries_by, entries_past}
-use Rattle.turn_lock.specs.Passes.{HasJust, OwnsItsEntries, occurrences, ended_number}
+use Rattle.turn_lock.specs.Passes.{AreByOneOf, HasJust, OwnsItsEntries, occurrences, ended_number}
 use Rattle.turn_lock.specs.declared.view.Ended.{Ended}
 use Rattle.turn_lock.specs.declared.view.View.{View}
-use Rattle.turn_lock.proofs.Counts.{times_hit, times_miss, by_append, by_hit}
+use Rattle.turn_lock.proofs.Counts.{times_hit, times_miss, by_append, by_hit, by_miss}
 use Rattle.turn_lock.proofs.Prefixes.{past_longer, past_prefix}
-use Rattle.shared_wire.specs.Records.{WireRecord, AreRecords, Follow, record_author}
-use Rattle.shared_wire.specs.Visits.{VisitEnd, AreOfPorts, HasJustMade, AuthorsDiffer, OthersWentOn, ended_visit}
+use Rattle.shared_wire.specs.Records.{WireRecord, Began, AreRecords, Follow, record_author}
+use Rattle.shared_wire.specs.Visits.{VisitEnd, AreOfPorts, AreOfThese, IsOfOne, HasJustMade, AuthorsDiffer, OthersWentOn, ended_visit}
+use Rattle.shared_wire.specs.inner.Keeping.{KeepsWire}
 
 -- what is past one front is what is past a shorter one between the two, and what is past the longer
 parts_past : (xs ys zs : List WireRecord) → IsPrefix xs ys → IsPrefix ys zs → entries_past xs zs ≡ entries_past xs ys ++ entries_past ys zs
@@ -40,8 +41,28 @@ none_since first other start seen later n made k l p =
     ∙ ap (entries_by record_author n) (sym (parts_past start seen later k.since_start p))
     ∙ since other start later n made l)
 
-pub shows_made : (first : List WireRecord) (pass : Ended WireRecord) (seen : List WireRecord) → HasJust record_author first pass.start seen pass.number pass.made → HasJustMade seen (ended_visit pass)
-shows_made first pass seen k = since first pass.start seen pass.number pass.made k
+-- the record with which the lock began is no port's
+pub none_first : (v : View WireRecord) → KeepsWire v → (n : ℕ) → 0 < n → entries_by record_author n v.first ≡ []
+none_first v k n pos = ap (entries_by record_author n) k.began ∙ by_miss record_author n (record { author = 0; deed = Began; left = k.began_at }) [] (λ e. omega (arith, e, pos))
+
+pub shows_made : (first : List WireRecord) (pass : Ended WireRecord) (seen : List WireRecord) → entries_by record_author pass.number first ≡ [] → HasJust record_author first pass.start seen pass.number pass.made → HasJustMade seen (ended_visit pass)
+shows_made first pass seen none k = record {
+  since = entries_past pass.start seen;
+  whole = sym (past_prefix pass.start seen k.since_start);
+  none_before = ap (entries_by record_author pass.number) (sym (past_prefix first pass.start k.from_first))
+      ∙ by_append record_author pass.number first (entries_past first pass.start)
+      ∙ ap (λ l. l ++ entries_by record_author pass.number (entries_past first pass.start)) none
+      ∙ k.none_before;
+  just = since first pass.start seen pass.number pass.made k;
+}
+
+-- so that is all that its author did
+pub all_of : (rs : List WireRecord) (visit : VisitEnd) → HasJustMade rs visit → entries_by record_author visit.author rs ≡ visit.made
+all_of rs visit k =
+    ap (entries_by record_author visit.author) k.whole
+    ∙ by_append record_author visit.author visit.start k.since
+    ∙ ap (λ l. l ++ entries_by record_author visit.author k.since) k.none_before
+    ∙ k.just
 
 pub went_on : (first other start seen later : List WireRecord) (n : ℕ) (made : List WireRecord) → HasJust record_author first start seen n made → HasJust record_author other start later n made → IsPrefix seen later → OthersWentOn n seen later
 went_on first other start seen later n made k l p = record {
@@ -97,6 +118,25 @@ authors_differ pass ended pos all differ = ended_differ (pass ∷ ended) (λ i e
 each_of_port : (most : ℕ) (before : WireRecord) (rs : List WireRecord) → Follow before rs → AreUpTo record_author most rs → AllByRecursion (λ (r : WireRecord). (0 < r.author) × (r.author ≤ most)) rs
 each_of_port most before [] follow up = tt
 each_of_port most before (r ∷ rs) follow up = ((follow.2.0, up.0), each_of_port most r rs follow.3 up.1)
+
+-- ---- whose they are
+
+of_one : (r : WireRecord) (ended : List (Ended WireRecord)) → 1 ≤ occurrences r.author (map ended_number ended) → IsOfOne (map ended_visit ended) r
+of_one r [] some_are = absurd (omega (arith, some_are))
+of_one r (e ∷ ended) some_are = dite (ℕ_discrete e.number r.author)
+    (λ is. inl (sym is))
+    (λ ne. let m = times_miss r.author e.number (map ended_number ended) ne in inr (of_one r ended (omega (arith, some_are, m))))
+
+each_of_these : (ended : List (Ended WireRecord)) (before : WireRecord) (rs : List WireRecord) → Follow before rs → AreByOneOf record_author (map ended_number ended) rs → AllByRecursion (IsOfOne (map ended_visit ended)) rs
+each_of_these ended before [] follow by = tt
+each_of_these ended before (r ∷ rs) follow by = (
+  ⊎_elim (λ (none : r.author ≡ 0). let some = follow.2.0 in absurd (omega (arith, none, some))) (λ (some_are : 1 ≤ occurrences r.author (map ended_number ended)). of_one r ended some_are) by.0,
+  each_of_these ended r rs follow.3 by.1,
+)
+
+pub of_these : (first all : List WireRecord) (pass : Ended WireRecord) (ended : List (Ended WireRecord)) → length first ≡ 1 → AreRecords all → AreByOneOf record_author (pass.number ∷ map ended_number ended) (entries_past first all) → AreOfThese (ended_visit pass ∷ map ended_visit ended) all
+of_these first [] pass ended one are by = absurd are
+of_these first (r ∷ rs) pass ended one are by = each_of_these (pass ∷ ended) r rs are.2 (subst (λ n. AreByOneOf record_author (pass.number ∷ map ended_number ended) (drop n (r ∷ rs))) one by)
 
 -- whose the records are of a lock that began with one
 pub of_ports : (first all : List WireRecord) (most : ℕ) → length first ≡ 1 → AreRecords all → AreUpTo record_author most (entries_past first all) → AreOfPorts most all

@@ -1,14 +1,16 @@
 -- How a port sees the wire, by what its turn found and added.
-use Rattle.std.proofs.Common.{◌≡◌, ℕ, false, List, [], ◌∷◌, ◌++◌, refl, sym, ap, ◌∙◌, subst, append-nil}
+use Rattle.std.proofs.Common.{◌≡◌, ℕ, false, List, [], ◌∷◌, ◌++◌, map, refl, sym, ap, ◌∙◌, subst, append-nil}
+use Rattle.std.specs.Prelude.{Option, Some}
+use Rattle.std.proofs.lemmas.List.{map-append}
 use Rattle.h2_events.specs.declared.port.Ready.{Ready}
 use Rattle.h2_events.specs.declared.port.Ready.TheVariants as ready
 use Rattle.h2_events.specs.declared.port.Took.{Took}
 use Rattle.h2_events.specs.declared.port.Took.TheVariants as took
 use Rattle.h2_events.specs.declared.said.Said.{Said}
 use Rattle.h2_send.specs.Inputs.{Input, Speech}
-use Rattle.h2_send.specs.Port.{PortView, Progress, Asks, GoesOn, Offers, Takes, Tries, ready_in}
+use Rattle.h2_send.specs.Port.{PortView, Progress, Asks, GoesOn, Offers, Takes, Tries, given_by, ready_in}
 use Rattle.shared_wire.specs.Records.{WireRecord, Deed, Gave, GoesOut, Leaves, TookBy, AreRecords, ReadsOn, SaysOn, left_in}
-use Rattle.shared_wire.specs.Visits.{DoesInTurn, TakesTurn, VisitView}
+use Rattle.shared_wire.specs.Visits.{DoesInTurn, TakesTurn, VisitView, given_in, given_of}
 use Rattle.shared_wire.proofs.Following.{last_is, leaves_last}
 use Rattle.shared_wire.proofs.GoingOn.{goes_on_behind}
 
@@ -66,3 +68,30 @@ pub counts_were : (Does : List WireRecord → List WireRecord → Type 0) (old m
 counts_were Does old mid new counts is does =
     let kept : record new { counts = old.counts } ≡ mid = (λ i. record (is i) { counts = old.counts }) ∙ (λ i. record mid { counts = ap (λ (v : VisitView). v.counts) (sym does.turn.new_is) i }) in
     subst (DoesInTurn Does old) (sym kept) does
+
+-- ---- what is given
+
+-- what an offer gave where the stream was free
+accepted_given : (stream : ℕ) (said : Said) (answer : Took) (r : WireRecord) → TookBy answer r.left.condition → r.deed ≡ Gave (Speech stream said) → given_of r.deed ∷ [] ≡ given_by answer stream said
+accepted_given stream said took.Taken r tooks deed = ap (λ (d : Deed). given_of d ∷ []) deed
+accepted_given stream said took.WriteFault r tooks deed = ap (λ (d : Deed). given_of d ∷ []) deed
+accepted_given stream said took.NoMemory r tooks deed = ap (λ (d : Deed). given_of d ∷ []) deed
+accepted_given stream said took.Busy r never deed = absurd never
+accepted_given stream said took.Gone r never deed = absurd never
+
+given_more : (stream : ℕ) (said : Said) (answer : Took) (found added : List WireRecord) (d : Ready) → ready_in stream (left_in found) ≡ d → SaysOn stream said answer found added → given_in added ≡ given_by answer stream said
+given_more stream said answer found added ready.Free is says = let (r, one, tells) = says.free is in ap given_in one ∙ accepted_given stream said answer r tells.1 tells.0
+given_more stream said answer found added ready.Busy is says = let (none, busy) = says.busy is in ap given_in none ∙ ap (λ (t : Took). given_by t stream said) (sym busy)
+given_more stream said answer found added ready.Gone is says = let (none, gone) = says.gone is in ap given_in none ∙ ap (λ (t : Took). given_by t stream said) (sym gone)
+
+pub given_asked : (stream : ℕ) (answer : Ready) (old new : VisitView) → DoesInTurn (ReadsOn stream answer) old new → given_in new.made ≡ given_in old.made
+given_asked stream answer old new does =
+    ap (λ (v : VisitView). given_in v.made) does.turn.new_is
+    ∙ ap (λ (l : List WireRecord). given_in (old.made ++ l)) does.does.none
+    ∙ ap given_in (append-nil old.made)
+
+pub given_offered : (stream : ℕ) (said : Said) (answer : Took) (old new : VisitView) → DoesInTurn (SaysOn stream said answer) old new → given_in new.made ≡ given_in old.made ++ given_by answer stream said
+given_offered stream said answer old new does =
+    ap (λ (v : VisitView). given_in v.made) does.turn.new_is
+    ∙ map-append (λ (r : WireRecord). given_of r.deed) old.made does.added
+    ∙ ap (λ (l : List (Option Input)). given_in old.made ++ l) (given_more stream said answer does.found does.added (ready_in stream (left_in does.found)) refl does.does)

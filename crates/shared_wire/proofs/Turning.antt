@@ -14,7 +14,7 @@ use Rattle.shared_wire.specs.Records.{WireRecord, record_author, AreRecords, Add
 use Rattle.shared_wire.specs.Visits.{HasJustMade, OthersWentOn, AuthorsDiffer, DoesInTurn, TakesTurn, ended_visit, end_of, lock_name, visit_of}
 use Rattle.shared_wire.specs.inner.Keeping.{KeepsWire}
 use Rattle.shared_wire.proofs.Following.{records_front}
-use Rattle.shared_wire.proofs.Owning.{all_by, authors_differ, each_met, same_owner, shows_made, went_on}
+use Rattle.shared_wire.proofs.Owning.{all_by, authors_differ, each_met, none_first, same_owner, shows_made, went_on}
 
 -- ---- what the lock asks of what is left
 
@@ -46,8 +46,8 @@ module _ (table : TableId) (counts : PortView) (before found_by : View WireRecor
 
   pub has_made : AllByRecursion (HasJustMade found) (end_of (visit_of table before counts) ∷ map ended_visit before.ended)
   has_made = (
-    shows_made before.first self found its_owner.own,
-    each_met (HasJustMade found) before.ended (λ i e h. let k = its_owner.others i e h in shows_made before.first e found k.its),
+    shows_made before.first self found (none_first before kept before.turn.number kept.some) its_owner.own,
+    each_met (HasJustMade found) before.ended (λ i e h. let k = its_owner.others i e h in shows_made before.first e found (none_first before kept e.number k.some) k.its),
   )
 
   pub authors : AuthorsDiffer (end_of (visit_of table before counts) ∷ map ended_visit before.ended)
@@ -55,7 +55,7 @@ module _ (table : TableId) (counts : PortView) (before found_by : View WireRecor
 
   some_seen : 0 < length before.seen
   some_seen =
-      let some = kept.began in let one = prefix_length before.first before.start kept.owner.own.from_first in let two = prefix_length before.start before.seen kept.owner.own.since_start in
+      let some = ap length kept.began in let one = prefix_length before.first before.start kept.owner.own.from_first in let two = prefix_length before.start before.seen kept.owner.own.since_start in
       omega (arith, some, one, two)
 
   has_seen : AreRecords found → AreRecords before.seen
@@ -64,7 +64,7 @@ module _ (table : TableId) (counts : PortView) (before found_by : View WireRecor
   -- and behind the turn
   module _ (left_table : TableId) (after : View WireRecord) (added left : List WireRecord) (records : AreRecords found) (adds : Adds before.turn.number found added left)
       (number_then : after.turn.number ≡ before.turn.number) (start_then : after.start ≡ before.start) (ended_then : after.ended ≡ before.ended) (known_then : after.known ≡ before.known)
-      (table_then : left_table ≡ table) (seen_then : after.seen ≡ left) (made_then : after.made ≡ before.made ++ entries_by record_author before.turn.number (entries_past found left)) where
+      (table_then : left_table ≡ table) (seen_then : after.seen ≡ left) (finds_then : after.finds ≡ before.finds ++ found ∷ []) (made_then : after.made ≡ before.made ++ entries_by record_author before.turn.number (entries_past found left)) where
     made_is : after.made ≡ before.made ++ added
     made_is = made_then ∙ ap (λ l. before.made ++ entries_by record_author before.turn.number l) (ap (entries_past found) adds.whole ∙ past_is found added) ∙ ap (λ l. before.made ++ l) (all_by before.turn.number added adds.by)
 
@@ -82,6 +82,7 @@ module _ (table : TableId) (counts : PortView) (before found_by : View WireRecor
         author = number_then i;
         start = start_then i;
         seen = (seen_then ∙ adds.whole) i;
+        finds = finds_then i;
         made = made_is i;
         met = map ended_visit (ended_then i);
         known = known_then i;
@@ -97,13 +98,15 @@ pub does_in_turn : (Does : List WireRecord → List WireRecord → Type 0) (tabl
     → KeepsWire before → found_by.turn.number ≡ before.turn.number → found_by.first ≡ before.first → found_by.start ≡ before.start → found_by.ended ≡ before.ended → found_by.known ≡ before.known → found_by.made ≡ before.made
     → found ≡ found_by.seen → IsPrefix before.seen found_by.seen → OwnsItsEntries record_author found_by → AreRecords found → author ≡ before.turn.number → AddsSo author Does found left
     → after.turn.number ≡ found_by.turn.number → after.start ≡ found_by.start → after.ended ≡ found_by.ended → after.known ≡ found_by.known → left_table ≡ table → after.seen ≡ left
+    → after.finds ≡ before.finds ++ found_by.seen ∷ []
     → after.made ≡ found_by.made ++ entries_by record_author found_by.turn.number (entries_past found_by.seen left)
     → DoesInTurn Does (visit_of table before counts) (visit_of left_table after counts)
-does_in_turn Does table left_table counts before found_by after found left author kept number first start ended known made found_is begins owner records is adds_so number_then start_then ended_then known_then table_then seen_then made_then = record {
+does_in_turn Does table left_table counts before found_by after found left author kept number first start ended known made found_is begins owner records is adds_so number_then start_then ended_then known_then table_then seen_then finds_then made_then = record {
   found = found;
   added = adds_so.added;
   turn = takes_turn table counts before found_by found kept number first start ended made found_is begins owner left_table after adds_so.added left records (subst (λ n. Adds n found adds_so.added left) is adds_so.adds)
       (number_then ∙ number) (start_then ∙ start) (ended_then ∙ ended) (known_then ∙ known) table_then seen_then
+      (finds_then ∙ ap (λ l. before.finds ++ l ∷ []) (sym found_is))
       (made_then ∙ (λ i. made i ++ entries_by record_author (number i) (entries_past (sym found_is i) left)));
   does = adds_so.does;
 }

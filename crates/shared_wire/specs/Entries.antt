@@ -9,7 +9,7 @@ use Rattle.h2_send.specs.Messages.{octets_said}
 use Rattle.h2_send.specs.Port.{Progress, said_so_far}
 use Rattle.h2_send.specs.declared.condition.Condition.{Condition}
 use Rattle.h2_send.specs.declared.condition.Condition.TheVariants as condition
-use Rattle.shared_wire.specs.Parts.{Kind, Parts, Beginning, Settings, SettingsAck, Ping, Window, Call, TooLong, Data, Trailers, Reset, StreamFault, GoAway, Message, Finish, Status, End, Lost, input_parts}
+use Rattle.shared_wire.specs.Parts.{Kind, Parts, Beginning, Settings, SettingsAck, Ping, Window, Call, TooLong, Data, Trailers, Reset, StreamFault, GoAway, Message, Finish, Status, End, input_parts}
 use Rattle.shared_wire.specs.Records.{Deed, WireRecord}
 use Rattle.shared_wire.specs.Records as deed
 
@@ -44,7 +44,7 @@ deed_parts deed.Began = (Beginning, false, 0, 0)
 deed_parts (deed.Gave input) = input_parts input
 deed_parts (deed.Refused input) = input_parts input
 deed_parts (deed.Ended code) = (End, false, 0, code)
-deed_parts deed.Starved = (Lost, false, 0, 0)
+deed_parts (deed.Starved input) = input_parts input
 
 -- A message has its octets behind those of all messages that were said on its stream before.
 abbrev pub place_in : Input → Progress → ℕ × ℕ
@@ -57,7 +57,7 @@ place_of (deed.Gave input) at = place_in input at
 place_of other at = (0, 0)
 
 abbrev pub ending_of : Deed → Condition → Ending
-ending_of deed.Starved state = NoMemory
+ending_of (deed.Starved input) state = NoMemory
 ending_of (deed.Refused (Event event)) state = Overflow
 ending_of (deed.Refused (Speech stream said)) state = Refused
 ending_of deed condition.WriteFault = WriteFault
@@ -107,7 +107,6 @@ kind_code Message = 12
 kind_code Finish = 13
 kind_code Status = 14
 kind_code End = 15
-kind_code Lost = 16
 
 abbrev pub ending_code : Ending → ℕ
 ending_code Done = 0

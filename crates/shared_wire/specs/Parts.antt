@@ -6,7 +6,7 @@ use Rattle.h2_events.specs.declared.said.Said.TheVariants as said
 use Rattle.h2_send.specs.Inputs.{Input, Event, Speech}
 
 -- What the call was: an event that was acted on, a piece, a status, the end of the connection, or that with which the wire was put
--- behind its lock. Of an event or a status for which there was no room it isn't kept which it was.
+-- behind its lock.
 pub data Kind : Type 0 where
   Beginning : Kind
   Settings : Kind
@@ -24,7 +24,6 @@ pub data Kind : Type 0 where
   Finish : Kind
   Status : Kind
   End : Kind
-  Lost : Kind
 
 -- the kind, the flag, the stream and the number of a call
 abbrev pub Parts : Type 0

@@ -1,8 +1,9 @@
--- What is recorded of a wire behind a lock: each call that found it open, in the order of their turns, with whose it was, what it
--- did, and how it left the wire. So where a record stands behind another the two tell what went out between them.
+-- What is recorded of a wire behind a lock: each call that did something to it, or was refused where it was open, in the order of
+-- their turns, with whose it was, what it did, and how it left the wire. So where a record stands behind another the two tell what went out between them.
 use Rattle.std.specs.Prelude.{◌≡◌, ◌⊎◌, ℕ, ◌+◌, ◌^◌, ◌<◌, true, List, [], ◌∷◌, ◌++◌, length, Result, Ok, Err}
 use Rattle.std.specs.List.{AllByRecursion}
 use Rattle.edge_traits.specs.Output.{Output, Wrote, FailedWithin, unwritten_output}
+use Rattle.h2_frame.specs.ErrorCodes.{flow_control_error}
 use Rattle.h2_windows.specs.Written.{octets_of}
 use Rattle.h2_events.specs.declared.said.Said.TheVariants.{Status}
 use Rattle.h2_events.specs.declared.port.Took.{Took}
@@ -26,13 +27,14 @@ use Rattle.h2_send.specs.declared.fault.WireFaultOut.TheVariants as fault
 use Rattle.shared_wire.specs.Parts.{FitTypes, input_parts}
 
 -- The wire was put behind the lock; an event was acted on, or something said on a stream; an event was refused, or a status of
--- HTTP; the connection was ended, with this code; there was room for one record alone, and the wire was closed.
+-- HTTP; the connection was ended, with this code; an event was to be acted on, or a status to be said, but there was room for one
+-- record alone, and the wire was closed.
 pub data Deed : Type 0 where
   Began : Deed
   Gave : Input → Deed
   Refused : Input → Deed
   Ended : ℕ → Deed
-  Starved : Deed
+  Starved : Input → Deed
 
 -- Whose call it was, what it did, and how far the wire had come behind it.
 pub record WireRecord : Type 0 where
@@ -62,7 +64,7 @@ EndsOut condition.WriteFault code at now =
     FailedWithin (octets_of (farewell code (line_of at))) at.output now
 EndsOut _ code at now = ⊥
 
--- no status goes out on the stream: nothing does any more, or a message was said there, of which nothing waits
+-- no status goes out on the stream: nothing does, or a message was said there, of which nothing waits
 abbrev pub TakesNoStatus : ℕ → Progress → Type 0
 TakesNoStatus stream at =
     (ready_in stream at ≡ ready.Gone)
@@ -85,7 +87,7 @@ Leaves (Gave input) at left =
 Leaves (Refused input) at left = IsRefused input at × (left ≡ at)
 Leaves (Ended code) at left =
     (left.inputs ≡ at.inputs) × EndsOut left.condition code at left.output
-Leaves Starved at left = left ≡ record at { condition = condition.Finished }
+Leaves (Starved input) at left = left ≡ record at { condition = condition.NoMemory }
 
 -- what a call was given has the bits of its types
 abbrev pub FitsTypes : Deed → Type 0
@@ -93,7 +95,7 @@ FitsTypes Began = Unit {0}
 FitsTypes (Gave input) = FitTypes (input_parts input)
 FitsTypes (Refused input) = FitTypes (input_parts input)
 FitsTypes (Ended code) = code < 2 ^ 32
-FitsTypes Starved = Unit {0}
+FitsTypes (Starved input) = FitTypes (input_parts input)
 
 -- it is a port's
 abbrev pub IsPorts : ℕ → Deed → Type 0
@@ -119,7 +121,7 @@ abbrev pub last_behind : WireRecord → List WireRecord → WireRecord
 last_behind before [] = before
 last_behind before (r ∷ rs) = last_behind r rs
 
--- of no records nothing is said
+-- where there are no records, which is so of no wire
 abbrev pub unrecorded : WireRecord
 unrecorded = record {
   author = 0;
@@ -136,12 +138,8 @@ abbrev pub left_in : List WireRecord → Progress
 left_in rs = (last_record rs).left
 
 -- what a wire answers that was left so, where it isn't open any more
-abbrev pub fault_behind : Deed → Condition → Result (Unit {0}) WireFaultOut
-fault_behind Starved state = Err fault.NoMemory
-fault_behind deed state = answer_of state
-
 abbrev pub fault_in : List WireRecord → Result (Unit {0}) WireFaultOut
-fault_in rs = let r = last_record rs in fault_behind r.deed r.left.condition
+fault_in rs = answer_of (left_in rs).condition
 
 -- ---- room
 
@@ -149,7 +147,11 @@ fault_in rs = let r = last_record rs in fault_behind r.deed r.left.condition
 abbrev pub most_records : ℕ
 most_records = 18446744073709551615
 
--- there is no room but that
+-- there is none left
+abbrev pub HasNoRoom : List WireRecord → Type 0
+HasNoRoom rs = length rs ≡ most_records
+
+-- there is no room but that of the last one
 abbrev pub IsLastRoom : List WireRecord → Type 0
 IsLastRoom found = length found + 1 ≡ most_records
 
@@ -167,7 +169,7 @@ TookBy took.WriteFault state = state ≡ condition.WriteFault
 TookBy took.NoMemory state = state ≡ condition.NoMemory
 TookBy _ state = ⊥
 
--- Memory is wanting for a new stream alone.
+-- Where there is room memory is wanting for a new stream alone.
 abbrev pub AnswersEvent : RecvEvent → Result (Unit {0}) WireFaultOut → WireRecord → Type 0
 AnswersEvent event (Ok tt) r = (r.deed ≡ Gave (Event event)) × (r.left.condition ≡ condition.Open)
 AnswersEvent event (Err fault.Overflow) r = r.deed ≡ Refused (Event event)
@@ -213,17 +215,19 @@ pub record Adds (author : ℕ) (old added new : List WireRecord) : Type 0 where
   pub records : AreRecords new
 
 -- so, and this is done by what was found and what is added
-pub record AddsSo (author : ℕ) (Does : List WireRecord → List WireRecord → Type 0) (old new : List WireRecord) : Type 0 where
+pub record AddsSo (author : ℕ) (Does : List WireRecord → List WireRecord → Type 0)
+    (old new : List WireRecord) : Type 0 where
   pub added : List WireRecord
   pub adds : Adds author old added new
   pub does : Does old added
 
 -- an event is acted on, where there is room
-abbrev pub ActsOn : RecvEvent → Result (Unit {0}) WireFaultOut → List WireRecord → List WireRecord → Type 0
+abbrev pub ActsOn : RecvEvent → Result (Unit {0}) WireFaultOut → List WireRecord
+    → List WireRecord → Type 0
 ActsOn event answer found added =
     AddsWhereOpen found added
     (λ r. ByRoom found (AnswersEvent event answer r)
-    ((r.deed ≡ Starved) × (answer ≡ Err fault.NoMemory)))
+    ((r.deed ≡ Starved (Event event)) × (answer ≡ Err fault.NoMemory)))
     (answer ≡ fault_in found)
 
 -- a call is answered with a status of HTTP, where there is room
@@ -231,16 +235,18 @@ abbrev pub StatesOn : ℕ → ℕ → Took → List WireRecord → List WireReco
 StatesOn stream status answer found added =
     AddsWhereOpen found added
     (λ r. ByRoom found (AnswersStatus stream status (left_in found) answer r)
-    ((r.deed ≡ Starved) × (answer ≡ took.NoMemory)))
+    ((r.deed ≡ Starved (Speech stream (Status status))) × (answer ≡ took.NoMemory)))
     (answer ≡ took.Gone)
 
 -- the connection is ended
-abbrev pub EndsOn : ℕ → Result (Unit {0}) WireFaultOut → List WireRecord → List WireRecord → Type 0
+abbrev pub EndsOn : ℕ → Result (Unit {0}) WireFaultOut → List WireRecord → List WireRecord
+    → Type 0
 EndsOn code answer found added =
     AddsWhereOpen found added (AnswersEnd code answer) (answer ≡ fault_in found)
 
 -- A piece is offered: a record is made of it exactly where its stream is free. Memory is wanting for it where there is no room.
-pub record SaysOn (stream : ℕ) (said : Said) (answer : Took) (found added : List WireRecord) : Type 0 where
+pub record SaysOn (stream : ℕ) (said : Said) (answer : Took)
+    (found added : List WireRecord) : Type 0 where
   pub free : ready_in stream (left_in found) ≡ ready.Free
       → (r : WireRecord) × (added ≡ r ∷ []) × AnswersPiece stream said answer r
   pub last : ready_in stream (left_in found) ≡ ready.Free → IsLastRoom found
@@ -252,3 +258,44 @@ pub record SaysOn (stream : ℕ) (said : Said) (answer : Took) (found added : Li
 pub record ReadsOn (stream : ℕ) (answer : Ready) (found added : List WireRecord) : Type 0 where
   pub none : added ≡ []
   pub is : answer ≡ ready_in stream (left_in found)
+
+-- ---- calls that do more
+
+-- An event that was refused is told as such, unless the connection's end met a fault.
+abbrev pub overflow_or : Result (Unit {0}) WireFaultOut → Result (Unit {0}) WireFaultOut
+overflow_or (Ok tt) = Err fault.Overflow
+overflow_or (Err f) = Err f
+
+-- what comes behind an event in the same turn, by what became of it: where it would have taken a window too far, the end of the
+-- connection with FLOW_CONTROL_ERROR
+abbrev pub EndsIfTooFar : Result (Unit {0}) WireFaultOut → Result (Unit {0}) WireFaultOut
+    → List WireRecord → List WireRecord → Type 0
+EndsIfTooFar (Err fault.Overflow) answer found added =
+    (ended : Result (Unit {0}) WireFaultOut) × EndsOn flow_control_error ended found added
+    × (answer ≡ overflow_or ended)
+EndsIfTooFar done answer found added = (added ≡ []) × (answer ≡ done)
+
+-- an event is acted on, or the connection is ended for it
+pub record ActsOrEnds (event : RecvEvent) (answer : Result (Unit {0}) WireFaultOut)
+    (found added : List WireRecord) : Type 0 where
+  pub done : Result (Unit {0}) WireFaultOut
+  pub acted : List WireRecord
+  pub ended : List WireRecord
+  pub whole : added ≡ acted ++ ended
+  pub acts : ActsOn event done found acted
+  pub ends : EndsIfTooFar done answer (found ++ acted) ended
+
+-- Nothing is done on a wire that was closed by a fault, which is told; else this is.
+abbrev pub UnlessFault : {T : Type 0} → Result (Unit {0}) WireFaultOut → List WireRecord
+    → Result T WireFaultOut → (T → Type 0) → Type 0
+UnlessFault (Err f) added answer Does = (answer ≡ Err f) × (added ≡ [])
+UnlessFault {T} (Ok tt) added answer Does = (value : T) × (answer ≡ Ok value) × Does value
+
+abbrev pub ReadsOrTells : ℕ → Result Ready WireFaultOut → List WireRecord → List WireRecord → Type 0
+ReadsOrTells stream answer found added =
+    UnlessFault (fault_in found) added answer (λ is. ReadsOn stream is found added)
+
+abbrev pub SaysOrTells : ℕ → Said → Result Took WireFaultOut → List WireRecord → List WireRecord
+    → Type 0
+SaysOrTells stream said answer found added =
+    UnlessFault (fault_in found) added answer (λ is. SaysOn stream said is found added)

@@ -1,3 +1,3 @@
 pub mod Holding
 pub mod Keeping
-pub mod Telling
+pub mod Logging

@@ -7,13 +7,14 @@ ghost use Rattle.h2_send.specs.Offers.{IsStatus};
 ghost use Rattle.h2_send.specs.Port.{ready_in};
 ghost use Rattle.h2_send.specs.Wires.{progress_of};
 ghost use Rattle.shared_wire.specs.Parts.{FitTypes, event_parts};
-ghost use Rattle.shared_wire.specs.Records.{ActsOn, Adds, AddsSo, AreRecords, EndsOn, FitsTypes, IsOpen, SaysOn, StatesOn, left_in, record_author};
+ghost use Rattle.shared_wire.specs.Records.{ActsOn, ActsOrEnds, Adds, AddsSo, AreRecords, EndsOn, FitsTypes, IsLastRoom, IsOpen, ReadsOrTells, SaysOn, SaysOrTells, StatesOn, left_in, record_author};
 ghost use Rattle.shared_wire.specs.Visits.{StandsBehind, first_records};
-ghost use Rattle.shared_wire.specs.inner.Telling.{Loses, acted_so, condition_by, deed_of, starved_record, stated_so};
+ghost use Rattle.shared_wire.specs.inner.Logging.{Loses, acted_so, condition_by, deed_of, starved_record, stated_so};
 
 use crate::log::{Log, Noted, Recorded};
 use edge_traits::Sink;
 use h2_events::{Piece, Ready, RecvEvent, Took};
+use h2_frame::FLOW_CONTROL_ERROR;
 use h2_send::{Condition, Given, Wire, WireFaultOut};
 use std::alloc::Global;
 use std::marker::Model;
@@ -23,8 +24,8 @@ use turn_lock::Chronicle;
 /// Behind so many records there is room for one more, which closes the wire.
 const LAST_ROOM: u64 = 18_446_744_073_709_551_614;
 
-/// A wire and the records of the calls that found it open. A record has no octets: what is counted is the room of its number, which
-/// a call takes before all else.
+/// A wire and the records of the calls that found it open. A record has no octets: what is counted is the room of its number,
+/// which a call takes before all else.
 #[derive(Drop)]
 pub struct HeldWire<S: Sink> {
     wire: Wire<S>,
@@ -186,10 +187,22 @@ impl<S: Sink> HeldWire<S> {
         }
     }
 
+    /// Whether a stream takes a piece, or the fault that closed the wire.
+    pub(crate) fn readiness_or_fault(&self, stream: u32) -> Result<Ready, WireFaultOut>
+        ensures is { ReadsOrTells stream result self.now.records [] }
+        ensures records { AreRecords self.now.records }
+    {
+        match answer_of(self.condition) {
+            Ok(()) => Ok(self.readiness(stream)),
+            Err(fault) => Err(fault),
+        }
+    }
+
     /// There is no room but the last, in which this call's record stands and the wire is closed.
     fn starve(&mut self, author: u32, deed: Noted)
         requires author { 0 < author }
         requires is_open { IsOpen self.old.records }
+        requires last { IsLastRoom self.old.records }
         requires loses { Loses deed (left_in self.old.records) }
         requires fits { FitsTypes (deed_of deed) }
         ensures adds { Adds author self.old.records (starved_record author deed
@@ -215,17 +228,40 @@ impl<S: Sink> HeldWire<S> {
         if self.condition != Condition::Open {
             return answer_of(self.condition);
         }
+        fit_types(event);
+        let given = Given::Event(Snapshot::of(event));
         if self.count == LAST_ROOM {
-            self.starve(author, Noted::Starved);
+            self.starve(author, Noted::Starved(given));
             return Err(WireFaultOut::NoMemory);
         }
-        fit_types(event);
         let done = self.wire.act(alloc, event);
-        let deed = acted(Given::Event(Snapshot::of(event)), &done);
+        let deed = acted(given, &done);
         self.log.note(author, deed, &self.wire);
         self.count += 1;
         self.condition = condition_after(Condition::Open, &done);
         done
+    }
+
+    /// Acts on an event. One that would take a window too far ends the connection with FLOW_CONTROL_ERROR.
+    pub(crate) fn act_or_close(
+        &mut self,
+        alloc: Global,
+        author: u32,
+        event: &RecvEvent,
+    ) -> Result<(), WireFaultOut>
+        requires author { 0 < author }
+        ensures records { AreRecords self.old.records }
+        ensures does { AddsSo author (ActsOrEnds event.now result)
+            self.old.records self.new.records }
+    {
+        match self.act(alloc, author, event) {
+            Err(WireFaultOut::Overflow) => {}
+            done => return done,
+        }
+        match self.close(author, FLOW_CONTROL_ERROR) {
+            Ok(()) => Err(WireFaultOut::Overflow),
+            Err(fault) => Err(fault),
+        }
     }
 
     /// Says a piece, as `Wire::say` does.
@@ -253,6 +289,26 @@ impl<S: Sink> HeldWire<S> {
         took
     }
 
+    /// Says a piece, or tells the fault that closed the wire.
+    pub(crate) fn say_or_fault(
+        &mut self,
+        alloc: Global,
+        author: u32,
+        stream: u32,
+        piece: &Piece,
+    ) -> Result<Took, WireFaultOut>
+        requires author { 0 < author }
+        requires size { FitsMessage piece.now }
+        ensures records { AreRecords self.old.records }
+        ensures does { AddsSo author (SaysOrTells stream (said_by piece.now) result)
+            self.old.records self.new.records }
+    {
+        match answer_of(self.condition) {
+            Ok(()) => Ok(self.say(alloc, author, stream, piece)),
+            Err(fault) => Err(fault),
+        }
+    }
+
     /// Answers a call with a status of HTTP, as `Wire::http` does.
     pub(crate) fn http(&mut self, alloc: Global, author: u32, stream: u32, status: u16) -> Took
         requires author { 0 < author }
@@ -264,12 +320,13 @@ impl<S: Sink> HeldWire<S> {
         if self.condition != Condition::Open {
             return Took::Gone;
         }
+        let given = Given::Status(stream, status);
         if self.count == LAST_ROOM {
-            self.starve(author, Noted::Starved);
+            self.starve(author, Noted::Starved(given));
             return Took::NoMemory;
         }
         let took = self.wire.http(alloc, stream, status);
-        let deed = stated(Given::Status(stream, status), took);
+        let deed = stated(given, took);
         self.log.note(author, deed, &self.wire);
         self.count += 1;
         self.condition = condition_by(took);

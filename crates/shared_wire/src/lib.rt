@@ -11,6 +11,8 @@ mod log;
 mod visit;
 
 pub use held::HeldWire;
-pub use laws::{ports_of_records, records_in_octets, write_faults_of_records};
+pub use laws::{
+    all_of_a_port, others_in_turns, ports_of_records, records_in_octets, write_faults_of_records,
+};
 pub use log::Recorded;
 pub use visit::WireVisit;

@@ -1,7 +1,7 @@
 //! What is kept of the calls on a wire. It has no octets at run time.
 ghost use Rattle.std.specs.Prelude.{◌≡◌, [], ◌∷◌, ◌++◌};
 ghost use Rattle.h2_send.specs.Wires.{progress_of};
-ghost use Rattle.shared_wire.specs.inner.Telling.{deed_of, left_by};
+ghost use Rattle.shared_wire.specs.inner.Logging.{deed_of, left_by};
 
 use base_lists::Remembered;
 use edge_traits::{OutputRecord, Sink};
@@ -16,19 +16,19 @@ pub(crate) enum Noted {
     Began,
     /// The wire was given this.
     Gave(Given),
-    /// There was no room for its record but the last, and the wire wasn't given it.
+    /// There was no room for its record but the last: the wire was given this, and had nothing of it.
     Lost(Given),
     /// The wire can't be given this.
     Refused(Given),
     /// The connection was ended, with this code.
     Ended(u32),
-    /// There was no room for its record but the last.
-    Starved,
+    /// There was no room for its record but the last, and the wire can't be given this.
+    Starved(Given),
 }
 
 /// Whose call it was, what it did, and the wire behind it.
 #[derive(Drop)]
-pub(crate) struct Told<W> {
+pub(crate) struct LogEntry<W> {
     pub author: u32,
     pub deed: Noted,
     pub left: Snapshot<W>,
@@ -49,7 +49,7 @@ impl Model for Recorded {
     ghost use Rattle.std.specs.Coded.{codes};
     ghost use Rattle.h2_send.specs.Inputs.{input_of};
     ghost use Rattle.shared_wire.specs.Records.{WireRecord};
-    ghost use Rattle.shared_wire.specs.inner.Telling.{deed_of};
+    ghost use Rattle.shared_wire.specs.inner.Logging.{deed_of};
 
     ghost Value = { WireRecord };
 
@@ -65,20 +65,20 @@ impl Model for Recorded {
 /// The records of a wire, in order.
 #[derive(Drop)]
 pub(crate) struct Log<S: Sink> {
-    told: Remembered<Told<Wire<S>>>,
+    entries: Remembered<LogEntry<Wire<S>>>,
 }
 
 impl<S: Sink> Model for Log<S> {
     ghost use Rattle.std.specs.Prelude.{List};
     ghost use Rattle.std.specs.Coded.{codes};
     ghost use Rattle.shared_wire.specs.Records.{WireRecord};
-    ghost use Rattle.shared_wire.specs.inner.Telling.{records_told};
+    ghost use Rattle.shared_wire.specs.inner.Logging.{records_of};
 
     ghost Value = { List WireRecord };
 
     ghost coded = { Prim.hlevel codes };
 
-    ghost view = { λ l. records_told S.seen l.told };
+    ghost view = { λ l. records_of S.seen l.entries };
 }
 
 impl<S: Sink> Log<S> {
@@ -86,7 +86,7 @@ impl<S: Sink> Log<S> {
         ensures { result ≡ [] }
     {
         Log {
-            told: Remembered::nothing(),
+            entries: Remembered::nothing(),
         }
     }
 
@@ -99,6 +99,6 @@ impl<S: Sink> Log<S> {
         } ∷ [] }
     {
         let left = Snapshot::of(wire);
-        self.told.remember(&Told { author, deed, left });
+        self.entries.remember(&LogEntry { author, deed, left });
     }
 }

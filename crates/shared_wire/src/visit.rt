@@ -1,11 +1,14 @@
-ghost use Rattle.std.specs.Prelude.{◌≡◌, ◌≤◌, false, IfOk, IfErr, IsErrOf};
+ghost use Rattle.std.specs.Prelude.{◌≡◌, ◌≤◌, [], ◌∷◌, ◌++◌, false, IfOk, IfErr, IsErrOf};
+ghost use Rattle.std.specs.Arc.{arc_value};
+ghost use mathlib.Core.List.{IsPrefix};
 ghost use Rattle.h2_events.specs.Items.{said_by};
 ghost use Rattle.h2_events.specs.Ports.{FitsMessage};
 ghost use Rattle.h2_send.specs.Offers.{IsStatus};
-ghost use Rattle.h2_send.specs.Port.{Asks, Offers, asked, noted};
+ghost use Rattle.h2_send.specs.Port.{Asks, Offers, asked, given_by, noted};
 ghost use Rattle.h2_send.specs.Wires.{progress_of};
-ghost use Rattle.shared_wire.specs.Records.{ActsOn, EndsOn, ReadsOn, SaysOn, StatesOn, left_in};
-ghost use Rattle.shared_wire.specs.Visits.{DoesInTurn, GivesBack, IsFirstVisit, IsTwin, Meets, most_authors};
+ghost use Rattle.turn_lock.specs.Passes.{IsInside, IsOutside, IsSamePass, OwnsItsEntries};
+ghost use Rattle.shared_wire.specs.Records.{ActsOn, ActsOrEnds, EndsOn, ReadsOn, ReadsOrTells, SaysOn, SaysOrTells, StatesOn, left_in, record_author};
+ghost use Rattle.shared_wire.specs.Visits.{DoesInTurn, GivesBack, IsFirstVisit, IsTwin, Meets, given_in, most_authors};
 
 use crate::held::HeldWire;
 use crate::log::Recorded;
@@ -18,21 +21,24 @@ use std::marker::Model;
 use std::sync::{Arc, Wait};
 use turn_lock::{Pass, TurnLock};
 
-/// A port of a wire that others reach too. Each call waits for its turn, takes one, and gives the wire back. Of each call that
-/// finds the wire open a record is kept, but for an offer on a stream that isn't free.
+/// A port of a wire that others reach too. Each call waits for its turn, takes one, and gives the wire back. Contracts see a record
+/// of each `act`, `http` and `close` that finds the wire open, and of each `say` and `offer` that finds its stream free. What a
+/// turn does to the sink is said of the wire that it has in hand (`HeldWire`), and of the wire that `finish` gives back.
 #[derive(Drop)]
 pub struct WireVisit<S: Sink + Drop, R> {
     rt: R,
     lock: Arc<TurnLock<HeldWire<S>>, Global>,
     pass: Pass<HeldWire<S>, Recorded>,
+    /// So many passes: its own, and those of the ports that ended by meeting it.
+    passes: u64,
     counts: Port,
 }
 
 impl<S: Sink + Drop, R> Model for WireVisit<S, R> {
-    ghost use Rattle.std.specs.Prelude.{◌≡◌};
+    ghost use Rattle.std.specs.Prelude.{◌≡◌, length};
     ghost use Rattle.std.specs.Coded.{codes};
     ghost use Rattle.std.specs.Arc.{arc_value};
-    ghost use Rattle.turn_lock.specs.Passes.{IsOutside};
+    ghost use Rattle.turn_lock.specs.Passes.{IsOutside, numbers_of};
     ghost use Rattle.shared_wire.specs.Visits.{VisitView, visit_of};
     ghost use Rattle.shared_wire.specs.inner.Keeping.{KeepsWire};
 
@@ -44,7 +50,27 @@ impl<S: Sink + Drop, R> Model for WireVisit<S, R> {
 
     ghost invariant = { λ visit.
         (visit.pass.seat.table_id ≡ (arc_value visit.lock).table.shared.table_id)
-        × IsOutside visit.pass.seat × KeepsWire visit.pass.seat.me.0 };
+        × IsOutside visit.pass.seat × KeepsWire visit.pass.seat.me.0
+        × (length (numbers_of visit.pass.seat.me.0) ≡ visit.passes) };
+}
+
+/// Waits for the turn of a pass at the wire's lock, and takes the wire. It is one more of what the pass found.
+fn enter<S: Sink + Drop, R: Wait>(
+    lock: &Arc<TurnLock<HeldWire<S>>, Global>,
+    rt: &R,
+    pass: &mut Pass<HeldWire<S>, Recorded>,
+) -> HeldWire<S>
+    requires own { pass.old.seat.table_id ≡ (arc_value lock.now).table.shared.table_id }
+    requires outside { IsOutside pass.old.seat }
+    ensures pass { IsSamePass pass.old.seat pass.new.seat × IsInside pass.new.seat
+        × (pass.new.seat.me.0.made ≡ pass.old.seat.me.0.made) }
+    ensures seen { (result.records ≡ pass.new.seat.me.0.seen)
+        × IsPrefix pass.old.seat.me.0.seen pass.new.seat.me.0.seen }
+    ensures finds { pass.new.seat.me.0.finds
+        ≡ pass.old.seat.me.0.finds ++ pass.new.seat.me.0.seen ∷ [] }
+    ensures owner { OwnsItsEntries record_author pass.new.seat.me.0 }
+{
+    lock.enter(rt, pass)
 }
 
 impl<S: Sink + Drop, R: Drop> WireVisit<S, R> {
@@ -66,6 +92,7 @@ impl<S: Sink + Drop, R: Drop> WireVisit<S, R> {
                     rt,
                     lock,
                     pass,
+                    passes: 1,
                     counts: Port::unused(),
                 })
             }
@@ -104,9 +131,11 @@ impl<S: Sink + Drop, R: Drop> WireVisit<S, R> {
             rt: _,
             lock: _,
             pass,
+            passes,
             counts: _,
         } = other;
         self.lock.join(&mut self.pass, pass);
+        self.passes += passes;
     }
 }
 
@@ -135,6 +164,7 @@ impl<S: Sink + Drop, R: Wait + Clone + Drop> WireVisit<S, R> {
             rt,
             lock,
             pass,
+            passes: 1,
             counts,
         })
     }
@@ -144,8 +174,20 @@ impl<S: Sink + Drop, R: Wait + Clone + Drop> WireVisit<S, R> {
         ensures { DoesInTurn (ActsOn event.now result) self.old self.new }
     {
         let author = self.lock.number(&self.pass);
-        let mut held = self.lock.enter(&self.rt, &mut self.pass);
+        let mut held = enter(&self.lock, &self.rt, &mut self.pass);
         let done = held.act(alloc, author, event);
+        self.lock.leave(&mut self.pass, held);
+        done
+    }
+
+    /// Acts on an event, as `act` does. One that would take a window too far ends the connection with FLOW_CONTROL_ERROR in the same
+    /// turn, so that no other port comes between; that is told as `Overflow`, and where the GOAWAY failed as `WriteFault`.
+    pub fn act_or_close(&mut self, alloc: Global, event: &RecvEvent) -> Result<(), WireFaultOut>
+        ensures { DoesInTurn (ActsOrEnds event.now result) self.old self.new }
+    {
+        let author = self.lock.number(&self.pass);
+        let mut held = enter(&self.lock, &self.rt, &mut self.pass);
+        let done = held.act_or_close(alloc, author, event);
         self.lock.leave(&mut self.pass, held);
         done
     }
@@ -156,7 +198,7 @@ impl<S: Sink + Drop, R: Wait + Clone + Drop> WireVisit<S, R> {
         ensures { DoesInTurn (StatesOn stream status result) self.old self.new }
     {
         let author = self.lock.number(&self.pass);
-        let mut held = self.lock.enter(&self.rt, &mut self.pass);
+        let mut held = enter(&self.lock, &self.rt, &mut self.pass);
         let took = held.http(alloc, author, stream, status);
         self.lock.leave(&mut self.pass, held);
         took
@@ -167,7 +209,7 @@ impl<S: Sink + Drop, R: Wait + Clone + Drop> WireVisit<S, R> {
         ensures { DoesInTurn (EndsOn code result) self.old self.new }
     {
         let author = self.lock.number(&self.pass);
-        let mut held = self.lock.enter(&self.rt, &mut self.pass);
+        let mut held = enter(&self.lock, &self.rt, &mut self.pass);
         let done = held.close(author, code);
         self.lock.leave(&mut self.pass, held);
         done
@@ -177,10 +219,37 @@ impl<S: Sink + Drop, R: Wait + Clone + Drop> WireVisit<S, R> {
     pub fn readiness(&mut self, stream: u32) -> Ready
         ensures { DoesInTurn (ReadsOn stream result) self.old self.new }
     {
-        let held = self.lock.enter(&self.rt, &mut self.pass);
+        let held = enter(&self.lock, &self.rt, &mut self.pass);
         let ready = held.readiness(stream);
         self.lock.leave(&mut self.pass, held);
         ready
+    }
+
+    /// Whether a stream takes a piece now. Where a fault closed the wire before, that is the answer.
+    pub fn readiness_or_fault(&mut self, stream: u32) -> Result<Ready, WireFaultOut>
+        ensures { DoesInTurn (ReadsOrTells stream result) self.old self.new }
+    {
+        let held = enter(&self.lock, &self.rt, &mut self.pass);
+        let ready = held.readiness_or_fault(stream);
+        self.lock.leave(&mut self.pass, held);
+        ready
+    }
+
+    /// Says a piece, as `say` does. Where a fault closed the wire before, that is the answer.
+    pub fn say_or_fault(
+        &mut self,
+        alloc: Global,
+        stream: u32,
+        piece: &Piece,
+    ) -> Result<Took, WireFaultOut>
+        requires size { FitsMessage piece.now }
+        ensures { DoesInTurn (SaysOrTells stream (said_by piece.now) result) self.old self.new }
+    {
+        let author = self.lock.number(&self.pass);
+        let mut held = enter(&self.lock, &self.rt, &mut self.pass);
+        let took = held.say_or_fault(alloc, author, stream, piece);
+        self.lock.leave(&mut self.pass, held);
+        took
     }
 
     /// Says a piece on a stream that is free, as `Wire::say` does, in one turn.
@@ -189,14 +258,14 @@ impl<S: Sink + Drop, R: Wait + Clone + Drop> WireVisit<S, R> {
         ensures { DoesInTurn (SaysOn stream (said_by piece.now) result) self.old self.new }
     {
         let author = self.lock.number(&self.pass);
-        let mut held = self.lock.enter(&self.rt, &mut self.pass);
+        let mut held = enter(&self.lock, &self.rt, &mut self.pass);
         let took = held.say(alloc, author, stream, piece);
         self.lock.leave(&mut self.pass, held);
         took
     }
 
-    /// Waits for its turn, and gives the wire back for good. A port of the wire that comes later waits for ever, so whoever ends a
-    /// wire meets all other ports before.
+    /// Waits for its turn, and gives the wire back for good, where it has met all other ports; where there is another one it waits for
+    /// ever.
     pub fn finish(self) -> Wire<S>
         ensures { GivesBack S.seen self result }
     {
@@ -204,15 +273,17 @@ impl<S: Sink + Drop, R: Wait + Clone + Drop> WireVisit<S, R> {
             rt,
             lock,
             pass,
+            passes,
             counts: _,
         } = self;
-        lock.last(&rt, pass).give()
+        lock.last_of(&rt, pass, passes).give()
     }
 }
 
 impl<S: Sink + Drop, R: Wait + Clone + Drop> WirePort for WireVisit<S, R> {
     ghost use Rattle.std.specs.Prelude.{false};
     ghost use Rattle.shared_wire.specs.Records.{left_in};
+    ghost use Rattle.shared_wire.specs.Visits.{authors_of, given_in};
 
     ghost connection = { λ visit. visit.lock };
 
@@ -222,10 +293,15 @@ impl<S: Sink + Drop, R: Wait + Clone + Drop> WirePort for WireVisit<S, R> {
 
     ghost owns = { λ visit other. false };
 
+    ghost given = { λ visit. given_in visit.made };
+
+    ghost authors = { authors_of };
+
     ghost counts = { λ visit. visit.counts };
 
     fn ready(&mut self, stream: u32) -> Ready
         ensures asks { Asks false result stream (left_in self.old.seen) (left_in self.new.seen) }
+        ensures given { given_in self.new.made ≡ given_in self.old.made }
         ensures counts { self.new.counts ≡ asked result self.old.counts }
         ensures turn { DoesInTurn (ReadsOn stream result) self.old
             (record self.new { counts = self.old.counts }) }
@@ -239,6 +315,8 @@ impl<S: Sink + Drop, R: Wait + Clone + Drop> WirePort for WireVisit<S, R> {
         requires size { FitsMessage piece }
         ensures offers { Offers false result stream (said_by piece)
             (left_in self.old.seen) (left_in self.new.seen) }
+        ensures given { given_in self.new.made
+            ≡ given_in self.old.made ++ given_by result stream (said_by piece) }
         ensures counts { self.new.counts ≡ noted result (stream, piece) self.old.counts }
         ensures later { self.old.counts.offers ≤ self.new.counts.offers }
         ensures turn { DoesInTurn (SaysOn stream (said_by piece) result) self.old

@@ -3,7 +3,7 @@ ghost use Rattle.std.specs.Prelude.{◌≡◌, IfSome};
 use crate::wires::{TestVisit, first_visit, has_messages, open_streams, piece};
 use edge_traits::MemSink;
 use h2_events::{Ready, RecvEvent, Took};
-use h2_send::WirePort;
+use h2_send::{WireFaultOut, WirePort};
 use std::alloc::Global;
 use std::process::Abort;
 use std::sync::Wait;
@@ -134,8 +134,8 @@ fn two_threads_say_all_on_two_streams_in_order(rt: HostRuntime) -> Result<(), Fa
     Ok(())
 }
 
-/// What two ports find of a wire whose fourth write fails, which is that of the first message: what became of its offer by one, how the other stream
-/// stands for the second, and whether an event is acted on.
+/// What two ports find of a wire whose fourth write fails, which is that of the first message: what became of its offer by one, how
+/// the other stream stands for the second, and whether an event is acted on.
 fn closed_by_one<R: Wait + Clone + Drop>(rt: &R, alloc: Global) -> Option<(Took, Ready, bool)> {
     let mut one = first_visit(rt, alloc, "4")?;
     let _opened = open_streams(alloc, &mut one, 100);
@@ -153,8 +153,62 @@ fn a_write_fault_closes_the_wire_for_all_ports(rt: HostRuntime) -> Result<(), Fa
     Ok(())
 }
 
-/// What becomes of a status on a stream that octets wait on, on one that is free, on the same one again, and on one that was never
-/// opened.
+/// What the second port is told then of the other stream, and of a piece there.
+fn fault_told<R: Wait + Clone + Drop>(
+    rt: &R,
+    alloc: Global,
+) -> Option<(Result<Ready, WireFaultOut>, Result<Took, WireFaultOut>)> {
+    let mut one = first_visit(rt, alloc, "4")?;
+    let _opened = open_streams(alloc, &mut one, 100);
+    let mut other = another(&mut one)?;
+    let before = other.readiness_or_fault(3);
+    let _faulty = one.offer(alloc, 1, piece(alloc, 1, 0)?);
+    let ready = other.readiness_or_fault(3);
+    let took = other.say_or_fault(alloc, 3, &piece(alloc, 3, 0)?);
+    match before {
+        Ok(Ready::Free) => Some((ready, took)),
+        _ => None,
+    }
+}
+
+#[test]
+fn a_fault_that_closed_the_wire_is_told_to_all_ports(rt: HostRuntime) -> Result<(), Fail> {
+    let (ready, took) = fault_told(&rt, rt.alloc()).ok_or("no wire")?;
+    assert!(rt; ready == Err(WireFaultOut::WriteFault));
+    assert!(rt; took == Err(WireFaultOut::WriteFault));
+    Ok(())
+}
+
+/// What is told of an event that takes the connection's window too far, how a stream stands then, and what the sink holds.
+fn closed_by_event<R: Wait + Clone + Drop>(
+    rt: &R,
+    alloc: Global,
+) -> Option<
+    (
+        Result<(), WireFaultOut>,
+        Result<Ready, WireFaultOut>,
+        MemSink,
+    ),
+> {
+    let mut visit = first_visit(rt, alloc, "0")?;
+    let _opened = open_streams(alloc, &mut visit, 100);
+    let answer = visit.act_or_close(alloc, &RecvEvent::Window(0, 2_147_483_647));
+    let ready = visit.readiness_or_fault(1);
+    Some((answer, ready, visit.finish().give()))
+}
+
+#[test]
+fn a_window_that_would_be_too_large_ends_the_connection(rt: HostRuntime) -> Result<(), Fail> {
+    let (answer, ready, sink) = closed_by_event(&rt, rt.alloc()).ok_or("no wire")?;
+    assert!(rt; answer == Err(WireFaultOut::Overflow));
+    assert!(rt; ready == Ok(Ready::Gone));
+    // A GOAWAY ends with its code, which is FLOW_CONTROL_ERROR (RFC 9113 section 7).
+    assert!(rt; sink.octets().last().copied() == Some(3));
+    Ok(())
+}
+
+/// What becomes of a status on a stream that octets wait on, on one that is free, on the same one again, and on one that was
+/// never opened.
 fn statuses<R: Wait + Clone + Drop>(rt: &R, alloc: Global) -> Option<[Took; 4]> {
     let mut visit = first_visit(rt, alloc, "0")?;
     let _opened = open_streams(alloc, &mut visit, 2);

@@ -90,8 +90,8 @@ fn data_on(alloc: Global, octets: &[u8], stream: u8) -> Bytes {
     data
 }
 
-/// Whether the DATA on a stream are just the messages with numbers below this one, each behind the five octets that gRPC puts before
-/// it, in their order.
+/// Whether the DATA on a stream are just the messages with numbers below this one, each behind the five octets that gRPC puts
+/// before it, in their order.
 pub(crate) fn has_messages(alloc: Global, sink: &MemSink, stream: u8, count: u8) -> bool {
     let data = data_on(alloc, sink.octets(), stream);
     let mut left = data.items();

@@ -1,6 +1,7 @@
 -- What is said at a port of a wire, and counted there.
 use Rattle.std.proofs.Common.{◌≡◌, ◌⊎◌, inl, inr, ℕ, zero, suc, ◌+◌, ◌-◌, ◌^◌, ◌≤◌, ◌==◌, ◌<◌, min, if◌then◌else◌, Bool, true, false, IsTrue, List, [], ◌∷◌, ◌++◌, map, refl, sym, ap, ◌∙◌, subst, append-nil, append_assoc, arith}
 use Rattle.std.proofs.lemmas.List.{map-append}
+use Rattle.std.specs.Prelude.{Option, Some}
 use Rattle.h2_events.specs.Items.{said_by}
 use Rattle.h2_events.specs.declared.said.Piece.{Piece}
 use Rattle.h2_events.specs.declared.said.Said.{Said}
@@ -12,7 +13,8 @@ use Rattle.h2_send.specs.Conditions.{IsClosed}
 use Rattle.h2_send.specs.declared.condition.Condition.{Condition}
 use Rattle.h2_send.specs.declared.condition.Condition.TheVariants as condition
 use Rattle.h2_send.proofs.Offered.{gone_then, fault_then, starved_then, all_gone}
-use Rattle.h2_send.specs.Port.{Offers, ready_in, PortView, Progress, said_so_far, accepted_by, once_more, with_taken, noted, asked}
+use Rattle.h2_send.specs.Inputs.{Input, Speech}
+use Rattle.h2_send.specs.Port.{Offers, ready_in, PortView, Progress, said_so_far, accepted_by, given_by, once_more, with_taken, noted, asked}
 use Rattle.stream_feed.specs.Wires.{WireView, last_count, IsBusied, SpeaksOn}
 use Rattle.stream_feed.specs.inner.Steps.{frees_in, pieces_in, lost_in, HasAsked, HasOffered}
 
@@ -70,7 +72,9 @@ pub speaks_asked : (stream turns : ℕ) (answer : Ready) (from mid to : WireView
 speaks_asked stream turns answer from mid to pieces speaks asks = record {
   taken = ap (λ (c : PortView). c.taken) asks.counts ∙ taken_stays answer ∙ speaks.taken;
   connection = asks.connection ∙ speaks.connection;
+  authors = asks.authors ∙ speaks.authors;
   owns = asks.owns ∙ speaks.owns;
+  given = asks.given ∙ speaks.given;
   says = λ other own. asks.says other (subst (λ (owns : ℕ → Bool). IsTrue (owns other)) (sym speaks.owns) own) ∙ speaks.says other own;
   busied = subst (λ (c : PortView). IsBusied (frees_in answer) turns from.counts c) (sym asks.counts) (busied_asked turns answer from.counts mid.counts speaks.busied);
 }
@@ -105,7 +109,14 @@ speaks_offered stream turns answer piece from mid to pieces speaks offers = reco
       ∙ append_assoc from.counts.taken (map on pieces) (map on (pieces_in answer piece))
       ∙ ap (λ (l : List (ℕ × Piece)). from.counts.taken ++ l) (sym (map-append on pieces (pieces_in answer piece)));
   connection = offers.connection ∙ speaks.connection;
+  authors = offers.authors ∙ speaks.authors;
   owns = offers.owns ∙ speaks.owns;
+  given = offers.given
+      ∙ ap (λ (l : List (Option Input)). l ++ given_by answer stream (said_by piece)) speaks.given
+      ∙ append_assoc from.given (map so (map said_by pieces ++ [])) (map so (accepted_by answer (said_by piece)))
+      ∙ ap (λ (l : List (Option Input)). from.given ++ l) (sym (map-append so (map said_by pieces ++ []) (accepted_by answer (said_by piece))))
+      ∙ ap (λ (w : List Said). from.given ++ map so (w ++ accepted_by answer (said_by piece))) (append-nil (map said_by pieces))
+      ∙ ap (λ (w : List Said). from.given ++ map so w) (accepted_is answer piece pieces);
   says = λ other own. offers.says other (subst (λ (owns : ℕ → Bool). IsTrue (owns other)) (sym speaks.owns) own)
       ∙ ap (λ (l : List Said). l ++ (if stream == other then accepted_by answer (said_by piece) else [])) (speaks.says other own)
       ∙ ap (λ (w : List Said). (said_so_far other from.progress ++ (if stream == other then w else [])) ++ (if stream == other then accepted_by answer (said_by piece) else [])) (append-nil (map said_by pieces))
@@ -117,11 +128,16 @@ speaks_offered stream turns answer piece from mid to pieces speaks offers = reco
     on : Piece → ℕ × Piece
     on p = (stream, p)
 
+    so : Said → Option Input
+    so word = Some (Speech stream word)
+
 pub speaks_turned : (stream turns : ℕ) (from to : WireView) (pieces : List Piece) → SpeaksOn stream 1 turns from pieces [] to → SpeaksOn stream 0 (turns + 1) from pieces [] to
 speaks_turned stream turns from to pieces speaks = record {
   taken = speaks.taken;
   connection = speaks.connection;
+  authors = speaks.authors;
   owns = speaks.owns;
+  given = speaks.given;
   says = speaks.says;
   busied = busied_turned turns from.counts to.counts speaks.busied;
 }
@@ -130,7 +146,9 @@ pub speaks_begin : (stream : ℕ) (from : WireView) → SpeaksOn stream 0 0 from
 speaks_begin stream from = record {
   taken = sym (append-nil from.counts.taken);
   connection = refl;
+  authors = refl;
   owns = refl;
+  given = sym (append-nil from.given);
   says = λ other own. sym (nothing_more (stream == other) (said_so_far other from.progress));
   busied = inr (omega arith);
 }

@@ -31,7 +31,8 @@ AreRun plan [] messages h = messages ≡ []
 AreRun plan (first ∷ later) messages h = IsStreamRun plan first later messages h
 
 -- that, and the stream is as the last of these turns left it
-pub record IsAtLast (plan : Plan) (moments : List Moment) (messages : List SubReply) (h : List Entry) (stream : StreamView) : Type 0 where
+pub record IsAtLast (plan : Plan) (moments : List Moment) (messages : List SubReply)
+    (h : List Entry) (stream : StreamView) : Type 0 where
   pub first : Moment
   pub later : List Moment
   pub all : moments ≡ first ∷ later

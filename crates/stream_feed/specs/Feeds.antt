@@ -1,5 +1,5 @@
 -- A feeder: it serves one Subscribe call of mode STREAM until nothing goes out on its stream any more, or memory is wanting.
-use Rattle.std.specs.Prelude.{◌≡◌, ℕ, Bool, List, [], ◌∷◌, ◌++◌, map, length, Some, None}
+use Rattle.std.specs.Prelude.{◌≡◌, ℕ, Bool, List, [], ◌∷◌, ◌++◌, map, length, Option, Some, None}
 use Rattle.base_kinds.specs.declared.refusal.Refusal.TheVariants as refusals
 use Rattle.base_kinds.specs.Schema.{SchemaNode}
 use Rattle.book_port.specs.Follows.{Turn}
@@ -11,6 +11,7 @@ use Rattle.h2_events.specs.declared.said.Piece.TheVariants as piece
 use Rattle.h2_events.specs.declared.said.Said.{Said}
 use Rattle.h2_events.specs.declared.said.Said.TheVariants as said
 use Rattle.h2_send.specs.Conditions.{IsClosed}
+use Rattle.h2_send.specs.Inputs.{Input}
 use Rattle.h2_send.specs.Port.{PortView as WireCounts, Progress, ready_in}
 use Rattle.h2_send.specs.declared.condition.Condition.{Condition}
 use Rattle.sub_plan.specs.declared.plan.Plan.{Plan}
@@ -25,14 +26,17 @@ pub record Ports : Type 0 where
   pub book : PortView
   pub wire : WireView
 
-abbrev pub ports_of : PortView → List ℕ → WireCounts → Progress → (ℕ → Bool) → Ports
-ports_of book connection counts progress owns = record {
+abbrev pub ports_of : PortView → List ℕ → WireCounts → Progress → (ℕ → Bool)
+    → List (Option Input) → List ℕ → Ports
+ports_of book connection counts progress owns given authors = record {
   book = book;
   wire = record {
     connection = connection;
+    authors = authors;
     counts = counts;
     progress = progress;
     owns = owns;
+    given = given;
   };
 }
 

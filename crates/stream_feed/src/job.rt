@@ -13,6 +13,7 @@ use schema_core::Schema;
 use std::alloc::Global;
 use std::sync::Wait;
 use sub_plan::Plan;
+use thread_traits::Job;
 use time_traits::{Clock, Pacer};
 
 /// Why a feeder ended.
@@ -58,10 +59,12 @@ fn feed<R: Wait, P: BookPort, W: WirePort, C: Clock, Q: Pacer>(
     ensures { (plan : PlanValue) (from : Ports)
         → HasFed schema.now stream plan 0 from feeder.old.call feeder.old.waiting
         (ports_of (P.port feeder.old.book) (W.connection feeder.old.wire)
-        (W.counts feeder.old.wire) (W.progress feeder.old.wire) (W.owns feeder.old.wire))
+        (W.counts feeder.old.wire) (W.progress feeder.old.wire) (W.owns feeder.old.wire)
+        (W.given feeder.old.wire) (W.authors feeder.old.wire))
         → Feeds schema.now stream plan result from
         (ports_of (P.port feeder.new.book) (W.connection feeder.new.wire)
-        (W.counts feeder.new.wire) (W.progress feeder.new.wire) (W.owns feeder.new.wire)) }
+        (W.counts feeder.new.wire) (W.progress feeder.new.wire) (W.owns feeder.new.wire)
+        (W.given feeder.new.wire) (W.authors feeder.new.wire)) }
 {
     for _ in rt.forever() {
         match feeder.step(alloc, schema, stream) {
@@ -87,9 +90,10 @@ where
     pub fn run(self) -> FeedDone<P, W>
         ensures { Feeds self.schema self.stream self.plan result.end
             (ports_of (P.port self.book) (W.connection self.wire) (W.counts self.wire)
-            (W.progress self.wire) (W.owns self.wire))
+            (W.progress self.wire) (W.owns self.wire) (W.given self.wire) (W.authors self.wire))
             (ports_of (P.port result.book) (W.connection result.wire) (W.counts result.wire)
-            (W.progress result.wire) (W.owns result.wire)) }
+            (W.progress result.wire) (W.owns result.wire) (W.given result.wire)
+            (W.authors result.wire)) }
     {
         let FeedJob {
             stream,
@@ -113,5 +117,28 @@ where
         let end = feed(&rt, alloc, &schema, stream, &mut feeder);
         let Feeder { book, wire, .. } = feeder;
         FeedDone { end, book, wire }
+    }
+}
+
+impl<P, W, C, Q, R> Job for FeedJob<P, W, C, Q, R>
+where
+    P: BookPort + Drop,
+    W: WirePort + Drop,
+    C: Clock + Drop,
+    Q: Pacer + Drop,
+    R: Wait + Drop,
+{
+    type Done = FeedDone<P, W>;
+
+    ghost use Rattle.stream_feed.specs.Feeds.{Feeds, ports_of};
+
+    ghost gives = { λ job done. Feeds job.schema job.stream job.plan done.end
+        (ports_of (P.port job.book) (W.connection job.wire) (W.counts job.wire)
+        (W.progress job.wire) (W.owns job.wire) (W.given job.wire) (W.authors job.wire))
+        (ports_of (P.port done.book) (W.connection done.wire) (W.counts done.wire)
+        (W.progress done.wire) (W.owns done.wire) (W.given done.wire) (W.authors done.wire)) };
+
+    fn run(self) -> FeedDone<P, W> {
+        FeedJob::run(self)
     }
 }

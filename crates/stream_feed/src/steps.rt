@@ -25,10 +25,10 @@ fn say_refusal<W: WirePort>(alloc: Global, stream: u32, wire: &mut W) -> Option<
         (book : PortView)
         → HasFed schema stream plan 1 from None waiting
         (ports_of book (W.connection wire.old) (W.counts wire.old) (W.progress wire.old)
-        (W.owns wire.old))
+        (W.owns wire.old) (W.given wire.old) (W.authors wire.old))
         → Comes schema stream plan result from None waiting
         (ports_of book (W.connection wire.new) (W.counts wire.new) (W.progress wire.new)
-        (W.owns wire.new)) }
+        (W.owns wire.new) (W.given wire.new) (W.authors wire.new)) }
 {
     match wire.offer(alloc, stream, Piece::Finish(Some(Refusal::NoMemory))) {
         Took::Taken => Some(FeedEnd::Refused(Refusal::NoMemory)),
@@ -53,10 +53,10 @@ fn say_message<W: WirePort>(
         (book : PortView) → call.old ≡ Some served
         → HasFed schema stream plan 1 from (Some served) waiting.old
         (ports_of book (W.connection wire.old) (W.counts wire.old) (W.progress wire.old)
-        (W.owns wire.old))
+        (W.owns wire.old) (W.given wire.old) (W.authors wire.old))
         → Comes schema stream plan result from call.new waiting.new
         (ports_of book (W.connection wire.new) (W.counts wire.new) (W.progress wire.new)
-        (W.owns wire.new)) }
+        (W.owns wire.new) (W.given wire.new) (W.authors wire.new)) }
 {
     let Some(message) = waiting.first(alloc) else {
         *call = None;
@@ -133,10 +133,12 @@ impl<P: BookPort, W: WirePort, C: Clock, Q: Pacer> Feeder<P, W, C, Q> {
         ensures { (plan : PlanValue) (from : Ports)
             → HasFed schema.now stream plan 1 from self.old.call self.old.waiting
             (ports_of (P.port self.old.book) (W.connection self.old.wire) (W.counts self.old.wire)
-            (W.progress self.old.wire) (W.owns self.old.wire))
+            (W.progress self.old.wire) (W.owns self.old.wire) (W.given self.old.wire)
+            (W.authors self.old.wire))
             → Comes schema.now stream plan result from self.new.call self.new.waiting
             (ports_of (P.port self.new.book) (W.connection self.new.wire) (W.counts self.new.wire)
-            (W.progress self.new.wire) (W.owns self.new.wire)) }
+            (W.progress self.new.wire) (W.owns self.new.wire) (W.given self.new.wire)
+            (W.authors self.new.wire)) }
     {
         match &self.call {
             None => say_refusal(alloc, stream, &mut self.wire),
@@ -170,10 +172,12 @@ impl<P: BookPort, W: WirePort, C: Clock, Q: Pacer> Feeder<P, W, C, Q> {
         ensures { (plan : PlanValue) (from : Ports)
             → HasFed schema.now stream plan 0 from self.old.call self.old.waiting
             (ports_of (P.port self.old.book) (W.connection self.old.wire) (W.counts self.old.wire)
-            (W.progress self.old.wire) (W.owns self.old.wire))
+            (W.progress self.old.wire) (W.owns self.old.wire) (W.given self.old.wire)
+            (W.authors self.old.wire))
             → Comes schema.now stream plan result from self.new.call self.new.waiting
             (ports_of (P.port self.new.book) (W.connection self.new.wire) (W.counts self.new.wire)
-            (W.progress self.new.wire) (W.owns self.new.wire)) }
+            (W.progress self.new.wire) (W.owns self.new.wire) (W.given self.new.wire)
+            (W.authors self.new.wire)) }
     {
         match self.wire.ready(stream) {
             Ready::Free => self.use_free(alloc, schema, stream),

@@ -22,13 +22,15 @@ module _ {S : Type 0} where
       (λ v. (v.wire, v.records)) (λ p. record { wire = p.0; records = p.1 }) (λ _. refl)
 
 -- While the wire is open there is room for one record at least, with which it can be closed.
-pub record HoldsOpen {S : Type 0} (wire : WireView S) (rs : List WireRecord) (count : ℕ) : Type 0 where
+pub record HoldsOpen {S : Type 0} (wire : WireView S) (rs : List WireRecord)
+    (count : ℕ) : Type 0 where
   pub is_open : IsOpen rs
   pub wire_open : wire.condition ≡ condition.Open
   pub line : wire.line ≡ line_after first_line wire.inputs
   pub room : count < most_records
 
-pub record Holds {S : Type 0} (seen : S → Output) (state : Condition) (wire : WireView S) (rs : List WireRecord) (count : ℕ) : Type 0 where
+pub record Holds {S : Type 0} (seen : S → Output) (state : Condition) (wire : WireView S)
+    (rs : List WireRecord) (count : ℕ) : Type 0 where
   pub counted : length rs ≡ count
   pub stands : StandsBehind seen rs wire
   pub answers : answer_of state ≡ fault_in rs

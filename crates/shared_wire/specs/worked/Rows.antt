@@ -47,8 +47,29 @@ pub refused : AreRecords (first ∷ by 1 (Refused (Event (event.Window 0 2147483
 refused = (refl, refl, (refl, (refl, refl), (omega arith, omega arith, (omega arith, omega arith)), (refl, (refl, refl, refl), (omega arith, omega arith, (omega arith, omega arith)), tt)), refl)
 
 -- there was no room but for one record more
-pub starved : fault_in (first ∷ by 2 Starved (wire [] condition.Finished [] 0) ∷ []) ≡ Err fault.NoMemory
-starved = refl
+abbrev without_room : WireRecord
+without_room = by 2 (Starved (Event (event.Ping 7))) (wire [] condition.NoMemory [] 0)
+
+pub starved : AreRecords (first ∷ without_room ∷ [])
+starved = (refl, refl, (refl, refl, (omega arith, omega arith, (omega arith, omega arith)), tt), refl)
+
+pub wants_memory : fault_in (first ∷ without_room ∷ []) ≡ Err fault.NoMemory
+wants_memory = refl
+
+-- which event that was is kept
+pub starved_event : entry_of first.left without_room ≡ record {
+  author = 2;
+  kind = kind.Ping;
+  flag = false;
+  stream = 0;
+  number = 7;
+  place = 0;
+  size = 0;
+  before = 0;
+  after = 0;
+  ending = entry.NoMemory;
+}
+starved_event = refl
 
 -- the answer to the PING has 17 octets, and so has the GOAWAY
 pub in_numbers : entries_of (first ∷ pinged ∷ ended ∷ []) ≡ record {

@@ -14,7 +14,7 @@ use Rattle.h2_events.specs.declared.port.Took.TheVariants as took
 use Rattle.h2_events.specs.declared.said.Piece.{Piece}
 use Rattle.h2_events.specs.declared.said.Piece.TheVariants as piece
 use Rattle.h2_events.specs.declared.said.Said.{Said}
-use Rattle.h2_send.specs.Port.{said_so_far, accepted_by, asked, noted}
+use Rattle.h2_send.specs.Port.{said_so_far, accepted_by, asked, given_by, noted}
 use Rattle.sub_plan.specs.declared.plan.Plan.{Plan}
 use Rattle.subscribe_calls.specs.Calls.{CallView, replies_octets}
 use Rattle.subscribe_calls.specs.Turns.{TurnsOnce}
@@ -81,16 +81,20 @@ lost_in answer piece = []
 -- what a question changes,
 pub record HasAsked (answer : Ready) (old new : WireView) : Type 0 where
   pub connection : new.connection ≡ old.connection
+  pub authors : new.authors ≡ old.authors
   pub counts : new.counts ≡ asked answer old.counts
   pub owns : new.owns ≡ old.owns
+  pub given : new.given ≡ old.given
   pub says : (other : ℕ) → IsTrue (old.owns other)
       → said_so_far other new.progress ≡ said_so_far other old.progress
 
 -- and an offer
 pub record HasOffered (stream : ℕ) (answer : Took) (piece : Piece) (old new : WireView) : Type 0 where
   pub connection : new.connection ≡ old.connection
+  pub authors : new.authors ≡ old.authors
   pub counts : new.counts ≡ noted answer (stream, piece) old.counts
   pub owns : new.owns ≡ old.owns
+  pub given : new.given ≡ old.given ++ given_by answer stream (said_by piece)
   pub says : (other : ℕ) → IsTrue (old.owns other)
       → said_so_far other new.progress ≡ said_so_far other old.progress
       ++ (if stream == other then accepted_by answer (said_by piece) else [])

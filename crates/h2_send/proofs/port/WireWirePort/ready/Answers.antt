@@ -1,4 +1,5 @@
-use Rattle.std.proofs.Common.{refl, subst, sym, ap, true}
+use Rattle.std.proofs.Common.{map, refl, subst, sym, ap, true}
+use Rattle.std.specs.Prelude.{Some}
 use Rattle.h2_send.specs.Port.{Asks, said_so_far}
 use Rattle.h2_send.specs.Wires.{progress_of}
 use Rattle.h2_send.proofs.Offered.{asks}
@@ -11,3 +12,6 @@ returns-clause-asks g c =
 
 pub returns-clause-own : goal.returns-clause-own
 returns-clause-own g c other is = ap (λ w. said_so_far other (progress_of g.S.Sink.seen w)) c.note_answer.ensures
+
+pub returns-clause-given : goal.returns-clause-given
+returns-clause-given g c = ap (λ w. map Some (progress_of g.S.Sink.seen w).inputs) c.note_answer.ensures

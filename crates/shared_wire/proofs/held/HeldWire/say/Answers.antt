@@ -1,21 +1,20 @@
-use Rattle.std.proofs.Common.{◌≡◌, ◌⊎◌, [], ◌∷◌, refl, sym, ap, ◌∙◌, subst, arith}
+use Rattle.std.proofs.Common.{◌≡◌, [], ◌∷◌, refl, sym, ap, ◌∙◌, subst, arith}
 use Rattle.h2_events.specs.Items.{said_by}
 use Rattle.h2_events.specs.declared.said.Piece.{Piece}
 use Rattle.h2_events.specs.declared.port.Ready.TheVariants as ready
-use Rattle.h2_send.specs.Conditions.{IsClosed, readiness}
+use Rattle.h2_send.specs.Conditions.{readiness}
 use Rattle.h2_send.specs.Inputs.{Input, Speech, input_of}
 use Rattle.h2_send.specs.Port.{line_of, ready_in}
-use Rattle.h2_send.specs.declared.condition.Condition.{Condition}
 use Rattle.h2_send.specs.declared.condition.Condition.TheVariants as condition
 use Rattle.h2_send.specs.declared.given.Given.TheVariants as given
 use Rattle.h2_send.proofs.Closing.{free_open}
 use Rattle.h2_send.proofs.Holding.{accepts_piece, ready_free}
 use Rattle.shared_wire.specs.Records.{IsPorts, AddsSo, Gave, IsOpen, SaysOn, left_in}
 use Rattle.shared_wire.specs.inner.Holding.{HeldView}
-use Rattle.shared_wire.specs.inner.Telling.{deed_of}
+use Rattle.shared_wire.specs.inner.Logging.{deed_of}
 use Rattle.shared_wire.specs.declared.log.Noted.TheVariants as noted
 use Rattle.shared_wire.proofs.Leaving.{says}
-use Rattle.shared_wire.proofs.Holding.{either_by, its_record, noted_adds, noted_holds, open_of, said_fits, tells_free}
+use Rattle.shared_wire.proofs.Holding.{its_record, noted_adds, noted_holds, open_of, said_fits, tells_free}
 use Rattle.shared_wire.proofs.held.HeldWire.say.Goals as goal
 
 pub invariant_of-self : goal.invariant_of-self
@@ -32,7 +31,7 @@ invariant_of-self g c =
     let next = c.condition_by-self-inside.result in let is = c.condition_by-self-inside.ensures in
     let room = o.room in let not_last = c.if-self.false in
     noted_holds seen c.args.author w v c.self.inside.condition log c.note.new.self c.self.inside.count h state deed deed refl c.note.ensures a.0 numbers
-    next refl (a.1 ∙ sym is) (subst (λ (s : Condition). (s ≡ condition.Open) ⊎ IsClosed s) (sym is) (either_by answer)) (λ s. refl) c.say-took.ensures.sound.folded
+    next refl (a.1 ∙ sym is) c.say-took.ensures.sound.folded
     (λ _. omega (arith, room, not_last))
 
 pub returns-clause-does : goal.returns-clause-does

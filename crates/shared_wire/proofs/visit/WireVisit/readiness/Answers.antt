@@ -18,4 +18,4 @@ returns g c =
     subst (λ (o : VisitView). DoesInTurn (ReadsOn c.args.stream c.readiness-ready.result) o (visit_of c.leave.new.pass.seat.table_id after c.self.inside.counts)) c.self.view_is
     (does_in_turn (ReadsOn c.args.stream c.readiness-ready.result) table c.leave.new.pass.seat.table_id c.self.inside.counts before found_by after found found before.turn.number
     c.self.invariant.2 same.2 same.3 same.4 same.5 same.6 e.pass.2 e.seen.0 e.seen.1 e.owner records refl adds
-    then_.2 then_.4 then_.5 then_.6 (then_.0 ∙ same.0) c.leave.ensures.seen c.leave.ensures.made)
+    then_.2 then_.4 then_.5 then_.6 (then_.0 ∙ same.0) c.leave.ensures.seen (c.leave.ensures.pass.2 ∙ e.finds) c.leave.ensures.made)

@@ -17,4 +17,4 @@ returns g c =
     subst (λ (o : VisitView). DoesInTurn (SaysOn c.args.stream (said_by c.args.piece.now) c.say-took.result) o (visit_of c.leave.new.pass.seat.table_id after c.self.inside.counts)) c.self.view_is
     (does_in_turn (SaysOn c.args.stream (said_by c.args.piece.now) c.say-took.result) table c.leave.new.pass.seat.table_id c.self.inside.counts before found_by after c.enter-held.result.records c.say-took.new.self.records c.number-author.result
     c.self.invariant.2 same.2 same.3 same.4 same.5 same.6 e.pass.2 e.seen.0 e.seen.1 e.owner a.records c.number-author.ensures.0 a.does
-    then_.2 then_.4 then_.5 then_.6 (then_.0 ∙ same.0) c.leave.ensures.seen c.leave.ensures.made)
+    then_.2 then_.4 then_.5 then_.6 (then_.0 ∙ same.0) c.leave.ensures.seen (c.leave.ensures.pass.2 ∙ e.finds) c.leave.ensures.made)

@@ -1,4 +1,5 @@
-use Rattle.std.proofs.Common.{arith, sym, ap, ◌∙◌, subst}
+use Rattle.std.proofs.Common.{arith, length, sym, ap, ◌∙◌, subst}
+use Rattle.turn_lock.specs.Passes.{numbers_of}
 use Rattle.shared_wire.specs.inner.Keeping.{KeepsWire}
 use Rattle.shared_wire.proofs.Meeting.{still_kept}
 use Rattle.shared_wire.proofs.visit.WireVisit.twin.Goals as goal
@@ -10,6 +11,7 @@ invariant_of-self g c =
       c.split.ensures.same.0 ∙ c.self.invariant.0,
       (ap (λ w. w.live) is ∙ o.0, ap (λ w. w.turn.ticket) is ∙ o.1, ap (λ w. w.turn.own) is ∙ o.2, ap (λ w. w.turn.found) is ∙ o.3, ap (λ m. m.1) me ∙ o.4),
       subst KeepsWire (sym is) (still_kept v 4294967295 (omega (arith, number, range)) c.self.invariant.2),
+      ap (λ w. length (numbers_of w)) is ∙ c.self.invariant.3,
     )
 
 pub invariant_of-self-2 : goal.invariant_of-self-2
@@ -19,4 +21,5 @@ invariant_of-self-2 g c =
       c.split.ensures.same.0 ∙ c.self.invariant.0,
       (ap (λ w. w.live) is ∙ o.0, ap (λ w. w.turn.ticket) is ∙ o.1, ap (λ w. w.turn.own) is ∙ o.2, ap (λ w. w.turn.found) is ∙ o.3, ap (λ m. m.1) me ∙ o.4),
       subst KeepsWire (sym is) (still_kept v c.split.new.pass.seat.me.0.known (omega (arith, counted, given, later)) c.self.invariant.2),
+      ap (λ w. length (numbers_of w)) is ∙ c.self.invariant.3,
     )

@@ -16,7 +16,7 @@ use Rattle.shared_wire.specs.Records.{Deed, WireRecord}
 use Rattle.shared_wire.specs.Records as deed
 use Rattle.shared_wire.specs.declared.log.Noted.{Noted}
 use Rattle.shared_wire.specs.declared.log.Noted.TheVariants as noted
-use Rattle.shared_wire.specs.declared.log.Told.{Told}
+use Rattle.shared_wire.specs.declared.log.LogEntry.{LogEntry}
 
 abbrev pub deed_of : Noted → Deed
 deed_of noted.Began = deed.Began
@@ -24,12 +24,13 @@ deed_of (noted.Gave given) = deed.Gave (input_of given)
 deed_of (noted.Lost given) = deed.Gave (input_of given)
 deed_of (noted.Refused given) = deed.Refused (input_of given)
 deed_of (noted.Ended code) = deed.Ended code
-deed_of noted.Starved = deed.Starved
+deed_of (noted.Starved given) = deed.Starved (input_of given)
 
--- What was lost was given, but the wire had nothing of it; so memory was wanting for it.
+-- What was lost was given, but the wire had nothing of it. Memory was wanting where there was no room but the last.
 abbrev pub left_by : Noted → Progress → Progress
 left_by (noted.Lost given) at =
     record at { inputs = at.inputs ++ input_of given ∷ []; condition = condition.NoMemory }
+left_by (noted.Starved given) at = record at { condition = condition.NoMemory }
 left_by other at = at
 
 -- what is noted of an event, and of a status, by what became of it
@@ -51,24 +52,20 @@ condition_by answer = condition.Open
 -- what can be noted where there is no room but the last, and the record of it
 abbrev pub Loses : Noted → Progress → Type 0
 Loses (noted.Lost given) at = IsAccepted (input_of given) (line_of at)
-Loses noted.Starved at = Unit {0}
+Loses (noted.Starved given) at = Unit {0}
 Loses other at = ⊥
-
-abbrev pub starved_left : Noted → Progress → Progress
-starved_left noted.Starved at = record at { condition = condition.Finished }
-starved_left other at = left_by other at
 
 abbrev pub starved_record : ℕ → Noted → Progress → WireRecord
 starved_record author noted at =
-    record { author = author; deed = deed_of noted; left = starved_left noted at }
+    record { author = author; deed = deed_of noted; left = left_by noted at }
 
 module _ {S : Type 0} where
-  abbrev pub record_told : (S → Output) → Told (WireView S) → WireRecord
-  record_told seen told = record {
-    author = told.author;
-    deed = deed_of told.deed;
-    left = left_by told.deed (progress_of seen told.left.value);
+  abbrev pub record_of : (S → Output) → LogEntry (WireView S) → WireRecord
+  record_of seen entry = record {
+    author = entry.author;
+    deed = deed_of entry.deed;
+    left = left_by entry.deed (progress_of seen entry.left.value);
   }
 
-  abbrev pub records_told : (S → Output) → List (Told (WireView S)) → List WireRecord
-  records_told seen tellings = map (record_told seen) tellings
+  abbrev pub records_of : (S → Output) → List (LogEntry (WireView S)) → List WireRecord
+  records_of seen entries = map (record_of seen) entries
