@@ -1,0 +1,5 @@
+mod Accepted
+mod Begun
+mod Chains
+mod Ended
+mod Keeping
