@@ -1,0 +1,2 @@
+pub mod FeederLaws
+pub mod PortLaws
