@@ -13,7 +13,7 @@ use Rattle.session_core.specs.Deeds.{Deed, Service, AreDone, turn_in, turns_in, 
 use Rattle.session_core.specs.laws.RunLaws.{IsAllowed}
 use Rattle.session_core.proofs.Moves.{Moved, moves}
 
-one_taken : (deed : Deed) (turns : List Turn) (old next new : PortView) → Moved deed old next → TakesTurns next turns new → TakesTurns old (turn_in deed.turn ++ turns) new
+pub one_taken : (deed : Deed) (turns : List Turn) (old next new : PortView) → Moved deed old next → TakesTurns next turns new → TakesTurns old (turn_in deed.turn ++ turns) new
 one_taken deed turns old next new (inl still) taken =
     subst (λ (t : Option Turn). TakesTurns old (turn_in t ++ turns) new) (sym still.unturned) (subst (λ (p : PortView). TakesTurns p turns new) still.same taken)
 one_taken deed turns old next new (inr moved) taken =

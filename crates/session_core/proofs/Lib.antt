@@ -3,7 +3,10 @@ pub mod NewStreams
 pub mod Opening
 pub mod Orders
 pub mod Reading
+pub mod Found
+pub mod Looking
 pub mod Words
+pub mod OwnWires
 pub mod Rounds
 pub mod Keeping
 pub mod Apart
@@ -22,3 +25,5 @@ pub mod Opened
 pub mod Subscribing
 pub mod OnceRuns
 pub mod StreamRuns
+pub mod Feeding
+pub mod Others

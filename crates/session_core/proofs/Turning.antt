@@ -10,12 +10,11 @@ use Rattle.edge_traits.specs.Output.{Output}
 use Rattle.h2_events.specs.declared.event.RecvEvent.{RecvEvent}
 use Rattle.h2_events.specs.declared.port.Ready.TheVariants.{Free, Busy, Gone}
 use Rattle.h2_recv.specs.Receiving.{State}
-use Rattle.h2_send.specs.Conditions.{readiness}
 use Rattle.h2_send.specs.Inputs.{Input}
 use Rattle.h2_send.specs.Lines.{first_line}
 use Rattle.h2_send.specs.Offers.{ready_on}
 use Rattle.h2_send.specs.Orders.{line_after}
-use Rattle.h2_send.specs.Wires.{WireView}
+use Rattle.h2_send.specs.Port.{Progress, line_of}
 use Rattle.book_port.specs.Ports.{PortView}
 use Rattle.sub_plan.specs.declared.plan.Plan.{Plan}
 use Rattle.session_calls.specs.declared.request.Request.{Request}
@@ -35,7 +34,7 @@ use Rattle.session_core.proofs.Apart.{apart_all, none_apart, others_off}
 use Rattle.session_core.proofs.Rounds.{all_more}
 use Rattle.session_core.proofs.Behind.{free_says, none_waits_there}
 use Rattle.session_core.proofs.Serving.{deed_served, turn_timely}
-use Rattle.session_core.proofs.Words.{ready_by, starved}
+use Rattle.session_core.proofs.Words.{starved}
 
 -- ---- a deed more
 
@@ -106,13 +105,13 @@ none_yet : (deeds : List Deed) (calls : List Served) → ((s : ℕ) → turns_on
 none_yet deeds [] none = tt
 none_yet deeds (c ∷ calls) none = (λ in_mode. none c.stream, none_yet deeds calls none)
 
-module _ {S : Type 0} (seen : S → Output) (start : Start) (output : Output) (octets : List ℕ) (recv : State) (wire : WireView S) (heard : List RecvEvent) where
+module _ (start : Start) (output : Output) (octets : List ℕ) (recv : State) (sending : Progress) (heard : List RecvEvent) where
   -- a deed that answers no request
-  stands_more : (waiting : List Waiting) (at : Standing) (deed : Deed) (new : Service) (later : List ℕ) → deed.given ≡ wire.inputs → asked_in deed.stream deed.doing ≡ []
+  stands_more : (waiting : List Waiting) (at : Standing) (deed : Deed) (new : Service) (later : List ℕ) → deed.given ≡ sending.inputs → asked_in deed.stream deed.doing ≡ []
       → IsDeed start.schema deed (service at.port at.calls) new → later ≡ at.readings ++ deed.readings
-      → (is_turn deed.doing ≡ true → ready_on deed.stream (line_after first_line wire.inputs).streams ≡ Free) → AreBehind wire.inputs waiting
-      → Stands seen start output octets (place_of recv wire heard waiting [] at)
-      → Stands seen start output octets (place_of recv wire heard (waiting ++ words deed.stream deed.said) [] (standing_of new.port new.calls later (at.round ++ deed ∷ [])))
+      → (is_turn deed.doing ≡ true → ready_on deed.stream (line_after first_line sending.inputs).streams ≡ Free) → AreBehind sending.inputs waiting
+      → Stands start output octets (place_of recv sending heard waiting [] at)
+      → Stands start output octets (place_of recv sending heard (waiting ++ words deed.stream deed.said) [] (standing_of new.port new.calls later (at.round ++ deed ∷ [])))
   stands_more waiting at deed new later given none is read free behind stands = record {
     moments = stands.moments;
     reader = stands.reader;
@@ -120,65 +119,65 @@ module _ {S : Type 0} (seen : S → Output) (start : Start) (output : Output) (o
     frames = stands.frames;
     writing = stands.writing;
     heard_is = stands.heard_is;
-    served = subst (λ (asks : List Request). (sd : IsServed start (course_of stands.moments wire.inputs waiting (asks ++ []) at)) → (is_turn deed.doing ≡ true → IsTimely (deeds_of sd.rounds ++ at.round) deed)
-        → IsServed start (course_of stands.moments wire.inputs (waiting ++ words deed.stream deed.said) [] (standing_of new.port new.calls later (at.round ++ deed ∷ [])))) none
-        (λ sd turns. deed_served start stands.moments wire.inputs waiting [] at deed new later given is read sd turns) stands.served
-        (λ turn. turn_timely start stands.moments wire.inputs waiting at deed given (none_waits_there deed.stream wire.inputs waiting (free turn) behind) (free_says deed.stream wire.inputs (free turn)) stands.served);
+    served = subst (λ (asks : List Request). (sd : IsServed start (course_of stands.moments sending.inputs waiting (asks ++ []) at)) → (is_turn deed.doing ≡ true → IsTimely (deeds_of sd.rounds ++ at.round) deed)
+        → IsServed start (course_of stands.moments sending.inputs (waiting ++ words deed.stream deed.said) [] (standing_of new.port new.calls later (at.round ++ deed ∷ [])))) none
+        (λ sd turns. deed_served start stands.moments sending.inputs waiting [] at deed new later given is read sd turns) stands.served
+        (λ turn. turn_timely start stands.moments sending.inputs waiting at deed given (none_waits_there deed.stream sending.inputs waiting (free turn) behind) (free_says deed.stream sending.inputs (free turn)) stands.served);
   }
 
-  module _ (done later : List Served) (served : Served) (waiting : List Waiting) (port : PortView) (readings : List ℕ) (t : IsTurning seen start output octets done (served ∷ later) recv wire heard waiting port readings) where
+  module _ (done later : List Served) (served : Served) (waiting : List Waiting) (port : PortView) (readings : List ℕ) (t : IsTurning start output octets done (served ∷ later) recv sending heard waiting port readings) where
     -- the call has had its turns
-    turns_had_so : HadTurns t.round wire.inputs served → IsTurning seen start output octets (done ++ served ∷ []) later recv wire heard waiting port readings
+    turns_had_so : HadTurns t.round sending.inputs served → IsTurning start output octets (done ++ served ∷ []) later recv sending heard waiting port readings
     turns_had_so had = record {
       round = t.round;
-      stands = subst (λ (calls : List Served). Stands seen start output octets (place_of recv wire heard waiting [] (standing_of port calls readings t.round))) (sym (append_assoc done (served ∷ []) later)) t.stands;
+      stands = subst (λ (calls : List Served). Stands start output octets (place_of recv sending heard waiting [] (standing_of port calls readings t.round))) (sym (append_assoc done (served ∷ []) later)) t.stands;
       behind = t.behind;
-      turned = all_more (HadTurns t.round wire.inputs) done served t.turned had;
+      turned = all_more (HadTurns t.round sending.inputs) done served t.turned had;
       not_yet = t.not_yet.1;
     }
 
     none_so_far : served.call.plan.mode ≡ modes.Stream → turns_on served.stream t.round ≤ 1
     none_so_far in_mode = let none = t.not_yet.0 in_mode in omega (arith, none)
 
-    pub turns_had : (had_turns served.call.plan.mode served t.round ≡ true) ⊎ (ready_on served.stream (line_after first_line wire.inputs).streams ≡ Busy) → IsTurning seen start output octets (done ++ served ∷ []) later recv wire heard waiting port readings
+    pub turns_had : (had_turns served.call.plan.mode served t.round ≡ true) ⊎ (ready_on served.stream (line_after first_line sending.inputs).streams ≡ Busy) → IsTurning start output octets (done ++ served ∷ []) later recv sending heard waiting port readings
     turns_had had = turns_had_so (record { had = had; once = none_so_far })
 
-    pub is_busy : readiness wire.condition served.stream wire.line ≡ Busy → IsTurning seen start output octets (done ++ served ∷ []) later recv wire heard waiting port readings
-    is_busy busy = turns_had (inr (ready_by seen served.stream wire wire.inputs Busy t.stands.writing.is_open busy))
+    pub is_busy : ready_on served.stream (line_of sending).streams ≡ Busy → IsTurning start output octets (done ++ served ∷ []) later recv sending heard waiting port readings
+    is_busy busy = turns_had (inr busy)
 
     -- it is over
-    pub is_gone : readiness wire.condition served.stream wire.line ≡ Gone → IsTurning seen start output octets (done ++ []) later recv wire heard waiting port readings
+    pub is_gone : ready_on served.stream (line_of sending).streams ≡ Gone → IsTurning start output octets (done ++ []) later recv sending heard waiting port readings
     is_gone gone =
-        let deed = deed_with served.stream Dropping wire.inputs [] None false [] in
+        let deed = deed_with served.stream Dropping sending.inputs [] None false [] in
         let stood = stands_more waiting (standing_of port (done ++ served ∷ later) readings t.round) deed (service port (done ++ later)) readings refl refl
         (record {
           served = served;
           others = done;
           later = later;
           among = record { whole = refl; on = refl };
-          over = ready_by seen served.stream wire wire.inputs Gone t.stands.writing.is_open gone;
+          over = gone;
           plain = record { says = refl; unread = refl; unturned = refl; unfailed = refl; new_is = refl };
         }) (sym (append-nil readings)) (λ is. absurd cc) t.behind t.stands in
-        subst (λ (front : List Served). IsTurning seen start output octets front later recv wire heard waiting port readings) (sym (append-nil done)) (record {
+        subst (λ (front : List Served). IsTurning start output octets front later recv sending heard waiting port readings) (sym (append-nil done)) (record {
           round = t.round ++ deed ∷ [];
-          stands = subst (λ (ws : List Waiting). Stands seen start output octets (place_of recv wire heard ws [] (standing_of port (done ++ later) readings (t.round ++ deed ∷ [])))) (append-nil waiting) stood;
+          stands = subst (λ (ws : List Waiting). Stands start output octets (place_of recv sending heard ws [] (standing_of port (done ++ later) readings (t.round ++ deed ∷ [])))) (append-nil waiting) stood;
           behind = t.behind;
-          turned = turns_more t.round deed wire.inputs wire.inputs done (no_turn_off deed done refl) (λ others behind. behind) t.turned;
+          turned = turns_more t.round deed sending.inputs sending.inputs done (no_turn_off deed done refl) (λ others behind. behind) t.turned;
           not_yet = not_yet_more t.round deed later (no_turn_off deed later refl) t.not_yet.1;
         })
 
     -- it takes a turn
-    module _ (reply : Reply) (left : Option Served) (next : PortView) (more : List ℕ) (free : readiness wire.condition served.stream wire.line ≡ Free) (is : IsTurned start.schema served reply left port next readings more) where
+    module _ (reply : Reply) (left : Option Served) (next : PortView) (more : List ℕ) (free : ready_on served.stream (line_of sending).streams ≡ Free) (is : IsTurned start.schema served reply left port next readings more) where
       abbrev pub turn_deed : Deed
-      turn_deed = deed_with served.stream Turning wire.inputs is.readings is.turn is.failed (said_in reply)
+      turn_deed = deed_with served.stream Turning sending.inputs is.readings is.turn is.failed (said_in reply)
 
-      pub has_turned : Stands seen start output octets (place_of recv wire heard (waiting ++ words served.stream (said_in reply)) [] (standing_of next (done ++ list_of left ++ later) more (t.round ++ turn_deed ∷ [])))
+      pub has_turned : Stands start output octets (place_of recv sending heard (waiting ++ words served.stream (said_in reply)) [] (standing_of next (done ++ list_of left ++ later) more (t.round ++ turn_deed ∷ [])))
       has_turned = stands_more waiting (standing_of port (done ++ served ∷ later) readings t.round) turn_deed (service next (done ++ list_of left ++ later)) more refl refl
-          (is.deed done later wire.inputs (ready_by seen served.stream wire wire.inputs Free t.stands.writing.is_open free)) is.clock (λ turn. ready_by seen served.stream wire wire.inputs Free t.stands.writing.is_open free) t.behind t.stands
+          (is.deed done later sending.inputs free) is.clock (λ turn. free) t.behind t.stands
 
       -- what it says was said, as far as it could be
-      module _ (last : State) (new : WireView S) (rest : List Waiting) (keeps : (others : List Waiting) → AreBehind wire.inputs others → AreBehind new.inputs others) (behind : AreBehind new.inputs rest)
-          (stands : Stands seen start output octets (place_of last new heard rest [] (standing_of next (done ++ list_of left ++ later) more (t.round ++ turn_deed ∷ [])))) where
+      module _ (last : State) (new : Progress) (rest : List Waiting) (keeps : (others : List Waiting) → AreBehind sending.inputs others → AreBehind new.inputs others) (behind : AreBehind new.inputs rest)
+          (stands : Stands start output octets (place_of last new heard rest [] (standing_of next (done ++ list_of left ++ later) more (t.round ++ turn_deed ∷ [])))) where
         -- no other call is on its stream
         off : AllByRecursion (λ (c : Served). (served.stream == c.stream) ≡ false) done × AllByRecursion (λ (c : Served). (served.stream == c.stream) ≡ false) later
         off = others_off done later served (apart_all start.schema (first_service start) _ _ t.stands.served.done none_apart)
@@ -187,13 +186,13 @@ module _ {S : Type 0} (seen : S → Output) (start : Start) (output : Output) (o
         later_not_yet = not_yet_more t.round turn_deed later (streams_off turn_deed later off.1) t.not_yet.1
 
         front_turned : AllByRecursion (HadTurns (t.round ++ turn_deed ∷ []) new.inputs) done
-        front_turned = turns_more t.round turn_deed wire.inputs new.inputs done (streams_off turn_deed done off.0) keeps t.turned
+        front_turned = turns_more t.round turn_deed sending.inputs new.inputs done (streams_off turn_deed done off.0) keeps t.turned
 
         -- the call is served no more
-        pub ends_so : left ≡ None → IsTurning seen start output octets (done ++ []) later last new heard rest next more
-        ends_so none = subst (λ (front : List Served). IsTurning seen start output octets front later last new heard rest next more) (sym (append-nil done)) (record {
+        pub ends_so : left ≡ None → IsTurning start output octets (done ++ []) later last new heard rest next more
+        ends_so none = subst (λ (front : List Served). IsTurning start output octets front later last new heard rest next more) (sym (append-nil done)) (record {
           round = t.round ++ turn_deed ∷ [];
-          stands = subst (λ (calls : List Served). Stands seen start output octets (place_of last new heard rest [] (standing_of next calls more (t.round ++ turn_deed ∷ []))))
+          stands = subst (λ (calls : List Served). Stands start output octets (place_of last new heard rest [] (standing_of next calls more (t.round ++ turn_deed ∷ []))))
               (ap (λ (o : Option Served). done ++ list_of o ++ later) none ∙ ap (λ (front : List Served). front ++ later) (append-nil done)) stands;
           behind = behind;
           turned = front_turned;
@@ -201,10 +200,10 @@ module _ {S : Type 0} (seen : S → Output) (start : Start) (output : Output) (o
         })
 
         -- it is served on, and may have further turns
-        pub goes_on_so : (now : Served) → left ≡ Some now → now.call.plan.mode ≡ modes.Poll → IsTurning seen start output octets done (now ∷ later) last new heard rest next more
+        pub goes_on_so : (now : Served) → left ≡ Some now → now.call.plan.mode ≡ modes.Poll → IsTurning start output octets done (now ∷ later) last new heard rest next more
         goes_on_so now some polls = record {
           round = t.round ++ turn_deed ∷ [];
-          stands = subst (λ (calls : List Served). Stands seen start output octets (place_of last new heard rest [] (standing_of next calls more (t.round ++ turn_deed ∷ []))))
+          stands = subst (λ (calls : List Served). Stands start output octets (place_of last new heard rest [] (standing_of next calls more (t.round ++ turn_deed ∷ []))))
               (ap (λ (o : Option Served). done ++ list_of o ++ later) some ∙ append_assoc done (now ∷ []) later) stands;
           behind = behind;
           turned = front_turned;
@@ -224,10 +223,10 @@ module _ {S : Type 0} (seen : S → Output) (start : Start) (output : Output) (o
 
         -- a call of mode STREAM has had the one that it has
         pub one_turn : (now : Served) → left ≡ Some now → now.stream ≡ served.stream → served.call.plan.mode ≡ modes.Stream → now.call.plan.mode ≡ modes.Stream
-            → IsTurning seen start output octets (done ++ now ∷ []) later last new heard rest next more
+            → IsTurning start output octets (done ++ now ∷ []) later last new heard rest next more
         one_turn now some on streams in_mode = record {
           round = t.round ++ turn_deed ∷ [];
-          stands = subst (λ (calls : List Served). Stands seen start output octets (place_of last new heard rest [] (standing_of next calls more (t.round ++ turn_deed ∷ []))))
+          stands = subst (λ (calls : List Served). Stands start output octets (place_of last new heard rest [] (standing_of next calls more (t.round ++ turn_deed ∷ []))))
               (ap (λ (o : Option Served). done ++ list_of o ++ later) some) stands;
           behind = behind;
           turned = all_more (HadTurns (t.round ++ turn_deed ∷ []) new.inputs) done now front_turned (had_its_turn now on streams in_mode);
@@ -236,39 +235,39 @@ module _ {S : Type 0} (seen : S → Output) (start : Start) (output : Output) (o
 
         -- whatever is left of a call of mode STREAM
         pub left_so : served.call.plan.mode ≡ modes.Stream → IfSome left (λ now. (now.stream ≡ served.stream) × (now.call.plan ≡ served.call.plan))
-            → IsTurning seen start output octets (done ++ list_of left) later last new heard rest next more
+            → IsTurning start output octets (done ++ list_of left) later last new heard rest next more
         left_so in_mode same = by_case left refl same where
-          by_case : (o : Option Served) → left ≡ o → IfSome o (λ now. (now.stream ≡ served.stream) × (now.call.plan ≡ served.call.plan)) → IsTurning seen start output octets (done ++ list_of left) later last new heard rest next more
-          by_case None is same = subst (λ (o : Option Served). IsTurning seen start output octets (done ++ list_of o) later last new heard rest next more) (sym is) (ends_so is)
-          by_case (Some now) is same = subst (λ (o : Option Served). IsTurning seen start output octets (done ++ list_of o) later last new heard rest next more) (sym is)
+          by_case : (o : Option Served) → left ≡ o → IfSome o (λ now. (now.stream ≡ served.stream) × (now.call.plan ≡ served.call.plan)) → IsTurning start output octets (done ++ list_of left) later last new heard rest next more
+          by_case None is same = subst (λ (o : Option Served). IsTurning start output octets (done ++ list_of o) later last new heard rest next more) (sym is) (ends_so is)
+          by_case (Some now) is same = subst (λ (o : Option Served). IsTurning start output octets (done ++ list_of o) later last new heard rest next more) (sym is)
               (one_turn now is same.0 in_mode (ap (λ (p : Plan). p.mode) same.1 ∙ in_mode))
 
   -- ---- all of them
 
-  pub all_due : (waiting : List Waiting) (at : Standing) → ((s : ℕ) → turns_on s at.round ≡ 0) → AreBehind wire.inputs waiting → Stands seen start output octets (place_of recv wire heard waiting [] at)
-      → IsTurning seen start output octets [] at.calls recv wire heard waiting at.port at.readings
+  pub all_due : (waiting : List Waiting) (at : Standing) → ((s : ℕ) → turns_on s at.round ≡ 0) → AreBehind sending.inputs waiting → Stands start output octets (place_of recv sending heard waiting [] at)
+      → IsTurning start output octets [] at.calls recv sending heard waiting at.port at.readings
   all_due waiting at none behind stands = record { round = at.round; stands = stands; behind = behind; turned = tt; not_yet = none_yet at.round at.calls none }
 
-  pub all_had : (calls : List Served) (waiting : List Waiting) (port : PortView) (readings : List ℕ) → IsTurning seen start output octets calls [] recv wire heard waiting port readings
-      → HasRested seen start output octets recv wire heard waiting port calls readings
+  pub all_had : (calls : List Served) (waiting : List Waiting) (port : PortView) (readings : List ℕ) → IsTurning start output octets calls [] recv sending heard waiting port readings
+      → HasRested start output octets recv sending heard waiting port calls readings
   all_had calls waiting port readings t = record {
     round = t.round;
     rests = record {
-      stands = subst (λ (cs : List Served). Stands seen start output octets (place_of recv wire heard waiting [] (standing_of port cs readings t.round))) (append-nil calls) t.stands;
+      stands = subst (λ (cs : List Served). Stands start output octets (place_of recv sending heard waiting [] (standing_of port cs readings t.round))) (append-nil calls) t.stands;
       rest = record { none_owed = refl; behind = t.behind; turned = t.turned };
     };
   }
 
-  pub turning_starved : (done due : List Served) (waiting : List Waiting) (port : PortView) (readings : List ℕ) → IsTurning seen start output octets done due recv wire heard waiting port readings
-      → HasEnded seen hows.NoMemory start octets output wire port readings
-  turning_starved done due waiting port readings t = starved seen start output octets recv wire wire heard waiting [] (standing_of port (done ++ due) readings t.round) refl t.stands
+  pub turning_starved : (done due : List Served) (waiting : List Waiting) (port : PortView) (readings : List ℕ) → IsTurning start output octets done due recv sending heard waiting port readings
+      → HasEnded hows.NoMemory start octets output sending port readings
+  turning_starved done due waiting port readings t = starved start output octets recv sending sending heard waiting [] (standing_of port (done ++ due) readings t.round) (inl refl) t.stands
 
-  pub none_behind : (none waiting : List Waiting) (at : Standing) → none ≡ [] → Stands seen start output octets (place_of recv wire heard waiting [] at) → Stands seen start output octets (place_of recv wire heard (none ++ waiting) [] at)
-  none_behind none waiting at is stands = subst (λ (n : List Waiting). Stands seen start output octets (place_of recv wire heard (n ++ waiting) [] at)) (sym is) stands
+  pub none_behind : (none waiting : List Waiting) (at : Standing) → none ≡ [] → Stands start output octets (place_of recv sending heard waiting [] at) → Stands start output octets (place_of recv sending heard (none ++ waiting) [] at)
+  none_behind none waiting at is stands = subst (λ (n : List Waiting). Stands start output octets (place_of recv sending heard (n ++ waiting) [] at)) (sym is) stands
 
   pub rested_if : {T E : Type 0} (result : Result T E) (waits : T → List Waiting) (calls : T → List Served) (Q : E → Type 0) (port : PortView) (readings : List ℕ)
-      → MatchResult result (λ kept. IsTurning seen start output octets (calls kept) [] recv wire heard (waits kept) port readings) Q
-      → MatchResult result (λ kept. HasRested seen start output octets recv wire heard (waits kept) port (calls kept) readings) Q
+      → MatchResult result (λ kept. IsTurning start output octets (calls kept) [] recv sending heard (waits kept) port readings) Q
+      → MatchResult result (λ kept. HasRested start output octets recv sending heard (waits kept) port (calls kept) readings) Q
   rested_if (Ok kept) waits calls Q port readings is = all_had (calls kept) (waits kept) port readings is
   rested_if (Err fault) waits calls Q port readings is = is
 

@@ -1,12 +1,13 @@
--- Something is said on a stream that is free, or what waits there has gone.
-use Rattle.std.proofs.Common.{◌≡◌, refl, inl, inr, ℕ, List, [], ◌∷◌, ◌++◌, Bool, true, false, sym, ap, ◌∙◌, subst, cond, append-nil, append_assoc, Result, Ok, Err}
+-- Something is said on a stream, or what waits there has gone.
+use Rattle.std.proofs.Common.{◌≡◌, ◌⊎◌, refl, inl, inr, ℕ, List, [], ◌∷◌, ◌++◌, Bool, true, false, sym, ap, ◌∙◌, subst, cond, append-nil, append_assoc, Result, Ok, Err}
+use Rattle.std.specs.Prelude.{Option, IfErr}
 use Rattle.edge_traits.specs.Output.{Output, Wrote, FailedWithin}
 use Rattle.h2_windows.specs.Written.{octets_of}
 use Rattle.h2_events.specs.declared.event.RecvEvent.{RecvEvent}
 use Rattle.h2_events.specs.declared.said.Said.{Said}
+use Rattle.h2_events.specs.declared.said.Said.TheVariants.{Message, Finish, Status}
 use Rattle.h2_events.specs.declared.port.Took.{Took}
 use Rattle.h2_events.specs.declared.port.Took.TheVariants as took
-use Rattle.h2_events.specs.declared.port.Ready.{Ready}
 use Rattle.h2_events.specs.declared.port.Ready.TheVariants.{Free, Busy, Gone}
 use Rattle.h2_events.specs.Items.{is_last}
 use Rattle.h2_calls.specs.Calls.{Moment, ended}
@@ -14,19 +15,19 @@ use Rattle.h2_recv.specs.declared.reader.Reader.{Reader}
 use Rattle.h2_recv.specs.Receiving.{State, ReadsWithEnds, new_reader, reader_ended, state_ended}
 use Rattle.h2_recv.proofs.PieceLemmas.{end_told}
 use Rattle.h2_send.specs.Inputs.{Input, Speech}
-use Rattle.h2_send.specs.Accepting.{AreAccepted}
+use Rattle.h2_send.specs.Accepting.{AreAccepted, IsAccepted}
 use Rattle.h2_send.specs.Lines.{Line, first_line}
 use Rattle.h2_send.specs.Outputs.{frames_of}
-use Rattle.h2_send.specs.Offers.{ready_on, has_begun}
+use Rattle.h2_send.specs.Offers.{ready_on}
 use Rattle.h2_send.specs.Acting.{handled}
 use Rattle.h2_send.specs.Orders.{line_after}
-use Rattle.h2_send.specs.Conditions.{readiness}
-use Rattle.h2_send.specs.Wires.{WireView, Says}
+use Rattle.h2_send.specs.Conditions.{IsClosed, answer_of, took_of}
+use Rattle.h2_send.specs.Port.{Progress, Takes, line_of}
 use Rattle.h2_send.specs.declared.condition.Condition.{Condition}
 use Rattle.h2_send.specs.declared.condition.Condition.TheVariants as condition
 use Rattle.h2_send.specs.declared.fault.WireFaultOut.{WireFaultOut}
 use Rattle.h2_send.specs.declared.fault.WireFaultOut.TheVariants as faults
-use Rattle.h2_send.proofs.Closing.{line_after_one}
+use Rattle.h2_send.proofs.Holding.{accepted_more}
 use Rattle.h2_send.proofs.Orders.{output_grows}
 use Rattle.session_calls.specs.declared.request.Request.{Request}
 use Rattle.session_core.specs.declared.how.How.TheVariants as hows
@@ -35,69 +36,75 @@ use Rattle.session_core.specs.Saying.{AreBehind}
 use Rattle.session_core.specs.Serving.{Start, Standing, IsServed}
 use Rattle.session_core.specs.Writing.{IsBroken}
 use Rattle.session_core.specs.inner.Ends.{how_of}
-use Rattle.session_core.specs.inner.Places.{IsOpen, IsWriting, Stands, HasEnded, course_of, place_of}
+use Rattle.session_core.specs.inner.Places.{HasStarved, IsWriting, Stands, HasEnded, course_of, place_of}
+use Rattle.session_core.specs.inner.Sending.{DoesWhereOpen, Says, Starves, TellsFault, TellsTook}
 use Rattle.session_core.specs.inner.Steps.{Speaks, done_of, told_of}
 use Rattle.session_core.proofs.Behind.{free_says, gone_says, still_behind, behind_more, none_waits_there}
+use Rattle.session_core.proofs.Found.{nothing_found}
 use Rattle.session_core.proofs.Reading.{wholly_read}
 use Rattle.session_core.proofs.Serving.{ends_with, events_at_end, speech_served, gone_served}
 
-module _ {S : Type 0} (seen : S → Output) where
-  -- what saying it came to
-  pub spoken_so : (stream : ℕ) (said : Said) (answer : Took) (old new : WireView S) → AreAccepted first_line new.inputs → Says seen (Speech stream said) answer old new → Speaks seen stream said (done_of answer) old new
-  spoken_so stream said took.Taken old new accepted says = (accepted, says)
-  spoken_so stream said took.WriteFault old new accepted says = (accepted, says)
-  spoken_so stream said took.NoMemory old new accepted says = says.1
-  spoken_so stream said took.Busy old new accepted says = absurd says
-  spoken_so stream said took.Gone old new accepted says = absurd says
+-- ---- what saying it comes to
 
-  pub unsaid : (stream : ℕ) (said : Said) (answer : Took) (old new : WireView S) → answer ≡ took.Gone → new ≡ old → Speaks seen stream said (done_of answer) old new
-  unsaid stream said answer old new gone same =
-      subst (λ (t : Took). Speaks seen stream said (done_of t) old new) (sym gone) (ap (λ (w : WireView S). seen w.sink) same)
+spoken_so : (stream : ℕ) (said : Said) (answer : Took) (found new : Progress) → Says stream said answer found new → Speaks stream said (done_of answer) found new
+spoken_so stream said took.Taken found new says = says
+spoken_so stream said took.WriteFault found new says = says
+spoken_so stream said took.NoMemory found new says = inr says
+spoken_so stream said took.Busy found new says = inl says.1
+spoken_so stream said took.Gone found new says = inl says.1
 
-  pub status_so : (stream : ℕ) (said : Said) (answer : Took) (old new : WireView S) (begun : Bool) → AreAccepted first_line new.inputs → has_begun stream old.line.streams ≡ begun
-      → (has_begun stream old.line.streams ≡ false → Says seen (Speech stream said) answer old new)
-      → (has_begun stream old.line.streams ≡ true → (answer ≡ took.Gone) × (new ≡ old))
-      → Speaks seen stream said (done_of answer) old new
-  status_so stream said answer old new true accepted is says gone = unsaid stream said answer old new (gone is).0 (gone is).1
-  status_so stream said answer old new false accepted is says gone = spoken_so stream said answer old new accepted (says is)
+fault_told : (state : Condition) (answer : Took) → IfErr (answer_of state) (λ fault. answer ≡ took_of (Err fault)) → IfErr (answer_of state) (λ fault. done_of answer ≡ Err fault)
+fault_told condition.New answer is = is
+fault_told condition.Open answer is = is
+fault_told condition.Finished answer is = is
+fault_told condition.WriteFault answer is = ap done_of is
+fault_told condition.NoMemory answer is = ap done_of is
 
-  -- ---- an open sending half
+pub speaks_as : (stream : ℕ) (said other : Said) (answer : Took) (result : Result (Unit {0}) WireFaultOut) (before after : List (Option Input)) (old new : Progress) → said ≡ other → result ≡ done_of answer
+    → DoesWhereOpen before after old new (Says stream other answer) (TellsTook old answer) → DoesWhereOpen before after old new (Speaks stream said result) (TellsFault old result)
+speaks_as stream said other answer result before after old new same is d =
+    subst (λ (s : Said). DoesWhereOpen before after old new (Speaks stream s result) (TellsFault old result)) (sym same)
+    (subst (λ (r : Result (Unit {0}) WireFaultOut). DoesWhereOpen before after old new (Speaks stream other r) (TellsFault old r)) (sym is) (record {
+      found = d.found;
+      finds = d.finds;
+      does = λ is_open. spoken_so stream other answer d.found new (d.does is_open);
+      tells = λ is_closed. let c = d.tells is_closed in (c.0, λ was_open. fault_told d.found.condition answer (c.1 was_open));
+    }))
 
-  -- whether the stream is free, by the inputs
-  pub ready_by : (stream : ℕ) (wire : WireView S) (inputs : List Input) (r : Ready) → IsOpen inputs wire → readiness wire.condition stream wire.line ≡ r → ready_on stream (line_after first_line inputs).streams ≡ r
-  ready_by stream wire inputs r is_open is =
-      ap (λ (l : Line). ready_on stream l.streams) (sym is_open.line_is) ∙ ap (λ (k : Condition). readiness k stream wire.line) (sym is_open.condition_is) ∙ is
+-- where there is no memory for it, nothing is asked of the sending half
+pub unsaid : (stream : ℕ) (said : Said) (others : List (Option Input)) (at : Progress) → DoesWhereOpen others others at at (Speaks stream said (Err faults.NoMemory)) (TellsFault {T = Unit {0}} at (Err faults.NoMemory))
+unsaid stream said others at = record {
+  found = at;
+  finds = nothing_found others at;
+  does = λ is_open. inl refl;
+  tells = λ is_closed. (refl, λ was_open. absurd (subst IsClosed was_open is_closed));
+}
 
-  pub writes_on : (output : Output) (old new : WireView S) (input : Input) → AreAccepted first_line new.inputs → IsWriting seen output old
-      → Wrote (octets_of (handled input old.line).frames) (seen old.sink) (seen new.sink)
-      → new ≡ record old { sink = new.sink; line = (handled input old.line).line; inputs = old.inputs ++ input ∷ []; condition = condition.Open }
-      → IsWriting seen output new
-  writes_on output old new input accepted writing wrote is =
-      let inputs_are : new.inputs ≡ old.inputs ++ input ∷ [] = ap (λ (w : WireView S). w.inputs) is in
-      let line_was = writing.is_open.line_is in
-      record {
-        is_open = record {
-          condition_is = ap (λ (w : WireView S). w.condition) is;
-          line_is = ap (λ (w : WireView S). w.line) is ∙ ap (λ (l : Line). (handled input l).line) line_was ∙ sym (line_after_one first_line old.inputs input)
-              ∙ ap (line_after first_line) (sym inputs_are);
-        };
-        accepted = accepted;
-        wrote = subst (λ (is : List Input). Wrote (octets_of (frames_of is)) output (seen new.sink)) (sym inputs_are)
-            (output_grows old.inputs input output (seen old.sink) (seen new.sink) writing.wrote
-            (subst (λ (l : Line). Wrote (octets_of (handled input l).frames) (seen old.sink) (seen new.sink)) line_was wrote));
-      }
+-- ---- an open sending half
 
-  pub breaks_off : (octets : List ℕ) (moments : List Moment) (output : Output) (old new : WireView S) (input : Input) → IsWriting seen output old
-      → FailedWithin (octets_of (handled input old.line).frames) (seen old.sink) (seen new.sink)
-      → IsBroken octets moments (old.inputs ++ input ∷ []) output (seen new.sink)
-  breaks_off octets moments output old new input writing failed = inr (inl (record {
-    before = old.inputs;
-    last = input;
-    split = refl;
-    between = seen old.sink;
-    wrote = writing.wrote;
-    failed = subst (λ (l : Line). FailedWithin (octets_of (handled input l).frames) (seen old.sink) (seen new.sink)) writing.is_open.line_is failed;
-  }))
+pub is_free : (stream : ℕ) (said : Said) (line : Line) → IsAccepted (Speech stream said) line → ready_on stream line.streams ≡ Free
+is_free stream (Message octets) line is = is.0
+is_free stream (Finish refusal) line is = is
+is_free stream (Status status) line is = is.0
+
+pub writes_on : (output : Output) (found new : Progress) (input : Input) → IsWriting output found → IsAccepted input (line_of found) → Takes took.Taken input found new → IsWriting output new
+writes_on output found new input writing accepts takes = record {
+  is_open = takes.2;
+  accepted = subst (λ (is : List Input). AreAccepted first_line is) (sym takes.1) (accepted_more first_line found.inputs input writing.accepted accepts);
+  wrote = subst (λ (is : List Input). Wrote (octets_of (frames_of is)) output new.output) (sym takes.1) (output_grows found.inputs input output found.output new.output writing.wrote takes.0);
+}
+
+pub breaks_off : (octets : List ℕ) (moments : List Moment) (output : Output) (found new : Progress) (input : Input) → IsWriting output found
+    → FailedWithin (octets_of (handled input (line_of found)).frames) found.output new.output
+    → IsBroken octets moments (found.inputs ++ input ∷ []) output new.output
+breaks_off octets moments output found new input writing failed = inr (inl (record {
+  before = found.inputs;
+  last = input;
+  split = refl;
+  between = found.output;
+  wrote = writing.wrote;
+  failed = failed;
+}))
 
 abbrev reader_after : Bool → ℕ → Reader → Reader
 reader_after last stream reader = cond last (reader_ended stream reader) reader
@@ -116,46 +123,44 @@ told_so false stream recv reader is = is
 
 -- ---- the loop over what waits: `items` were not tried yet
 
-module _ {S : Type 0} (seen : S → Output) (start : Start) (output : Output) (octets : List ℕ) where
-  split_first : (place_recv : State) (wire : WireView S) (heard : List RecvEvent) (still items rest : List Waiting) (w : Waiting) (owed : List Request) (at : Standing)
-      → items ≡ w ∷ rest → Stands seen start output octets (place_of place_recv wire heard (still ++ items) owed at)
-      → Stands seen start output octets (place_of place_recv wire heard (still ++ w ∷ rest) owed at)
-  split_first recv wire heard still items rest w owed at first stands =
-      subst (λ (ws : List Waiting). Stands seen start output octets (place_of recv wire heard (still ++ ws) owed at)) first stands
+module _ (start : Start) (output : Output) (octets : List ℕ) where
+  split_first : (recv : State) (sending : Progress) (heard : List RecvEvent) (still items rest : List Waiting) (w : Waiting) (owed : List Request) (at : Standing)
+      → items ≡ w ∷ rest → Stands start output octets (place_of recv sending heard (still ++ items) owed at)
+      → Stands start output octets (place_of recv sending heard (still ++ w ∷ rest) owed at)
+  split_first recv sending heard still items rest w owed at first stands =
+      subst (λ (ws : List Waiting). Stands start output octets (place_of recv sending heard (still ++ ws) owed at)) first stands
 
-  word_said : (recv next : State) (old new : WireView S) (heard : List RecvEvent) (still rest : List Waiting) (w : Waiting) (owed : List Request) (at : Standing)
-      → readiness old.condition w.stream old.line ≡ Free → AreBehind old.inputs still → AreAccepted first_line new.inputs → Says seen (Speech w.stream w.said) took.Taken old new → next ≡ told_of w.stream w.said recv
-      → Stands seen start output octets (place_of recv old heard (still ++ w ∷ rest) owed at)
-      → Stands seen start output octets (place_of next new heard (still ++ rest) owed at)
-  word_said recv next old new heard still rest w owed at free behind accepted says told stands =
+  word_said : (recv next : State) (found new : Progress) (heard : List RecvEvent) (still rest : List Waiting) (w : Waiting) (owed : List Request) (at : Standing)
+      → AreBehind found.inputs still → Speaks w.stream w.said (Ok tt) found new → next ≡ told_of w.stream w.said recv
+      → Stands start output octets (place_of recv found heard (still ++ w ∷ rest) owed at)
+      → Stands start output octets (place_of next new heard (still ++ rest) owed at)
+  word_said recv next found new heard still rest w owed at behind speaks told stands =
       let input = Speech w.stream w.said in
-      let is_free = ready_by seen w.stream old old.inputs Free stands.writing.is_open free in
-      let inputs_are : new.inputs ≡ old.inputs ++ input ∷ [] = ap (λ (v : WireView S). v.inputs) says.1 in
-      let served = speech_served start stands.moments old.inputs still rest w owed at (none_waits_there w.stream old.inputs still is_free behind) (free_says w.stream old.inputs is_free) stands.served in
+      let free = is_free w.stream w.said (line_of found) speaks.0 in
+      let served = speech_served start stands.moments found.inputs still rest w owed at (none_waits_there w.stream found.inputs still free behind) (free_says w.stream found.inputs free) stands.served in
       record {
         moments = stands.moments ++ ends_with w.stream w.said;
         reader = reader_after (is_last w.said) w.stream stands.reader;
         recv_is = told ∙ told_so (is_last w.said) w.stream recv stands.reader stands.recv_is;
         frames = frames_after (is_last w.said) w.stream octets stands.moments stands.reader stands.frames;
-        writing = writes_on seen output old new input accepted stands.writing says.0 says.1;
+        writing = writes_on output found new input stands.writing speaks.0 speaks.1;
         heard_is = stands.heard_is ∙ sym (events_at_end stands.moments w.stream w.said);
-        served = subst (λ (is : List Input). IsServed start (course_of (stands.moments ++ ends_with w.stream w.said) is (still ++ rest) owed at)) (sym inputs_are) served;
+        served = subst (λ (is : List Input). IsServed start (course_of (stands.moments ++ ends_with w.stream w.said) is (still ++ rest) owed at)) (sym speaks.1.1) served;
       }
 
-  pub word_taken : (recv next : State) (old new : WireView S) (heard : List RecvEvent) (still items rest : List Waiting) (w : Waiting) (owed : List Request) (at : Standing)
-      → items ≡ w ∷ rest → readiness old.condition w.stream old.line ≡ Free → AreBehind old.inputs still → AreAccepted first_line new.inputs → Says seen (Speech w.stream w.said) took.Taken old new → next ≡ told_of w.stream w.said recv
-      → Stands seen start output octets (place_of recv old heard (still ++ items) owed at)
-      → Stands seen start output octets (place_of next new heard (still ++ rest) owed at)
-  word_taken recv next old new heard still items rest w owed at first free behind accepted says told stands =
-      word_said recv next old new heard still rest w owed at free behind accepted says told (split_first recv old heard still items rest w owed at first stands)
+  pub word_taken : (recv next : State) (found new : Progress) (heard : List RecvEvent) (still items rest : List Waiting) (w : Waiting) (owed : List Request) (at : Standing)
+      → items ≡ w ∷ rest → AreBehind found.inputs still → Speaks w.stream w.said (Ok tt) found new → next ≡ told_of w.stream w.said recv
+      → Stands start output octets (place_of recv found heard (still ++ items) owed at)
+      → Stands start output octets (place_of next new heard (still ++ rest) owed at)
+  word_taken recv next found new heard still items rest w owed at first behind speaks told stands =
+      word_said recv next found new heard still rest w owed at behind speaks told (split_first recv found heard still items rest w owed at first stands)
 
-  pub word_gone : (recv : State) (wire : WireView S) (heard : List RecvEvent) (still items rest : List Waiting) (w : Waiting) (owed : List Request) (at : Standing)
-      → items ≡ w ∷ rest → readiness wire.condition w.stream wire.line ≡ Gone
-      → Stands seen start output octets (place_of recv wire heard (still ++ items) owed at)
-      → Stands seen start output octets (place_of recv wire heard (still ++ rest) owed at)
-  word_gone recv wire heard still items rest w owed at first gone stands =
-      let s = split_first recv wire heard still items rest w owed at first stands in
-      let is_gone = ready_by seen w.stream wire wire.inputs Gone s.writing.is_open gone in
+  pub word_gone : (recv : State) (sending : Progress) (heard : List RecvEvent) (still items rest : List Waiting) (w : Waiting) (owed : List Request) (at : Standing)
+      → items ≡ w ∷ rest → ready_on w.stream (line_of sending).streams ≡ Gone
+      → Stands start output octets (place_of recv sending heard (still ++ items) owed at)
+      → Stands start output octets (place_of recv sending heard (still ++ rest) owed at)
+  word_gone recv sending heard still items rest w owed at first gone stands =
+      let s = split_first recv sending heard still items rest w owed at first stands in
       record {
         moments = s.moments;
         reader = s.reader;
@@ -163,28 +168,28 @@ module _ {S : Type 0} (seen : S → Output) (start : Start) (output : Output) (o
         frames = s.frames;
         writing = s.writing;
         heard_is = s.heard_is;
-        served = gone_served start s.moments wire.inputs still rest w owed at (gone_says w.stream wire.inputs is_gone) s.served;
+        served = gone_served start s.moments sending.inputs still rest w owed at (gone_says w.stream sending.inputs gone) s.served;
       }
 
-  pub word_kept : (recv : State) (wire : WireView S) (heard : List RecvEvent) (still more items rest : List Waiting) (w : Waiting) (owed : List Request) (at : Standing)
+  pub word_kept : (recv : State) (sending : Progress) (heard : List RecvEvent) (still more items rest : List Waiting) (w : Waiting) (owed : List Request) (at : Standing)
       → items ≡ w ∷ rest → more ≡ still ++ w ∷ []
-      → Stands seen start output octets (place_of recv wire heard (still ++ items) owed at)
-      → Stands seen start output octets (place_of recv wire heard (more ++ rest) owed at)
-  word_kept recv wire heard still more items rest w owed at first grown stands =
-      let s = split_first recv wire heard still items rest w owed at first stands in
-      subst (λ (ws : List Waiting). Stands seen start output octets (place_of recv wire heard ws owed at))
+      → Stands start output octets (place_of recv sending heard (still ++ items) owed at)
+      → Stands start output octets (place_of recv sending heard (more ++ rest) owed at)
+  word_kept recv sending heard still more items rest w owed at first grown stands =
+      let s = split_first recv sending heard still items rest w owed at first stands in
+      subst (λ (ws : List Waiting). Stands start output octets (place_of recv sending heard ws owed at))
       (sym (ap (λ (m : List Waiting). m ++ rest) grown ∙ append_assoc still (w ∷ []) rest)) s
 
   -- ---- exits
 
   -- memory is wanting: what was served so far stands
-  pub starved : (recv : State) (old new : WireView S) (heard : List RecvEvent) (waiting : List Waiting) (owed : List Request) (at : Standing)
-      → seen new.sink ≡ seen old.sink
-      → Stands seen start output octets (place_of recv old heard waiting owed at)
-      → HasEnded seen hows.NoMemory start octets output new at.port at.readings
-  starved recv old new heard waiting owed at same stands = record {
+  pub starved : (recv : State) (found new : Progress) (heard : List RecvEvent) (waiting : List Waiting) (owed : List Request) (at : Standing)
+      → (new ≡ found) ⊎ Starves found new
+      → Stands start output octets (place_of recv found heard waiting owed at)
+      → HasEnded hows.NoMemory start octets output new at.port at.readings
+  starved recv found new heard waiting owed at either stands = record {
     moments = stands.moments;
-    inputs = old.inputs;
+    inputs = found.inputs;
     waiting = waiting;
     owed = owed;
     calls = at.calls;
@@ -194,65 +199,56 @@ module _ {S : Type 0} (seen : S → Output) (start : Start) (output : Output) (o
     served = stands.served;
     settled = tt;
     accepted = stands.writing.accepted;
-    wrote = subst (λ (o : Output). Wrote (octets_of (frames_of old.inputs)) output o) (sym same) stands.writing.wrote;
-    closing = tt;
-  }
+    left = left_so found new either stands.writing;
+  } where
+    left_so : (found new : Progress) → (new ≡ found) ⊎ Starves found new → IsWriting output found → HasStarved found.inputs output new
+    left_so found new (inl same) writing =
+        subst (λ (p : Progress). HasStarved found.inputs output p) (sym same) (inl (record { condition_is = writing.is_open; inputs_are = refl }), writing.wrote)
+    left_so found new (inr starves) writing =
+        (inr starves.1, subst (λ (o : Output). Wrote (octets_of (frames_of found.inputs)) output o) (sym starves.0) writing.wrote)
 
-  word_breaks : (recv : State) (old new : WireView S) (heard : List RecvEvent) (still rest : List Waiting) (w : Waiting) (owed : List Request) (at : Standing)
-      → readiness old.condition w.stream old.line ≡ Free → AreBehind old.inputs still → AreAccepted first_line new.inputs → Says seen (Speech w.stream w.said) took.WriteFault old new
-      → Stands seen start output octets (place_of recv old heard (still ++ w ∷ rest) owed at)
-      → HasEnded seen hows.WriteFault start octets output new at.port at.readings
-  word_breaks recv old new heard still rest w owed at free behind accepted says stands =
-      let is_free = ready_by seen w.stream old old.inputs Free stands.writing.is_open free in
+  word_breaks : (recv : State) (found new : Progress) (heard : List RecvEvent) (still rest : List Waiting) (w : Waiting) (owed : List Request) (at : Standing)
+      → AreBehind found.inputs still → Speaks w.stream w.said (Err faults.WriteFault) found new
+      → Stands start output octets (place_of recv found heard (still ++ w ∷ rest) owed at)
+      → HasEnded hows.WriteFault start octets output new at.port at.readings
+  word_breaks recv found new heard still rest w owed at behind speaks stands =
+      let free = is_free w.stream w.said (line_of found) speaks.0 in
       let frames = frames_after (is_last w.said) w.stream octets stands.moments stands.reader stands.frames in
       record {
         moments = stands.moments ++ ends_with w.stream w.said;
-        inputs = old.inputs ++ Speech w.stream w.said ∷ [];
+        inputs = found.inputs ++ Speech w.stream w.said ∷ [];
         waiting = still ++ rest;
         owed = owed;
         calls = at.calls;
         round = at.round;
         partly = wholly_read octets (stands.moments ++ ends_with w.stream w.said) (reader_after (is_last w.said) w.stream stands.reader) frames;
         made = wholly_read octets (stands.moments ++ ends_with w.stream w.said) (reader_after (is_last w.said) w.stream stands.reader) frames;
-        served = speech_served start stands.moments old.inputs still rest w owed at (none_waits_there w.stream old.inputs still is_free behind) (free_says w.stream old.inputs is_free) stands.served;
+        served = speech_served start stands.moments found.inputs still rest w owed at (none_waits_there w.stream found.inputs still free behind) (free_says w.stream found.inputs free) stands.served;
         settled = tt;
-        accepted = subst (λ (is : List Input). AreAccepted first_line is) says.1 accepted;
-        wrote = breaks_off seen octets (stands.moments ++ ends_with w.stream w.said) output old new (Speech w.stream w.said) stands.writing says.0;
-        closing = tt;
+        accepted = accepted_more first_line found.inputs (Speech w.stream w.said) stands.writing.accepted speaks.0;
+        left = (speaks.1.2, breaks_off octets (stands.moments ++ ends_with w.stream w.said) output found new (Speech w.stream w.said) stands.writing speaks.1.0);
       }
 
-  pub word_fails : (fault : WireFaultOut) (recv : State) (old new : WireView S) (heard : List RecvEvent) (still items rest : List Waiting) (w : Waiting) (owed : List Request) (at : Standing)
-      → items ≡ w ∷ rest → readiness old.condition w.stream old.line ≡ Free → AreBehind old.inputs still → Speaks seen w.stream w.said (Err fault) old new
-      → Stands seen start output octets (place_of recv old heard (still ++ items) owed at)
-      → HasEnded seen (how_of fault) start octets output new at.port at.readings
-  word_fails faults.WriteFault recv old new heard still items rest w owed at first free behind speaks stands =
-      word_breaks recv old new heard still rest w owed at free behind speaks.0 speaks.1 (split_first recv old heard still items rest w owed at first stands)
-  word_fails faults.NoMemory recv old new heard still items rest w owed at first free behind speaks stands =
-      starved recv old new heard (still ++ items) owed at speaks stands
-  word_fails faults.Overflow recv old new heard still items rest w owed at first free behind speaks stands = absurd speaks
-
--- ---- as it is said
-
-module _ {S : Type 0} (seen : S → Output) where
-  pub said_as : (stream : ℕ) (said other : Said) (answer : Took) (result : Result (Unit {0}) WireFaultOut) (old new : WireView S) → said ≡ other → result ≡ done_of answer
-      → Speaks seen stream other (done_of answer) old new → Speaks seen stream said result old new
-  said_as stream said other answer result old new same is speaks =
-      subst (λ (r : Result (Unit {0}) WireFaultOut). Speaks seen stream said r old new) (sym is)
-      (subst (λ (s : Said). Speaks seen stream s (done_of answer) old new) (sym same) speaks)
+  pub word_fails : (fault : WireFaultOut) (recv : State) (found new : Progress) (heard : List RecvEvent) (still items rest : List Waiting) (w : Waiting) (owed : List Request) (at : Standing)
+      → items ≡ w ∷ rest → AreBehind found.inputs still → Speaks w.stream w.said (Err fault) found new
+      → Stands start output octets (place_of recv found heard (still ++ items) owed at)
+      → HasEnded (how_of fault) start octets output new at.port at.readings
+  word_fails faults.WriteFault recv found new heard still items rest w owed at first behind speaks stands =
+      word_breaks recv found new heard still rest w owed at behind speaks (split_first recv found heard still items rest w owed at first stands)
+  word_fails faults.NoMemory recv found new heard still items rest w owed at first behind speaks stands =
+      starved recv found new heard (still ++ items) owed at speaks stands
+  word_fails faults.Overflow recv found new heard still items rest w owed at first behind speaks stands = absurd speaks
 
 -- ---- what waits is behind octets that wait
 
-module _ {S : Type 0} (seen : S → Output) where
-  pub behind_taken : (output : Output) (old new : WireView S) (still : List Waiting) (w : Waiting) → IsWriting seen output old → readiness old.condition w.stream old.line ≡ Free → Says seen (Speech w.stream w.said) took.Taken old new
-      → AreBehind old.inputs still → AreBehind new.inputs still
-  behind_taken output old new still w writing free says behind =
-      subst (λ (is : List Input). AreBehind is still) (sym (ap (λ (v : WireView S). v.inputs) says.1))
-      (still_behind w.stream w.said old.inputs still (ready_by seen w.stream old old.inputs Free writing.is_open free) behind)
+pub behind_taken : (found new : Progress) (still : List Waiting) (w : Waiting) → Speaks w.stream w.said (Ok tt) found new → AreBehind found.inputs still → AreBehind new.inputs still
+behind_taken found new still w speaks behind =
+    subst (λ (is : List Input). AreBehind is still) (sym speaks.1.1)
+    (still_behind w.stream w.said found.inputs still (is_free w.stream w.said (line_of found) speaks.0) behind)
 
-  pub behind_kept : (output : Output) (wire : WireView S) (still more : List Waiting) (w : Waiting) → more ≡ still ++ w ∷ [] → IsWriting seen output wire → readiness wire.condition w.stream wire.line ≡ Busy
-      → AreBehind wire.inputs still → AreBehind wire.inputs more
-  behind_kept output wire still more w grown writing busy behind =
-      subst (λ (ws : List Waiting). AreBehind wire.inputs ws) (sym grown) (behind_more wire.inputs still w behind (ready_by seen w.stream wire wire.inputs Busy writing.is_open busy))
+pub behind_kept : (sending : Progress) (still more : List Waiting) (w : Waiting) → more ≡ still ++ w ∷ [] → ready_on w.stream (line_of sending).streams ≡ Busy → AreBehind sending.inputs still → AreBehind sending.inputs more
+behind_kept sending still more w grown busy behind =
+    subst (λ (ws : List Waiting). AreBehind sending.inputs ws) (sym grown) (behind_more sending.inputs still w behind busy)
 
-  pub writing_taken : (output : Output) (old new : WireView S) (w : Waiting) → IsWriting seen output old → AreAccepted first_line new.inputs → Says seen (Speech w.stream w.said) took.Taken old new → IsWriting seen output new
-  writing_taken output old new w writing accepted says = writes_on seen output old new (Speech w.stream w.said) accepted writing says.0 says.1
+pub writing_taken : (output : Output) (found new : Progress) (w : Waiting) → IsWriting output found → Speaks w.stream w.said (Ok tt) found new → IsWriting output new
+writing_taken output found new w writing speaks = writes_on output found new (Speech w.stream w.said) writing speaks.0 speaks.1

@@ -1,4 +1,6 @@
 pub mod Deeds
+pub mod FeederRuns
+pub mod Feeding
 pub mod Reading
 pub mod Rounds
 pub mod Runs

@@ -1,2 +1,3 @@
+pub mod FeederLaws
 pub mod RunLaws
 pub mod StreamLaws

@@ -1,6 +1,7 @@
 //! Laws of the definitions, which hold for every caller.
 ghost use Rattle.session_core.specs.laws.RunLaws.{TurnsAreTaken, TurnsFollow, TurnsFollowAlone, HistoriesAreAllowed, OwnEntriesStand, EarlierEntriesStand, FindsAreKept, FaultsAreMarked, StreamsAreAnswered, DataAreAFront, OnceCallsSayStates};
 ghost use Rattle.session_core.specs.laws.StreamLaws.{StreamCallsSayRuns};
+ghost use Rattle.session_core.specs.laws.FeederLaws.{AloneIsApart, AnswersAtOwnPort, ApartIsAlone, EarlierEntriesStandApart, HistoriesAreAllowedApart, OthersRest, OthersServe, OwnEntriesStandApart, TurnsAreTakenApart, TurnsAtOwnPort, TurnsFollowApart};
 
 /// The answers of a connection are those of one history.
 pub fn answers_are_of_one_history()
@@ -36,4 +37,32 @@ pub fn once_calls_say_states()
 /// What the turns of a Subscribe call of mode STREAM say is a run of its stream, at states of that history that don't fall.
 pub fn stream_calls_say_runs()
     ensures { StreamCallsSayRuns }
+{}
+
+/// What holds of a port without what it knows of other ports of its book.
+pub fn own_ports_stand_alone()
+    ensures answers { AnswersAtOwnPort }
+    ensures turns { TurnsAtOwnPort }
+{}
+
+/// Without feeders a connection that is served beside them is one that is served alone.
+pub fn alone_without_feeders()
+    ensures apart { AloneIsApart }
+    ensures alone { ApartIsAlone }
+{}
+
+/// Beside feeders too the answers of a connection are those of one history, which has the entries of its own turns, each once, in
+/// order, and so has the one that a later turn finds.
+pub fn answers_beside_feeders_are_of_one_history()
+    ensures taken { TurnsAreTakenApart }
+    ensures follow { TurnsFollowApart }
+    ensures allowed { HistoriesAreAllowedApart }
+    ensures last { OwnEntriesStandApart }
+    ensures earlier { EarlierEntriesStandApart }
+{}
+
+/// What feeders say between two steps of a session takes nothing from what was done before.
+pub fn what_feeders_say_stands_apart()
+    ensures serves { OthersServe }
+    ensures rests { OthersRest }
 {}

@@ -12,6 +12,7 @@ mod later;
 mod laws;
 mod reply;
 mod saying;
+mod sending;
 mod served;
 mod session;
 mod turns;
@@ -19,8 +20,9 @@ mod waiting;
 
 pub use how::How;
 pub use laws::{
-    answers_are_of_one_history, once_calls_say_states, own_entries_stand, stream_calls_say_runs,
-    streams_are_answered, turns_are_kept,
+    alone_without_feeders, answers_are_of_one_history, answers_beside_feeders_are_of_one_history,
+    once_calls_say_states, own_entries_stand, own_ports_stand_alone, stream_calls_say_runs,
+    streams_are_answered, turns_are_kept, what_feeders_say_stands_apart,
 };
 pub use served::{Served, ServedCalls};
 pub use session::{SessionEnd, serve_alone};

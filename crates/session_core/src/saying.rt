@@ -1,24 +1,24 @@
 //! What waits is said, as far as the streams are free.
-ghost use Rattle.std.specs.Prelude.{◌≡◌, ◌++◌, ℕ, List, MatchResult, IfOk, IfErr, OnOk};
+ghost use Rattle.std.specs.Prelude.{◌≡◌, ◌++◌, ℕ, List, [], MatchResult, IfOk, IfErr, OnOk};
 ghost use Rattle.edge_traits.specs.Output.{Output};
 ghost use Rattle.h2_events.specs.declared.event.RecvEvent.{RecvEvent as Heard};
 ghost use Rattle.h2_events.specs.Items.{is_last};
-ghost use Rattle.h2_send.specs.Conditions.{readiness};
 ghost use Rattle.session_calls.specs.declared.request.Request.{Request as Asking};
 ghost use Rattle.session_core.specs.declared.waiting.Waiting.{Waiting as Unsaid};
 ghost use Rattle.session_core.specs.Serving.{Start, Standing};
 ghost use Rattle.session_core.specs.Saying.{AreBehind};
 ghost use Rattle.session_core.specs.inner.Ends.{IsOwn};
 ghost use Rattle.session_core.specs.inner.Places.{HasEnded, IsWriting, Stands, place_of};
+ghost use Rattle.session_core.specs.inner.Sending.{DoesWhereOpen, HasGrown, TellsFault};
 ghost use Rattle.session_core.specs.inner.Steps.{Speaks, done_of, told_of};
 
 use crate::how::{How, how_of};
+use crate::sending::Sending;
 use crate::waiting::{Waiting, Waitings};
 use base_lists::NoMemory;
-use edge_traits::Sink;
 use h2_events::{Piece, Ready, Said, Took};
 use h2_recv::Recv;
-use h2_send::{Wire, WireFaultOut};
+use h2_send::WireFaultOut;
 use std::alloc::Global;
 
 /// The most octets of a message that the sending half takes.
@@ -36,16 +36,18 @@ fn of_took(took: Took) -> Result<(), WireFaultOut>
     }
 }
 
-/// Says something on a stream that is free. There is no memory for a message that is longer than the sending half takes,
-/// and none for a status that isn't one.
-fn speak<O: Sink>(
+/// Says something on a stream. There is no memory for a message that is longer than the sending half takes, for a status that isn't
+/// one, nor for what isn't taken.
+fn speak<W: Sending>(
     alloc: Global,
-    wire: &mut Wire<O>,
+    wire: &mut W,
     stream: u32,
     said: Said,
 ) -> Result<(), WireFaultOut>
-    requires { readiness wire.old.condition stream wire.old.line ≡ Ready.Free }
-    ensures { Speaks O.seen stream said result wire.old wire.new }
+    ensures speaks { DoesWhereOpen (W.others wire.old) (W.others wire.new)
+        (W.progress wire.old) (W.progress wire.new)
+        (Speaks stream said result) (TellsFault (W.progress wire.old) result) }
+    ensures grown { HasGrown (W.others wire.old) (W.others wire.new) }
 {
     match said {
         Said::Message(octets) => {
@@ -74,15 +76,17 @@ fn ends(said: &Said) -> bool
     }
 }
 
-/// Says something on a stream that is free, and tells the receiver where this ends the stream.
-fn say<O: Sink>(
+/// Says something on a stream, and tells the receiver where this ends the stream.
+fn say<W: Sending>(
     alloc: Global,
     recv: &mut Recv,
-    wire: &mut Wire<O>,
+    wire: &mut W,
     waiting: Waiting,
 ) -> Result<(), WireFaultOut>
-    requires { readiness wire.old.condition waiting.stream wire.old.line ≡ Ready.Free }
-    ensures speaks { Speaks O.seen waiting.stream waiting.said result wire.old wire.new }
+    ensures speaks { DoesWhereOpen (W.others wire.old) (W.others wire.new)
+        (W.progress wire.old) (W.progress wire.new)
+        (Speaks waiting.stream waiting.said result) (TellsFault (W.progress wire.old) result) }
+    ensures grown { HasGrown (W.others wire.old) (W.others wire.new) }
     ensures told { OnOk result (recv.new ≡ told_of waiting.stream waiting.said recv.old) }
 {
     let Waiting { stream, said } = waiting;
@@ -99,38 +103,43 @@ fn say<O: Sink>(
 }
 
 /// Says of what waits what is on streams that are free. The rest still waits, behind what waits for the peer already.
-pub(crate) fn say_all<O: Sink>(
+pub(crate) fn say_all<W: Sending>(
     alloc: Global,
     recv: &mut Recv,
-    wire: &mut Wire<O>,
+    wire: &mut W,
     behind: Waitings,
     waiting: Waitings,
 ) -> Result<Waitings, How>
     ensures says { (start : Start) (output : Output) (octets : List ℕ) (heard : List Heard)
-        (owed : List Asking) (at : Standing)
-        → AreBehind wire.old.inputs behind
-        → Stands O.seen start output octets
-        (place_of recv.old wire.old heard (behind ++ waiting) owed at)
+        (owed : List Asking) (at : Standing) → W.others wire.new ≡ []
+        → AreBehind (W.progress wire.old).inputs behind
+        → Stands start output octets
+        (place_of recv.old (W.progress wire.old) heard (behind ++ waiting) owed at)
         → MatchResult result
-        (λ rest. Stands O.seen start output octets (place_of recv.new wire.new heard rest owed at))
-        (λ how. HasEnded O.seen how start octets output wire.new at.port at.readings) }
-    ensures behind { (output : Output) → IsWriting O.seen output wire.old
-        → AreBehind wire.old.inputs behind
-        → IfOk result (λ rest. AreBehind wire.new.inputs rest) }
-    ensures keeps { (output : Output) (others : List Unsaid) → IsWriting O.seen output wire.old
-        → AreBehind wire.old.inputs others
-        → IfOk result (λ _. AreBehind wire.new.inputs others) }
+        (λ rest. Stands start output octets
+        (place_of recv.new (W.progress wire.new) heard rest owed at))
+        (λ how. HasEnded how start octets output (W.progress wire.new) at.port at.readings) }
+    ensures behind { (output : Output) → W.others wire.new ≡ []
+        → IsWriting output (W.progress wire.old)
+        → AreBehind (W.progress wire.old).inputs behind
+        → IfOk result (λ rest. AreBehind (W.progress wire.new).inputs rest) }
+    ensures keeps { (output : Output) (others : List Unsaid) → W.others wire.new ≡ []
+        → IsWriting output (W.progress wire.old)
+        → AreBehind (W.progress wire.old).inputs others
+        → IfOk result (λ _. AreBehind (W.progress wire.new).inputs others) }
     ensures own { IfErr result (λ how. IsOwn how) }
+    ensures grown { HasGrown (W.others wire.old) (W.others wire.new) }
 {
     let mut still = behind;
     for w in waiting.into_vec() {
         match wire.readiness(w.stream) {
-            Ready::Gone => {}
-            Ready::Busy => match still.push(w) {
+            Err(fault) => return Err(how_of(fault)),
+            Ok(Ready::Gone) => {}
+            Ok(Ready::Busy) => match still.push(w) {
                 Ok(()) => {}
                 Err(NoMemory) => return Err(How::NoMemory),
             },
-            Ready::Free => match say(alloc, recv, wire, w) {
+            Ok(Ready::Free) => match say(alloc, recv, wire, w) {
                 Ok(()) => {}
                 Err(fault) => return Err(how_of(fault)),
             },

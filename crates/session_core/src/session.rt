@@ -13,14 +13,16 @@ ghost use Rattle.session_core.specs.Runs.{Outside, SessionRun, outside_of, start
 ghost use Rattle.session_core.specs.Deeds.{Deed};
 ghost use Rattle.session_core.specs.Rounds.{turns_on};
 ghost use Rattle.session_core.specs.Serving.{standing_of};
-ghost use Rattle.session_core.specs.inner.Ends.{IsOwn};
-ghost use Rattle.session_core.specs.inner.Places.{HasCome, HasEnded, HasRested, HasStopped, IsNew, IsServedAt, IsServedPartly, IsServing, Stands, place_of};
+ghost use Rattle.session_core.specs.inner.Ends.{IsOwn, code_of};
+ghost use Rattle.session_core.specs.inner.Places.{HasCome, HasEnded, HasRested, HasStopped, IsServedAt, IsServedPartly, IsServing, Stands, place_of};
+ghost use Rattle.session_core.specs.inner.Sending.{HasGrown};
 
 use crate::answering::{answer_of, put_reply};
 use crate::how::{How, how_of};
 use crate::incoming::{Incoming, Next};
 use crate::reply::Answered;
 use crate::saying::say_all;
+use crate::sending::Sending;
 use crate::served::ServedCalls;
 use crate::turns::{Kept, take_turns};
 use crate::waiting::Waitings;
@@ -29,7 +31,7 @@ use book_port::BookPort;
 use edge_traits::{Sink, Source};
 use h2_events::RecvEvent;
 use h2_recv::Recv;
-use h2_send::Wire;
+use h2_send::{Condition, Wire};
 use rpc_desk::Desk;
 use session_calls::{CallTable, Request, Requests};
 use std::alloc::Global;
@@ -144,10 +146,10 @@ fn hear<P: BookPort, C: Clock>(
 }
 
 /// All is said that can be, and then the calls take their turns.
-fn say_and_turn<O: Sink, P: BookPort, C: Clock>(
+fn say_and_turn<W: Sending, P: BookPort, C: Clock>(
     alloc: Global,
     recv: &mut Recv,
-    wire: &mut Wire<O>,
+    wire: &mut W,
     desk: &Desk,
     calls: &mut Calls<P, C>,
     kept: Kept,
@@ -155,17 +157,19 @@ fn say_and_turn<O: Sink, P: BookPort, C: Clock>(
     ensures opened { (P.port calls.new.book).opened ≡ (P.port calls.old.book).opened }
     ensures table { calls.new.table ≡ calls.old.table }
     ensures rests { (before : Outside) (octets : List ℕ) (heard : List Heard) (round : List Deed)
-        → ((stream : ℕ) → turns_on stream round ≡ 0)
-        → Stands O.seen (start_of desk.now before) before.output octets
-        (place_of recv.old wire.old heard kept.waiting []
+        → W.others wire.new ≡ [] → ((stream : ℕ) → turns_on stream round ≡ 0)
+        → Stands (start_of desk.now before) before.output octets
+        (place_of recv.old (W.progress wire.old) heard kept.waiting []
         (standing_of (P.port calls.old.book) kept.calls (C.readings calls.old.clock) round))
         → MatchResult result
-        (λ kept. HasRested O.seen (start_of desk.now before) before.output octets
-        recv.new wire.new heard kept.waiting
+        (λ kept. HasRested (start_of desk.now before) before.output octets
+        recv.new (W.progress wire.new) heard kept.waiting
         (P.port calls.new.book) kept.calls (C.readings calls.new.clock))
-        (λ how. HasEnded O.seen how (start_of desk.now before) octets before.output wire.new
+        (λ how. HasEnded how (start_of desk.now before) octets before.output
+        (W.progress wire.new)
         (P.port calls.new.book) (C.readings calls.new.clock)) }
     ensures own { IfErr result (λ how. IsOwn how) }
+    ensures grown { HasGrown (W.others wire.old) (W.others wire.new) }
 {
     let Kept {
         waiting,
@@ -189,10 +193,10 @@ fn say_and_turn<O: Sink, P: BookPort, C: Clock>(
 
 /// Serves an event: it is acted on, what is asked with it is answered, all is said that can be, and the calls that are served take
 /// their turns.
-fn serve_event<O: Sink, P: BookPort, C: Clock>(
+fn serve_event<W: Sending, P: BookPort, C: Clock>(
     alloc: Global,
     recv: &mut Recv,
-    wire: &mut Wire<O>,
+    wire: &mut W,
     desk: &Desk,
     calls: &mut Calls<P, C>,
     kept: Kept,
@@ -201,16 +205,19 @@ fn serve_event<O: Sink, P: BookPort, C: Clock>(
     requires { (P.port calls.old.book).opened.schema ≡ desk.now }
     ensures opened { (P.port calls.new.book).opened ≡ (P.port calls.old.book).opened }
     ensures serves { (before : Outside) (octets : List ℕ) (round : List Deed)
-        → HasCome O.seen (start_of desk.now before) before.output octets event.now
-        (place_of recv.old wire.old calls.old.table kept.waiting []
+        → W.others wire.new ≡ []
+        → HasCome (start_of desk.now before) before.output octets event.now
+        (place_of recv.old (W.progress wire.old) calls.old.table kept.waiting []
         (standing_of (P.port calls.old.book) kept.calls (C.readings calls.old.clock) round))
         → MatchResult result
-        (λ kept. HasRested O.seen (start_of desk.now before) before.output octets
-        recv.new wire.new calls.new.table kept.waiting
+        (λ kept. HasRested (start_of desk.now before) before.output octets
+        recv.new (W.progress wire.new) calls.new.table kept.waiting
         (P.port calls.new.book) kept.calls (C.readings calls.new.clock))
-        (λ how. HasEnded O.seen how (start_of desk.now before) octets before.output wire.new
+        (λ how. HasEnded how (start_of desk.now before) octets before.output
+        (W.progress wire.new)
         (P.port calls.new.book) (C.readings calls.new.clock)) }
     ensures own { IfErr result (λ how. IsOwn how) }
+    ensures grown { HasGrown (W.others wire.old) (W.others wire.new) }
 {
     match wire.act(alloc, event) {
         Ok(()) => {}
@@ -223,20 +230,22 @@ fn serve_event<O: Sink, P: BookPort, C: Clock>(
 }
 
 /// Serves frame by frame, to the end.
-fn serve_frames<I: Source, O: Sink, P: BookPort, C: Clock>(
+fn serve_frames<I: Source, W: Sending, P: BookPort, C: Clock>(
     alloc: Global,
     incoming: &mut Incoming<I>,
-    wire: &mut Wire<O>,
+    wire: &mut W,
     desk: &Desk,
     calls: &mut Calls<P, C>,
 ) -> How
     requires { (P.port calls.old.book).opened.schema ≡ desk.now }
-    ensures { (before : Outside)
-        → IsServing O.seen desk.now before (I.seen incoming.old.source) incoming.old.count
-        (place_of incoming.old.recv wire.old calls.old.table [] []
+    ensures serves { (before : Outside) → W.others wire.new ≡ []
+        → IsServing desk.now before (I.seen incoming.old.source) incoming.old.count
+        (place_of incoming.old.recv (W.progress wire.old) calls.old.table [] []
         (standing_of (P.port calls.old.book) [] (C.readings calls.old.clock) []))
-        → HasStopped O.seen result desk.now before (I.seen incoming.new.source) wire.new
+        → HasStopped result desk.now before (I.seen incoming.new.source)
+        (W.progress wire.new)
         (P.port calls.new.book) (C.readings calls.new.clock) }
+    ensures grown { HasGrown (W.others wire.old) (W.others wire.new) }
 {
     let mut kept = Kept {
         waiting: Waitings::empty(alloc),
@@ -256,23 +265,53 @@ fn serve_frames<I: Source, O: Sink, P: BookPort, C: Clock>(
     }
 }
 
-/// Ends the sending half, with a GOAWAY for a connection error of the peer.
-fn finish<O: Sink>(wire: &mut Wire<O>, how: How) -> How
-    ensures { (schema : List SchemaNode) (before : Outside) (source : SourceSeen) (port : PortView)
-        (readings : List ℕ)
-        → HasStopped O.seen how schema before source wire.old port readings
-        → SessionRun schema before result (outside_of source (O.seen wire.new.sink) port readings) }
+/// The code that a connection ends with: that of an error of the peer, and else none.
+fn code_of(how: How) -> u32
+    ensures { result ≡ code_of how }
 {
     match how {
-        How::Protocol(code) => match wire.finish(code) {
-            Ok(()) => How::Protocol(code),
-            Err(fault) => how_of(fault),
-        },
-        other => other,
+        How::Protocol(code) => code,
+        _ => 0,
     }
 }
 
-/// Greets, serves to the end, and ends the sending half.
+/// Ends the sending half, with a GOAWAY for a connection error of the peer.
+fn finish<W: Sending>(wire: &mut W, how: How) -> How
+    ensures ends { (schema : List SchemaNode) (before : Outside) (source : SourceSeen)
+        (port : PortView) (readings : List ℕ) → W.others wire.new ≡ []
+        → HasStopped how schema before source (W.progress wire.old) port readings
+        → SessionRun schema before result
+        (outside_of source (W.progress wire.new).output port readings) }
+    ensures grown { HasGrown (W.others wire.old) (W.others wire.new) }
+{
+    match wire.close(code_of(how)) {
+        Ok(()) => how,
+        Err(fault) => how_of(fault),
+    }
+}
+
+/// Serves to the end, and ends the sending half.
+fn serve_to_end<I: Source, W: Sending, P: BookPort, C: Clock>(
+    alloc: Global,
+    incoming: &mut Incoming<I>,
+    wire: &mut W,
+    desk: &Desk,
+    calls: &mut Calls<P, C>,
+) -> How
+    requires { (P.port calls.old.book).opened.schema ≡ desk.now }
+    ensures { (before : Outside) → W.others wire.new ≡ []
+        → IsServing desk.now before (I.seen incoming.old.source) incoming.old.count
+        (place_of incoming.old.recv (W.progress wire.old) calls.old.table [] []
+        (standing_of (P.port calls.old.book) [] (C.readings calls.old.clock) []))
+        → SessionRun desk.now before result
+        (outside_of (I.seen incoming.new.source) (W.progress wire.new).output
+        (P.port calls.new.book) (C.readings calls.new.clock)) }
+{
+    let how = serve_frames(alloc, incoming, wire, desk, calls);
+    finish(wire, how)
+}
+
+/// Greets, and serves to the end over a wire of the session's own.
 fn serve<I: Source, O: Sink, P: BookPort, C: Clock>(
     alloc: Global,
     incoming: &mut Incoming<I>,
@@ -281,8 +320,8 @@ fn serve<I: Source, O: Sink, P: BookPort, C: Clock>(
     calls: &mut Calls<P, C>,
 ) -> How
     requires { (P.port calls.old.book).opened.schema ≡ desk.now }
-    ensures { incoming.old.recv ≡ Ok new_reader → incoming.old.count ≡ 0 → IsNew wire.old
-        → calls.old.table ≡ []
+    ensures { incoming.old.recv ≡ Ok new_reader → incoming.old.count ≡ 0
+        → wire.old.condition ≡ Condition.New → wire.old.inputs ≡ [] → calls.old.table ≡ []
         → SessionRun desk.now
         (outside_of (I.seen incoming.old.source) (O.seen wire.old.sink)
         (P.port calls.old.book) (C.readings calls.old.clock))
@@ -291,11 +330,9 @@ fn serve<I: Source, O: Sink, P: BookPort, C: Clock>(
         (P.port calls.new.book) (C.readings calls.new.clock)) }
 {
     match wire.greet() {
-        Ok(()) => {}
-        Err(fault) => return how_of(fault),
+        Ok(()) => serve_to_end(alloc, incoming, wire, desk, calls),
+        Err(fault) => how_of(fault),
     }
-    let how = serve_frames(alloc, incoming, wire, desk, calls);
-    finish(wire, how)
 }
 
 /// Serves a connection to its end, and hands back what it was handed.

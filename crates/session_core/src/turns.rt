@@ -12,22 +12,22 @@ ghost use Rattle.session_core.specs.inner.Words.{words};
 ghost use Rattle.session_core.specs.Runs.{Outside, start_of};
 ghost use Rattle.session_core.specs.inner.Ends.{IsOwn};
 ghost use Rattle.session_core.specs.inner.Places.{HasEnded, IsTurning, IsWriting, Stands, place_of};
+ghost use Rattle.session_core.specs.inner.Sending.{HasGrown};
 ghost use Rattle.session_core.specs.inner.Steps.{IsTurned, list_of, said_in};
 
 use crate::answering::put_reply;
-use crate::how::How;
+use crate::how::{How, how_of};
 use crate::later::Step;
 use crate::reply::Reply;
 use crate::saying::say_all;
+use crate::sending::Sending;
 use crate::served::{Served, ServedCalls};
 use crate::waiting::Waitings;
 use base_kinds::{ListMode, Refusal};
 use base_lists::NoMemory;
 use book_port::BookPort;
-use edge_traits::Sink;
 use h2_events::Ready;
 use h2_recv::Recv;
-use h2_send::Wire;
 use rpc_desk::Desk;
 use std::alloc::Global;
 use time_traits::Clock;
@@ -132,29 +132,34 @@ fn poll_turn<P: BookPort, C: Clock>(
 }
 
 /// Says what a turn says. What can't be said yet waits, behind what waits for the peer already.
-fn say_turn<O: Sink>(
+fn say_turn<W: Sending>(
     alloc: Global,
     recv: &mut Recv,
-    wire: &mut Wire<O>,
+    wire: &mut W,
     waiting: Waitings,
     stream: u32,
     reply: Reply,
 ) -> Result<Waitings, How>
     ensures says { (start : Start) (output : Output) (octets : List ℕ) (heard : List Heard)
-        (owed : List Asking) (at : Standing)
-        → AreBehind wire.old.inputs waiting
-        → Stands O.seen start output octets
-        (place_of recv.old wire.old heard (waiting ++ words stream (said_in reply)) owed at)
+        (owed : List Asking) (at : Standing) → W.others wire.new ≡ []
+        → AreBehind (W.progress wire.old).inputs waiting
+        → Stands start output octets
+        (place_of recv.old (W.progress wire.old) heard
+        (waiting ++ words stream (said_in reply)) owed at)
         → MatchResult result
-        (λ rest. Stands O.seen start output octets (place_of recv.new wire.new heard rest owed at))
-        (λ how. HasEnded O.seen how start octets output wire.new at.port at.readings) }
-    ensures behind { (output : Output) → IsWriting O.seen output wire.old
-        → AreBehind wire.old.inputs waiting
-        → IfOk result (λ rest. AreBehind wire.new.inputs rest) }
-    ensures keeps { (output : Output) (others : List Unsaid) → IsWriting O.seen output wire.old
-        → AreBehind wire.old.inputs others
-        → IfOk result (λ _. AreBehind wire.new.inputs others) }
+        (λ rest. Stands start output octets
+        (place_of recv.new (W.progress wire.new) heard rest owed at))
+        (λ how. HasEnded how start octets output (W.progress wire.new) at.port at.readings) }
+    ensures behind { (output : Output) → W.others wire.new ≡ []
+        → IsWriting output (W.progress wire.old)
+        → AreBehind (W.progress wire.old).inputs waiting
+        → IfOk result (λ rest. AreBehind (W.progress wire.new).inputs rest) }
+    ensures keeps { (output : Output) (others : List Unsaid) → W.others wire.new ≡ []
+        → IsWriting output (W.progress wire.old)
+        → AreBehind (W.progress wire.old).inputs others
+        → IfOk result (λ _. AreBehind (W.progress wire.new).inputs others) }
     ensures own { IfErr result (λ how. IsOwn how) }
+    ensures grown { HasGrown (W.others wire.old) (W.others wire.new) }
 {
     let mut said = Waitings::empty(alloc);
     match put_reply(&mut said, stream, reply) {
@@ -164,10 +169,10 @@ fn say_turn<O: Sink>(
 }
 
 /// The turn of a call of mode STREAM, where its stream is free. It is served no more where its stream is over.
-fn turn_stream<O: Sink, P: BookPort, C: Clock>(
+fn turn_stream<W: Sending, P: BookPort, C: Clock>(
     alloc: Global,
     recv: &mut Recv,
-    wire: &mut Wire<O>,
+    wire: &mut W,
     desk: &Desk,
     book: &mut P,
     clock: &mut C,
@@ -175,28 +180,30 @@ fn turn_stream<O: Sink, P: BookPort, C: Clock>(
     served: Served,
 ) -> Result<Turned, How>
     ensures turned { (before : Outside) (octets : List ℕ) (heard : List Heard)
-        (done later : List Serving) → served.call.plan.mode ≡ modes.Stream
-        → IsTurning O.seen (start_of desk.now before) before.output octets done (served ∷ later)
-        recv.old wire.old heard waiting (P.port book.old) (C.readings clock.old)
+        (done later : List Serving) → W.others wire.new ≡ [] → served.call.plan.mode ≡ modes.Stream
+        → IsTurning (start_of desk.now before) before.output octets done (served ∷ later)
+        recv.old (W.progress wire.old) heard waiting (P.port book.old) (C.readings clock.old)
         → MatchResult result
-        (λ t. IsTurning O.seen (start_of desk.now before) before.output octets
+        (λ t. IsTurning (start_of desk.now before) before.output octets
         (done ++ list_of t.left) later
-        recv.new wire.new heard t.waiting (P.port book.new) (C.readings clock.new))
-        (λ how. HasEnded O.seen how (start_of desk.now before) octets before.output
-        wire.new (P.port book.new) (C.readings clock.new)) }
+        recv.new (W.progress wire.new) heard t.waiting (P.port book.new) (C.readings clock.new))
+        (λ how. HasEnded how (start_of desk.now before) octets before.output
+        (W.progress wire.new) (P.port book.new) (C.readings clock.new)) }
     ensures opened { (P.port book.new).opened ≡ (P.port book.old).opened }
     ensures own { IfErr result (λ how. IsOwn how) }
+    ensures grown { HasGrown (W.others wire.old) (W.others wire.new) }
 {
     match wire.readiness(served.stream) {
-        Ready::Gone => Ok(Turned {
+        Err(fault) => Err(how_of(fault)),
+        Ok(Ready::Gone) => Ok(Turned {
             waiting,
             left: None,
         }),
-        Ready::Busy => Ok(Turned {
+        Ok(Ready::Busy) => Ok(Turned {
             waiting,
             left: Some(served),
         }),
-        Ready::Free => {
+        Ok(Ready::Free) => {
             let stream = served.stream;
             let Step { reply, left } = stream_turn(alloc, desk, book, clock, served);
             match say_turn(alloc, recv, wire, waiting, stream, reply) {
@@ -209,10 +216,10 @@ fn turn_stream<O: Sink, P: BookPort, C: Clock>(
 
 /// The turns of a call of mode POLL, one for each Poll that waits, as long as its stream is free. It is served no more where its
 /// stream is over.
-fn turn_polls<O: Sink, P: BookPort, C: Clock>(
+fn turn_polls<W: Sending, P: BookPort, C: Clock>(
     alloc: Global,
     recv: &mut Recv,
-    wire: &mut Wire<O>,
+    wire: &mut W,
     desk: &Desk,
     book: &mut P,
     clock: &mut C,
@@ -220,35 +227,37 @@ fn turn_polls<O: Sink, P: BookPort, C: Clock>(
     served: Served,
 ) -> Result<Turned, How>
     ensures turned { (before : Outside) (octets : List ℕ) (heard : List Heard)
-        (done later : List Serving) → served.call.plan.mode ≡ modes.Poll
-        → IsTurning O.seen (start_of desk.now before) before.output octets done (served ∷ later)
-        recv.old wire.old heard waiting (P.port book.old) (C.readings clock.old)
+        (done later : List Serving) → W.others wire.new ≡ [] → served.call.plan.mode ≡ modes.Poll
+        → IsTurning (start_of desk.now before) before.output octets done (served ∷ later)
+        recv.old (W.progress wire.old) heard waiting (P.port book.old) (C.readings clock.old)
         → MatchResult result
-        (λ t. IsTurning O.seen (start_of desk.now before) before.output octets
+        (λ t. IsTurning (start_of desk.now before) before.output octets
         (done ++ list_of t.left) later
-        recv.new wire.new heard t.waiting (P.port book.new) (C.readings clock.new))
-        (λ how. HasEnded O.seen how (start_of desk.now before) octets before.output
-        wire.new (P.port book.new) (C.readings clock.new)) }
+        recv.new (W.progress wire.new) heard t.waiting (P.port book.new) (C.readings clock.new))
+        (λ how. HasEnded how (start_of desk.now before) octets before.output
+        (W.progress wire.new) (P.port book.new) (C.readings clock.new)) }
     ensures opened { (P.port book.new).opened ≡ (P.port book.old).opened }
     ensures own { IfErr result (λ how. IsOwn how) }
+    ensures grown { HasGrown (W.others wire.old) (W.others wire.new) }
 {
     let mut waiting = waiting;
     let mut served = served;
     'polls: loop {
         match wire.readiness(served.stream) {
-            Ready::Gone => {
+            Err(fault) => return Err(how_of(fault)),
+            Ok(Ready::Gone) => {
                 return Ok(Turned {
                     waiting,
                     left: None,
                 });
             }
-            Ready::Busy => {
+            Ok(Ready::Busy) => {
                 return Ok(Turned {
                     waiting,
                     left: Some(served),
                 });
             }
-            Ready::Free => {}
+            Ok(Ready::Free) => {}
         }
         if served.polls == 0 {
             return Ok(Turned {
@@ -275,10 +284,10 @@ fn turn_polls<O: Sink, P: BookPort, C: Clock>(
 }
 
 /// The turns of a call.
-fn turn_call<O: Sink, P: BookPort, C: Clock>(
+fn turn_call<W: Sending, P: BookPort, C: Clock>(
     alloc: Global,
     recv: &mut Recv,
-    wire: &mut Wire<O>,
+    wire: &mut W,
     desk: &Desk,
     book: &mut P,
     clock: &mut C,
@@ -286,17 +295,18 @@ fn turn_call<O: Sink, P: BookPort, C: Clock>(
     served: Served,
 ) -> Result<Turned, How>
     ensures turned { (before : Outside) (octets : List ℕ) (heard : List Heard)
-        (done later : List Serving)
-        → IsTurning O.seen (start_of desk.now before) before.output octets done (served ∷ later)
-        recv.old wire.old heard waiting (P.port book.old) (C.readings clock.old)
+        (done later : List Serving) → W.others wire.new ≡ []
+        → IsTurning (start_of desk.now before) before.output octets done (served ∷ later)
+        recv.old (W.progress wire.old) heard waiting (P.port book.old) (C.readings clock.old)
         → MatchResult result
-        (λ t. IsTurning O.seen (start_of desk.now before) before.output octets
+        (λ t. IsTurning (start_of desk.now before) before.output octets
         (done ++ list_of t.left) later
-        recv.new wire.new heard t.waiting (P.port book.new) (C.readings clock.new))
-        (λ how. HasEnded O.seen how (start_of desk.now before) octets before.output
-        wire.new (P.port book.new) (C.readings clock.new)) }
+        recv.new (W.progress wire.new) heard t.waiting (P.port book.new) (C.readings clock.new))
+        (λ how. HasEnded how (start_of desk.now before) octets before.output
+        (W.progress wire.new) (P.port book.new) (C.readings clock.new)) }
     ensures opened { (P.port book.new).opened ≡ (P.port book.old).opened }
     ensures own { IfErr result (λ how. IsOwn how) }
+    ensures grown { HasGrown (W.others wire.old) (W.others wire.new) }
 {
     match served.call.plan().mode {
         ListMode::Stream => turn_stream(alloc, recv, wire, desk, book, clock, waiting, served),
@@ -313,10 +323,10 @@ fn turn_call<O: Sink, P: BookPort, C: Clock>(
 }
 
 /// Each call that is served takes its turns, in the order in which they began.
-pub(crate) fn take_turns<O: Sink, P: BookPort, C: Clock>(
+pub(crate) fn take_turns<W: Sending, P: BookPort, C: Clock>(
     alloc: Global,
     recv: &mut Recv,
-    wire: &mut Wire<O>,
+    wire: &mut W,
     desk: &Desk,
     book: &mut P,
     clock: &mut C,
@@ -324,15 +334,17 @@ pub(crate) fn take_turns<O: Sink, P: BookPort, C: Clock>(
     calls: ServedCalls,
 ) -> Result<Kept, How>
     ensures turned { (before : Outside) (octets : List ℕ) (heard : List Heard)
-        → IsTurning O.seen (start_of desk.now before) before.output octets [] calls
-        recv.old wire.old heard waiting (P.port book.old) (C.readings clock.old)
+        → W.others wire.new ≡ []
+        → IsTurning (start_of desk.now before) before.output octets [] calls
+        recv.old (W.progress wire.old) heard waiting (P.port book.old) (C.readings clock.old)
         → MatchResult result
-        (λ kept. IsTurning O.seen (start_of desk.now before) before.output octets kept.calls []
-        recv.new wire.new heard kept.waiting (P.port book.new) (C.readings clock.new))
-        (λ how. HasEnded O.seen how (start_of desk.now before) octets before.output
-        wire.new (P.port book.new) (C.readings clock.new)) }
+        (λ kept. IsTurning (start_of desk.now before) before.output octets kept.calls []
+        recv.new (W.progress wire.new) heard kept.waiting (P.port book.new) (C.readings clock.new))
+        (λ how. HasEnded how (start_of desk.now before) octets before.output
+        (W.progress wire.new) (P.port book.new) (C.readings clock.new)) }
     ensures opened { (P.port book.new).opened ≡ (P.port book.old).opened }
     ensures own { IfErr result (λ how. IsOwn how) }
+    ensures grown { HasGrown (W.others wire.old) (W.others wire.new) }
 {
     let mut waiting = waiting;
     let mut still = ServedCalls::empty(alloc);

@@ -1,5 +1,5 @@
 -- Where a session stands between two of its steps, and where it ends.
-use Rattle.std.specs.Prelude.{◌≡◌, ℕ, List, [], ◌∷◌, ◌++◌, length, Some, Ok}
+use Rattle.std.specs.Prelude.{◌≡◌, ◌⊎◌, ℕ, List, [], ◌∷◌, ◌++◌, length, Some, Ok}
 use Rattle.std.specs.List.{AllByRecursion}
 use Rattle.edge_traits.specs.Input.{Input as Source, Read}
 use Rattle.edge_traits.specs.Output.{Output, Wrote}
@@ -13,10 +13,9 @@ use Rattle.h2_recv.specs.declared.reader.Reader.{Reader}
 use Rattle.h2_recv.specs.Receiving.{State, ReadsWithEnds, new_reader}
 use Rattle.h2_send.specs.Accepting.{AreAccepted}
 use Rattle.h2_send.specs.Lines.{first_line}
-use Rattle.h2_send.specs.Outputs.{frames_of}
-use Rattle.h2_send.specs.Orders.{line_after}
+use Rattle.h2_send.specs.Outputs.{frames_of, frames_until}
+use Rattle.h2_send.specs.Port.{Progress}
 use Rattle.h2_send.specs.Inputs.{Input}
-use Rattle.h2_send.specs.Wires.{WireView}
 use Rattle.h2_send.specs.declared.condition.Condition.TheVariants as condition
 use Rattle.session_calls.specs.declared.request.Request.{Request}
 use Rattle.book_port.specs.Ports.{PortView}
@@ -41,37 +40,25 @@ course_of moments inputs waiting owed standing = record {
   standing = standing;
 }
 
--- the sending half as it is made
-pub record IsNew {S : Type 0} (wire : WireView S) : Type 0 where
-  pub condition_is : wire.condition ≡ condition.New
-  pub line_is : wire.line ≡ first_line
-  pub none_given : wire.inputs ≡ []
-
--- The sending half is open, and its line is what these inputs make of the first one.
-pub record IsOpen {S : Type 0} (inputs : List Input) (wire : WireView S) : Type 0 where
-  pub condition_is : wire.condition ≡ condition.Open
-  pub line_is : wire.line ≡ line_after first_line inputs
-
--- What its inputs cause has gone out behind the greeting.
-pub record IsWriting {S : Type 0} (seen : S → Output) (output : Output) (wire : WireView S) : Type 0 where
-  pub is_open : IsOpen wire.inputs wire
-  pub accepted : AreAccepted first_line wire.inputs
-  pub wrote : Wrote (octets_of (frames_of wire.inputs)) output (seen wire.sink)
+-- The sending half is open, and what its inputs cause has gone out behind the greeting.
+pub record IsWriting (output : Output) (at : Progress) : Type 0 where
+  pub is_open : at.condition ≡ condition.Open
+  pub accepted : AreAccepted first_line at.inputs
+  pub wrote : Wrote (octets_of (frames_of at.inputs)) output at.output
 
 -- the receiving half, the sending half, the events that the table of calls has heard, and the rest of the course
-pub record Place (S : Type 0) : Type 0 where
+pub record Place : Type 0 where
   pub recv : State
-  pub wire : WireView S
+  pub sending : Progress
   pub heard : List RecvEvent
   pub waiting : List Waiting
   pub owed : List Request
   pub standing : Standing
 
-abbrev pub place_of : {S : Type 0} → State → WireView S → List RecvEvent → List Waiting
-    → List Request → Standing → Place S
-place_of recv wire heard waiting owed standing = record {
+abbrev pub place_of : State → Progress → List RecvEvent → List Waiting → List Request → Standing → Place
+place_of recv sending heard waiting owed standing = record {
   recv = recv;
-  wire = wire;
+  sending = sending;
   heard = heard;
   waiting = waiting;
   owed = owed;
@@ -79,37 +66,37 @@ place_of recv wire heard waiting owed standing = record {
 }
 
 -- These octets were read, and all that they ask is served but for what is owed.
-pub record Stands {S : Type 0} (seen : S → Output) (start : Start) (output : Output) (octets : List ℕ)
-    (place : Place S) : Type 0 where
+pub record Stands (start : Start) (output : Output) (octets : List ℕ)
+    (place : Place) : Type 0 where
   pub moments : List Moment
   pub reader : Reader
   pub recv_is : place.recv ≡ Ok reader
   pub frames : ReadsWithEnds new_reader octets moments reader
-  pub writing : IsWriting seen output place.wire
+  pub writing : IsWriting output place.sending
   pub heard_is : place.heard ≡ events_of moments
   pub served : IsServed start
-      (course_of moments place.wire.inputs place.waiting place.owed place.standing)
+      (course_of moments place.sending.inputs place.waiting place.owed place.standing)
 
 -- Between two frames it is at rest.
-pub record Rests {S : Type 0} (seen : S → Output) (start : Start) (output : Output) (octets : List ℕ)
-    (place : Place S) : Type 0 where
-  pub stands : Stands seen start output octets place
-  pub rest : IsAtRest place.owed place.wire.inputs place.waiting place.standing
+pub record Rests (start : Start) (output : Output) (octets : List ℕ)
+    (place : Place) : Type 0 where
+  pub stands : Stands start output octets place
+  pub rest : IsAtRest place.owed place.sending.inputs place.waiting place.standing
 
 -- A frame was read that means this, and isn't served yet.
-pub record HasCome {S : Type 0} (seen : S → Output) (start : Start) (output : Output) (octets : List ℕ)
-    (event : RecvEvent) (place : Place S) : Type 0 where
+pub record HasCome (start : Start) (output : Output) (octets : List ℕ)
+    (event : RecvEvent) (place : Place) : Type 0 where
   pub moments : List Moment
   pub frame : Frame
   pub reader : Reader
   pub recv_is : place.recv ≡ Ok reader
   pub frames : ReadsWithEnds new_reader octets (moments ++ read frame (Some event) ∷ []) reader
   pub partly : IsReadPartly octets moments
-  pub writing : IsWriting seen output place.wire
+  pub writing : IsWriting output place.sending
   pub heard_is : place.heard ≡ events_of moments
   pub served : IsServed start
-      (course_of moments place.wire.inputs place.waiting [] place.standing)
-  pub rest : IsAtRest [] place.wire.inputs place.waiting place.standing
+      (course_of moments place.sending.inputs place.waiting [] place.standing)
+  pub rest : IsAtRest [] place.sending.inputs place.waiting place.standing
 
 -- ---- steps between two frames
 
@@ -134,40 +121,59 @@ NotYet round served =
     served.call.plan.mode ≡ modes.Stream → turns_on served.stream round ≡ 0
 
 -- Nothing is owed any more, and the calls take their turns: these have had theirs, and those behind them haven't.
-pub record IsTurning {S : Type 0} (seen : S → Output) (start : Start) (output : Output) (octets : List ℕ)
-    (done due : List Served) (recv : State) (wire : WireView S) (heard : List RecvEvent) (waiting : List Waiting)
+pub record IsTurning (start : Start) (output : Output) (octets : List ℕ)
+    (done due : List Served) (recv : State) (sending : Progress) (heard : List RecvEvent) (waiting : List Waiting)
     (port : PortView) (readings : List ℕ) : Type 0 where
   pub round : List Deed
-  pub stands : Stands seen start output octets
-      (place_of recv wire heard waiting [] (standing_of port (done ++ due) readings round))
-  pub behind : AreBehind wire.inputs waiting
-  pub turned : AllByRecursion (HadTurns round wire.inputs) done
+  pub stands : Stands start output octets
+      (place_of recv sending heard waiting [] (standing_of port (done ++ due) readings round))
+  pub behind : AreBehind sending.inputs waiting
+  pub turned : AllByRecursion (HadTurns round sending.inputs) done
   pub not_yet : AllByRecursion (NotYet round) due
 
 -- at rest, whatever was done since the last frame
-pub record HasRested {S : Type 0} (seen : S → Output) (start : Start) (output : Output) (octets : List ℕ)
-    (recv : State) (wire : WireView S) (heard : List RecvEvent) (waiting : List Waiting)
+pub record HasRested (start : Start) (output : Output) (octets : List ℕ)
+    (recv : State) (sending : Progress) (heard : List RecvEvent) (waiting : List Waiting)
     (port : PortView) (calls : List Served) (readings : List ℕ) : Type 0 where
   pub round : List Deed
-  pub rests : Rests seen start output octets
-      (place_of recv wire heard waiting [] (standing_of port calls readings round))
+  pub rests : Rests start output octets
+      (place_of recv sending heard waiting [] (standing_of port calls readings round))
 
 -- ---- ends
 
--- what has gone out before a GOAWAY
-abbrev pub IsWrittenSoFar : How → List ℕ → List Moment → List Input → Output → Output → Type 0
-IsWrittenSoFar hows.WriteFault octets moments inputs old new =
-    IsBroken octets moments inputs old new
-IsWrittenSoFar _ octets moments inputs old new = Wrote (octets_of (frames_of inputs)) old new
+-- the sending half is open, and was given these inputs
+pub record IsOpen (inputs : List Input) (at : Progress) : Type 0 where
+  pub condition_is : at.condition ≡ condition.Open
+  pub inputs_are : at.inputs ≡ inputs
 
--- a GOAWAY can still be written where one has to be
-abbrev pub CanClose : {S : Type 0} → How → List Input → WireView S → Type 0
-CanClose (hows.Protocol code) inputs wire = IsOpen inputs wire
-CanClose _ inputs wire = Unit {0}
+-- What these inputs cause has gone out, and the end of the connection is still to be written,
+abbrev pub CanClose : List Input → Output → Progress → Type 0
+CanClose inputs output at = IsOpen inputs at × Wrote (octets_of (frames_of inputs)) output at.output
+
+-- or was written with this code.
+abbrev pub HasClosed : List Input → ℕ → Output → Progress → Type 0
+HasClosed inputs code output at =
+    (at.condition ≡ condition.Finished)
+    × Wrote (octets_of (frames_until inputs code)) output at.output
+
+-- memory ran out, here or in the sending half
+abbrev pub HasStarved : List Input → Output → Progress → Type 0
+HasStarved inputs output at =
+    (IsOpen inputs at ⊎ (at.condition ≡ condition.NoMemory))
+    × Wrote (octets_of (frames_of inputs)) output at.output
+
+-- how the sending half is left
+abbrev pub IsLeft : How → List ℕ → List Moment → List Input → Output → Progress → Type 0
+IsLeft (hows.Protocol code) octets moments inputs output at =
+    CanClose inputs output at ⊎ HasClosed inputs code output at
+IsLeft hows.WriteFault octets moments inputs output at =
+    (at.condition ≡ condition.WriteFault) × IsBroken octets moments inputs output at.output
+IsLeft hows.NoMemory octets moments inputs output at = HasStarved inputs output at
+IsLeft _ octets moments inputs output at = CanClose inputs output at
 
 -- what holds where a session goes on no more
-pub record HasEnded {S : Type 0} (seen : S → Output) (how : How) (start : Start) (octets : List ℕ) (output : Output)
-    (wire : WireView S) (port : PortView) (readings : List ℕ) : Type 0 where
+pub record HasEnded (how : How) (start : Start) (octets : List ℕ) (output : Output)
+    (sending : Progress) (port : PortView) (readings : List ℕ) : Type 0 where
   pub moments : List Moment
   pub inputs : List Input
   pub waiting : List Waiting
@@ -179,22 +185,21 @@ pub record HasEnded {S : Type 0} (seen : S → Output) (how : How) (start : Star
   pub served : IsServed start (course_of moments inputs waiting owed (standing_of port calls readings round))
   pub settled : IsSettled how owed inputs waiting (standing_of port calls readings round)
   pub accepted : AreAccepted first_line inputs
-  pub wrote : IsWrittenSoFar how octets moments inputs output (seen wire.sink)
-  pub closing : CanClose how inputs wire
+  pub left : IsLeft how octets moments inputs output sending
 
 -- ---- with the source
 
 -- a session between two frames
-pub record IsServing {S : Type 0} (seen : S → Output) (schema : List SchemaNode) (before : Outside)
-    (source : Source) (count : ℕ) (place : Place S) : Type 0 where
+pub record IsServing (schema : List SchemaNode) (before : Outside)
+    (source : Source) (count : ℕ) (place : Place) : Type 0 where
   pub octets : List ℕ
   pub all : Read octets before.input source
   pub counted : count ≡ length octets
-  pub rests : Rests seen (start_of schema before) before.output octets place
+  pub rests : Rests (start_of schema before) before.output octets place
 
 -- a session that goes on no more
-pub record HasStopped {S : Type 0} (seen : S → Output) (how : How) (schema : List SchemaNode) (before : Outside)
-    (source : Source) (wire : WireView S) (port : PortView) (readings : List ℕ) : Type 0 where
+pub record HasStopped (how : How) (schema : List SchemaNode) (before : Outside)
+    (source : Source) (sending : Progress) (port : PortView) (readings : List ℕ) : Type 0 where
   pub octets : List ℕ
   pub given : IsGiven how octets before.input source
-  pub ended : HasEnded seen how (start_of schema before) octets before.output wire port readings
+  pub ended : HasEnded how (start_of schema before) octets before.output sending port readings

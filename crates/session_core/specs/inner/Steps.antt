@@ -1,7 +1,6 @@
 -- What one step of a session does.
 use Rattle.std.specs.Prelude.{◌≡◌, ◌⊎◌, ℕ, ◌<◌, List, [], ◌∷◌, ◌++◌, length, Bool, false, ⊤, Option, Some, None, Result, Ok, Err, if◌then◌else◌}
 use Rattle.edge_traits.specs.Input.{Input as Source, Read}
-use Rattle.edge_traits.specs.Output.{Output}
 use Rattle.h2_frame.specs.Frames.{Frame}
 use Rattle.h2_events.specs.declared.event.RecvEvent.{RecvEvent}
 use Rattle.h2_events.specs.declared.said.Said.{Said}
@@ -11,10 +10,10 @@ use Rattle.h2_events.specs.Items.{is_last}
 use Rattle.h2_calls.specs.Calls.{Moment, read, reads_of}
 use Rattle.h2_recv.specs.declared.reader.Reader.{Reader}
 use Rattle.h2_recv.specs.Receiving.{State, Reads, Faults, Astray, ReadsWithEnds, EndsFrame, new_reader, state_ended}
-use Rattle.h2_send.specs.Accepting.{AreAccepted}
+use Rattle.h2_send.specs.Accepting.{IsAccepted}
 use Rattle.h2_send.specs.Inputs.{Input, Speech}
 use Rattle.h2_send.specs.Lines.{first_line}
-use Rattle.h2_send.specs.Wires.{WireView, Says}
+use Rattle.h2_send.specs.Port.{Progress, Takes, line_of}
 use Rattle.h2_send.specs.declared.fault.WireFaultOut.{WireFaultOut}
 use Rattle.h2_send.specs.declared.fault.WireFaultOut.TheVariants as faults
 use Rattle.base_kinds.specs.Schema.{SchemaNode}
@@ -36,6 +35,7 @@ use Rattle.h2_send.specs.Offers.{ready_on}
 use Rattle.h2_send.specs.Orders.{line_after}
 use Rattle.book_port.specs.Follows.{Turn}
 use Rattle.session_core.specs.Reading.{IsGiven, IsMadeOf}
+use Rattle.session_core.specs.inner.Sending.{Starves}
 
 -- ---- reading
 
@@ -91,14 +91,16 @@ Advances _ old new = old < new
 
 -- ---- saying
 
--- What saying something on a stream that is free does. Where memory is wanting nothing is written.
-abbrev pub Speaks : {S : Type 0} → (S → Output) → ℕ → Said → Result (Unit {0}) WireFaultOut → WireView S → WireView S → Type 0
-Speaks seen stream said (Ok done) old new =
-    AreAccepted first_line new.inputs × Says seen (Speech stream said) took.Taken old new
-Speaks seen stream said (Err faults.WriteFault) old new =
-    AreAccepted first_line new.inputs × Says seen (Speech stream said) took.WriteFault old new
-Speaks seen stream said (Err faults.NoMemory) old new = seen new.sink ≡ seen old.sink
-Speaks seen stream said (Err faults.Overflow) old new = ⊥
+-- What saying something on a stream does. Where memory is wanting nothing is written: it isn't said, or the sending half is closed.
+abbrev pub Speaks : ℕ → Said → Result (Unit {0}) WireFaultOut → Progress → Progress → Type 0
+Speaks stream said (Ok tt) found new =
+    IsAccepted (Speech stream said) (line_of found)
+    × Takes took.Taken (Speech stream said) found new
+Speaks stream said (Err faults.WriteFault) found new =
+    IsAccepted (Speech stream said) (line_of found)
+    × Takes took.WriteFault (Speech stream said) found new
+Speaks stream said (Err faults.NoMemory) found new = (new ≡ found) ⊎ Starves found new
+Speaks stream said (Err faults.Overflow) found new = ⊥
 
 -- what becomes of it
 abbrev pub done_of : Took → Result (Unit {0}) WireFaultOut

@@ -1,19 +1,22 @@
-use Rattle.std.proofs.Common.{◌≡◌, ℕ, List, ◌∷◌}
+use Rattle.std.proofs.Common.{◌≡◌, ℕ, List, [], ◌∷◌}
 use Rattle.base_kinds.specs.declared.request.ListMode.TheVariants as modes
 use Rattle.h2_events.specs.declared.event.RecvEvent.{RecvEvent}
 use Rattle.session_core.specs.declared.served.Served.{Served}
 use Rattle.session_core.specs.Runs.{Outside, start_of}
 use Rattle.session_core.specs.inner.Places.{IsTurning}
+use Rattle.session_core.specs.inner.Sending.{HasGrown}
 use Rattle.session_core.proofs.turns.turn_polls.Given as goal
 
 -- the call is the first of those whose turn it is
 abbrev pub invariant-polls : goal.invariant-polls
 invariant-polls g l = record {
   turning : (before : Outside) (octets : List ℕ) (heard : List RecvEvent) (done later : List Served)
+      → g.W.Sending.others l.wire ≡ []
       → l.fn.served.call.plan.mode ≡ modes.Poll
-      → IsTurning g.O.Sink.seen (start_of l.desk before) before.output octets done (l.fn.served ∷ later) l.initial.recv l.initial.wire heard l.fn.waiting (g.P.BookPort.port l.initial.book) (g.C.Clock.readings l.initial.clock)
-      → IsTurning g.O.Sink.seen (start_of l.desk before) before.output octets done (l.served ∷ later) l.recv l.wire heard l.waiting (g.P.BookPort.port l.book) (g.C.Clock.readings l.clock);
+      → IsTurning (start_of l.desk before) before.output octets done (l.fn.served ∷ later) l.initial.recv (g.W.Sending.progress l.initial.wire) heard l.fn.waiting (g.P.BookPort.port l.initial.book) (g.C.Clock.readings l.initial.clock)
+      → IsTurning (start_of l.desk before) before.output octets done (l.served ∷ later) l.recv (g.W.Sending.progress l.wire) heard l.waiting (g.P.BookPort.port l.book) (g.C.Clock.readings l.clock);
   in_mode : l.fn.served.call.plan.mode ≡ modes.Poll → l.served.call.plan.mode ≡ modes.Poll;
+  grown : HasGrown (g.W.Sending.others l.initial.wire) (g.W.Sending.others l.wire);
   opened : (g.P.BookPort.port l.book).opened ≡ (g.P.BookPort.port l.initial.book).opened;
 }
 
