@@ -3,7 +3,7 @@ ghost use Rattle.std.specs.Prelude.{◌≡◌, false};
 
 use base_kinds::Limits;
 use base_lists::{Text, Texts};
-use book_core::{Book, BookOpening, Single};
+use book_core::{Book, BookOpening};
 use commit_journal::Ledger;
 use edge_traits::MemSink;
 use grpc_core::Method;
@@ -21,8 +21,6 @@ use std::alloc::Global;
 use std::process::Abort;
 use std::sync::Wait;
 
-type TestedBook = Book<MemDisk, PlainTree>;
-
 pub(crate) type TestBook<R> = Visit<MemDisk, PlainTree, R>;
 
 pub(crate) type TestWire<R> = WireVisit<MemSink, R>;
@@ -39,7 +37,7 @@ pub(crate) fn schema(rt: &impl Abort, alloc: Global) -> Schema {
     read_schema(alloc, b"module m\nleaf /a string\n").expect(rt, "a schema")
 }
 
-fn new_book(rt: &impl Abort, alloc: Global, schema: Schema) -> TestedBook
+fn new_book(rt: &impl Abort, alloc: Global, schema: Schema) -> Book<MemDisk, PlainTree>
     ensures { result.opened.schema ≡ schema }
 {
     let mut disk = MemDisk::make(alloc);
@@ -50,19 +48,7 @@ fn new_book(rt: &impl Abort, alloc: Global, schema: Schema) -> TestedBook
     }
 }
 
-/// A book with `/a`.
-fn book_with_a(rt: &impl Abort, alloc: Global, desk: &Desk, schema: Schema) -> TestedBook
-    requires { schema ≡ desk.now }
-{
-    let mut port = Single::make(new_book(rt, alloc, schema), 1);
-    let is_set = desk
-        .answer(alloc, Method::Set, SET_A, 1_000, &mut port)
-        .is_ok();
-    assert!(rt; is_set);
-    port.give()
-}
-
-/// The first port of such a book.
+/// The first port of a book with `/a`.
 pub(crate) fn book<R: Wait + Abort + Copy + Drop>(
     rt: R,
     alloc: Global,
@@ -72,35 +58,33 @@ pub(crate) fn book<R: Wait + Abort + Copy + Drop>(
     requires { schema ≡ desk.now }
     ensures { result.is_alone ≡ false }
 {
-    let book = book_with_a(&rt, alloc, desk, schema);
-    match Visit::make(rt, alloc, book) {
-        Ok(port) => port,
+    let made = new_book(&rt, alloc, schema);
+    match Visit::make(rt, alloc, made) {
+        Ok(mut book) => {
+            let is_set = desk
+                .answer(alloc, Method::Set, SET_A, 1_000, &mut book)
+                .is_ok();
+            assert!(&rt; is_set);
+            book
+        }
         Err(_) => panic!(&rt; "no port"),
     }
 }
 
-/// A wire that was greeted, whose sink fails in the call of `write` with this number.
-fn open_wire(rt: &impl Abort, alloc: Global, fails: &str) -> Wire<MemSink>
-    ensures { result.condition ≡ Condition.Open }
-{
-    let mut calls = Texts::empty(alloc);
-    let call = Text::of(alloc, fails.as_bytes()).expect(rt, "memory");
-    calls.push(call).expect(rt, "memory");
-    let mut wire = Wire::make(alloc, MemSink::make(alloc, calls));
-    match wire.greet() {
-        Ok(()) => wire,
-        Err(_) => panic!(rt; "no greeting"),
-    }
-}
-
-/// The first port of a connection with a call on stream 1, over such a wire.
+/// The first port of a connection with a call on stream 1, whose sink fails in the call of `write` with this number.
 pub(crate) fn wire<R: Wait + Abort + Copy + Drop>(
     rt: R,
     alloc: Global,
     fails: &str,
 ) -> TestWire<R> {
-    let open = open_wire(&rt, alloc, fails);
-    match WireVisit::make(rt, alloc, open) {
+    let mut calls = Texts::empty(alloc);
+    let call = Text::of(alloc, fails.as_bytes()).expect(&rt, "memory");
+    calls.push(call).expect(&rt, "memory");
+    let mut wire = Wire::make(alloc, MemSink::make(alloc, calls));
+    let Ok(()) = wire.greet() else {
+        panic!(&rt; "no greeting");
+    };
+    match WireVisit::make(rt, alloc, wire) {
         Ok(mut visit) => {
             let _call = visit.act(alloc, &RecvEvent::Call(1, Headers::empty(alloc), true));
             visit
