@@ -33,7 +33,7 @@ pub use operation::{Act, Op, Ops, Row, Rows};
 pub use path::{Elem, Keys, Path, Paths};
 pub use refusal::Refusal;
 pub use request::{
-    Action, Change, Changes, Given, ListMode, Note, SetAsk, Span, SubLine, SubLines, SubMode,
+    Action, Change, Changes, Given, ListMode, Note, Span, SubLine, SubLines, SubMode, UnresolvedSet,
 };
 pub use schema::{Shape, Sort};
 pub use tree::TreeLike;

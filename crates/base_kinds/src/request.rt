@@ -45,7 +45,7 @@ pub enum Action {
 
 /// A Set as a request gives it, before anything of it is looked up in a schema (gNMI 3.4.1).
 #[derive(Debug, PartialEq, Drop)]
-pub struct SetAsk {
+pub struct UnresolvedSet {
     pub prefix: Path,
     pub target: Text,
     pub deletes: Paths,

@@ -3,8 +3,8 @@ ghost use Rattle.std.specs.Prelude.{IfOk};
 ghost use Rattle.base_kinds.specs.Legal.{IsFit};
 
 use base_kinds::{
-    Action, Ask, Bytes, Change, Changes, Given, Limits, Path, Paths, Refusal, SetAsk, Span, Text,
-    View,
+    Action, Ask, Bytes, Change, Changes, Given, Limits, Path, Paths, Refusal, Span, Text,
+    UnresolvedSet, View,
 };
 use book_core::{Book, BookOpening};
 use commit_journal::Ledger;
@@ -54,12 +54,12 @@ fn change_of(rt: &impl Abort, alloc: Global, json: &str) -> Change {
 }
 
 /// A Set of the hostname to the text of a JSON value.
-fn request_of(rt: &impl Abort, alloc: Global, json: &str, action: Action) -> SetAsk {
+fn request_of(rt: &impl Abort, alloc: Global, json: &str, action: Action) -> UnresolvedSet {
     let mut updates = Changes::empty(alloc);
     updates
         .push(change_of(rt, alloc, json))
         .expect(rt, "memory");
-    SetAsk {
+    UnresolvedSet {
         prefix: Path::empty(alloc),
         target: text_of(rt, alloc, ""),
         deletes: Paths::empty(alloc),
@@ -70,7 +70,7 @@ fn request_of(rt: &impl Abort, alloc: Global, json: &str, action: Action) -> Set
     }
 }
 
-fn resolved(rt: &impl Abort, alloc: Global, request: &SetAsk) -> Result<Ask, Refusal>
+fn resolved(rt: &impl Abort, alloc: Global, request: &UnresolvedSet) -> Result<Ask, Refusal>
     ensures { IfOk result (λ ask. IsFit ask) }
 {
     let schema = schema_of(rt, alloc, SCHEMA);

@@ -1,6 +1,6 @@
 //! Requests and replies of a Set.
 use crate::set_tables::{BAD_SETS, SETS};
-use base_kinds::{Action, Change, Elem, Given, SetAsk, Value};
+use base_kinds::{Action, Change, Elem, Given, UnresolvedSet, Value};
 use base_lists::{Bytes, NoMemory};
 use gnmi_data_msg::{Message, MsgFault};
 use gnmi_ext_msg::{Extension, read_extension};
@@ -23,7 +23,7 @@ fn action_number(action: &Action) -> u8 {
 }
 
 // What the ask is, in the octets of the table.
-fn summary(alloc: Global, ask: &SetAsk) -> Result<Bytes, NoMemory> {
+fn summary(alloc: Global, ask: &UnresolvedSet) -> Result<Bytes, NoMemory> {
     let mut octets = Bytes::empty(alloc);
     octets.push((ask.deletes.len() % 256) as u8)?;
     octets.push((ask.replaces.len() % 256) as u8)?;

@@ -3,7 +3,9 @@ ghost use Rattle.std.specs.Prelude.{IfOk};
 ghost use Rattle.base_kinds.specs.Legal.{IsFit};
 
 use crate::builders::{octets_of, path_of, text_of};
-use base_kinds::{Action, Ask, Change, Changes, Entry, Given, Path, Paths, Refusal, SetAsk, Span};
+use base_kinds::{
+    Action, Ask, Change, Changes, Entry, Given, Path, Paths, Refusal, Span, UnresolvedSet,
+};
 use commit_core::Core;
 use plain_tree::PlainTree;
 use schema_core::Schema;
@@ -64,7 +66,7 @@ pub fn resolved(
 ) -> Result<Ask, Refusal>
     ensures { IfOk result (λ ask. IsFit ask) }
 {
-    let request = SetAsk {
+    let request = UnresolvedSet {
         prefix: Path::empty(alloc),
         target: text_of(rt, alloc, ""),
         deletes,

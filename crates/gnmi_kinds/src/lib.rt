@@ -2,7 +2,7 @@
 //! a Get and a Subscribe ask, and what a stream says.
 //!
 //! Start at src/ask.rt, what a Get and a Subscribe ask; src/reply.rt is what a stream says, src/path.rt a path as a message has
-//! it. Those that both sides use (`SetAsk`, `SubLine`, `Note` and the like) stand in base_kinds.
+//! it. Those that both sides use (`UnresolvedSet`, `SubLine`, `Note` and the like) stand in base_kinds.
 #![tactic(auto)]
 
 mod ask;

@@ -5,7 +5,7 @@ use Rattle.std.specs.List.{filter_map, list_any}
 use Rattle.base_kinds.specs.declared.request.Action.{Action}
 use Rattle.base_kinds.specs.declared.request.Action.TheVariants as actions
 use Rattle.base_kinds.specs.declared.request.Change.{Change}
-use Rattle.base_kinds.specs.declared.request.SetAsk.{SetAsk}
+use Rattle.base_kinds.specs.declared.request.UnresolvedSet.{UnresolvedSet}
 use Rattle.gnmi_ext_msg.specs.declared.extension.Extension.{Extension}
 use Rattle.gnmi_ext_msg.specs.declared.extension.Extension.TheVariants as extensions
 use Rattle.gnmi_request_parts.specs.Profile.{is_foreign, is_other, path_in}
@@ -37,7 +37,7 @@ action_of extensions = one_action (filter_map commit_in extensions)
 abbrev pub change_of : Update → Change
 change_of update = record { path = update.path.path; given = update.given }
 
-abbrev pub ask_of : SetRequest → SetAsk
+abbrev pub ask_of : SetRequest → UnresolvedSet
 ask_of request = record {
   prefix = request.prefix.path;
   target = request.prefix.target;
@@ -49,5 +49,5 @@ ask_of request = record {
 }
 
 -- what the octets of a SetRequest ask for
-abbrev pub set_of : List ℕ → Option SetAsk
+abbrev pub set_of : List ℕ → Option UnresolvedSet
 set_of octets = option_map ask_of (request_of octets)

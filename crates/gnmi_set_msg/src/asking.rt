@@ -7,7 +7,7 @@ ghost use Rattle.gnmi_set_msg.specs.Asks.{is_unsupported, action_of, change_of, 
 ghost use Rattle.gnmi_set_msg.specs.inner.Actions.{with_commit};
 
 use crate::request::{SetRequest, Update, Updates, read_request};
-use base_kinds::{Action, Change, Changes, Seq, SetAsk};
+use base_kinds::{Action, Change, Changes, Seq, UnresolvedSet};
 use base_lists::NoMemory;
 use gnmi_data_msg::MsgFault;
 use gnmi_ext_msg::Extension;
@@ -72,7 +72,7 @@ fn changes_of(alloc: Global, updates: Updates) -> Result<Changes, NoMemory>
 }
 
 /// What the request asks for.
-fn ask_of(alloc: Global, request: SetRequest) -> Result<SetAsk, NoMemory>
+fn ask_of(alloc: Global, request: SetRequest) -> Result<UnresolvedSet, NoMemory>
     ensures { IfOk result (λ ask. ask ≡ ask_of request) }
 {
     let unsupported = is_unsupported(&request);
@@ -88,7 +88,7 @@ fn ask_of(alloc: Global, request: SetRequest) -> Result<SetAsk, NoMemory>
     let deletes = paths_of(alloc, deletes)?;
     let replaces = changes_of(alloc, replaces)?;
     let updates = changes_of(alloc, updates)?;
-    Ok(SetAsk {
+    Ok(UnresolvedSet {
         prefix: prefix.path,
         target: prefix.target,
         deletes,
@@ -107,7 +107,7 @@ fn ask_of(alloc: Global, request: SetRequest) -> Result<SetAsk, NoMemory>
 /// its `value`, which is deprecated, and `duplicates` are skipped. BadMessage where the octets aren't fields, or those of a path, a
 /// value, an Update or an Extension are a bad message, or a string in them isn't UTF-8; of an Extension the commit alone is looked
 /// into. Occurrences of a single message are joined: that each of them is a message by itself isn't asked.
-pub fn read_set(alloc: Global, octets: &[u8]) -> Result<SetAsk, MsgFault>
+pub fn read_set(alloc: Global, octets: &[u8]) -> Result<UnresolvedSet, MsgFault>
     ensures { IsReadAs result (set_of octets.now) }
 {
     let request = read_request(alloc, octets)?;

@@ -76,14 +76,14 @@ one_chain start last other_last (ended s ∷ one) (ended t ∷ two) p q e =
 
 -- ---- the highest stream
 
-pub highest_told : (start last : Peer) (moments : List Moment) → Calls start moments last → last.highest ≡ highest_from start.highest (events_of moments)
-highest_told start last [] p = ap (λ (o : Peer). o.highest) (sym p)
-highest_told start last (read f (Some e) ∷ moments) p =
-    highest_told p.0 last moments p.2
+pub highest_is_from_events : (start last : Peer) (moments : List Moment) → Calls start moments last → last.highest ≡ highest_from start.highest (events_of moments)
+highest_is_from_events start last [] p = ap (λ (o : Peer). o.highest) (sym p)
+highest_is_from_events start last (read f (Some e) ∷ moments) p =
+    highest_is_from_events p.0 last moments p.2
     ∙ ap (λ (n : ℕ). highest_from n (events_of moments)) (tells_highest start f (Ok (record { event = Some e; peer = p.0 })) p.1)
-highest_told start last (read f None ∷ moments) p =
-    highest_told p.0 last moments p.2
+highest_is_from_events start last (read f None ∷ moments) p =
+    highest_is_from_events p.0 last moments p.2
     ∙ ap (λ (n : ℕ). highest_from n (events_of moments)) (tells_highest start f (Ok (record { event = None; peer = p.0 })) p.1)
-highest_told start last (ended s ∷ moments) p =
-    highest_told p.0 last moments p.2
+highest_is_from_events start last (ended s ∷ moments) p =
+    highest_is_from_events p.0 last moments p.2
     ∙ ap (λ (n : ℕ). highest_from n (events_of moments)) (sym (ap (λ (o : Peer). o.highest) p.1))

@@ -23,7 +23,7 @@ use Rattle.h2_calls.specs.Outcomes.{Outcome, nothing, gives, stream_fault}
 use Rattle.h2_calls.specs.Payloads.{content, number, with_settings}
 use Rattle.h2_calls.specs.Requests.{is_well_formed}
 use Rattle.h2_calls.specs.Blocks.{refused, request, later_block, block_on, headers_mean, BlockMeans}
-use Rattle.h2_calls.specs.Meanings.{Meaning, said, block_ends, data_on, data_with, data_means, with_fragment, longer, headers_with, headers_begin, continuation_means, priority_means, reset_on, rst_stream_means, settings_told, settings_mean, ping_means, goaway_means, increment_on, increment_means, window_update_means, kind_means, next_means, meaning_of, Comes, Means}
+use Rattle.h2_calls.specs.Meanings.{Meaning, said, block_ends, data_on, data_with, data_means, with_fragment, longer, headers_with, headers_begin, continuation_means, priority_means, reset_on, rst_stream_means, outcome_of_settings, settings_mean, ping_means, goaway_means, increment_on, increment_means, window_update_means, kind_means, next_means, meaning_of, Comes, Means}
 use Rattle.h2_calls.specs.Laws.{TellsHighest, KeepsOthers}
 use Rattle.h2_calls.proofs.StreamLemmas.{others_without, others_opened, others_ended}
 
@@ -200,7 +200,7 @@ rst_stream_law frame peer =
     (λ _. either stream peer (is_idle peer stream) (Err protocol_error) (reset_on stream (state_among stream peer.streams) peer)
     (λ _. fault_law stream peer protocol_error) (λ _. reset_law stream (state_among stream peer.streams) peer))
 
-told_law : (stream : ℕ) (told : Result Settings ℕ) (peer : Peer) → IsLawful stream peer (settings_told told peer)
+told_law : (stream : ℕ) (told : Result Settings ℕ) (peer : Peer) → IsLawful stream peer (outcome_of_settings told peer)
 told_law stream (Err code) peer = fault_law stream peer code
 told_law stream (Ok settings) peer = record { highest = refl; others = λ other n. refl }
 
@@ -211,7 +211,7 @@ settings_law frame peer =
     (λ _. either stream peer (not (length frame.payload % 6 == 0)) (Err frame_size_error) _ (λ _. fault_law stream peer frame_size_error)
     (λ _. either stream peer (not (stream == 0)) (Err protocol_error) _ (λ _. fault_law stream peer protocol_error)
     (λ _. either stream peer (has ack_flag frame.head.flags) (gives event.SettingsAck peer)
-    (settings_told (with_settings frame.payload (record { window = peer.window; table = false })) peer)
+    (outcome_of_settings (with_settings frame.payload (record { window = peer.window; table = false })) peer)
     (λ _. record { highest = refl; others = λ other n. refl })
     (λ _. told_law stream (with_settings frame.payload (record { window = peer.window; table = false })) peer))))
 

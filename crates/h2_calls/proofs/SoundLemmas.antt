@@ -29,7 +29,7 @@ use Rattle.h2_calls.specs.Outcomes.{Outcome, nothing, gives, stream_fault}
 use Rattle.h2_calls.specs.Payloads.{between, padded_content, content, number, with_setting, and_then, with_settings}
 use Rattle.h2_calls.specs.Requests.{is_well_formed}
 use Rattle.h2_calls.specs.Blocks.{refused, request, later_block, block_on, headers_mean, BlockMeans}
-use Rattle.h2_calls.specs.Meanings.{Meaning, said, block_ends, data_on, data_with, data_means, with_fragment, longer, headers_with, headers_begin, continuation_means, priority_means, reset_on, rst_stream_means, settings_told, settings_mean, ping_means, goaway_means, increment_on, increment_means, window_update_means, kind_means, next_means, meaning_of, Comes, Means}
+use Rattle.h2_calls.specs.Meanings.{Meaning, said, block_ends, data_on, data_with, data_means, with_fragment, longer, headers_with, headers_begin, continuation_means, priority_means, reset_on, rst_stream_means, outcome_of_settings, settings_mean, ping_means, goaway_means, increment_on, increment_means, window_update_means, kind_means, next_means, meaning_of, Comes, Means}
 use Rattle.h2_calls.specs.Calls.{Moment, read, ended, Calls, frames_of, events_of}
 use Rattle.h2_calls.proofs.KeptLemmas.{kept_without, kept_by_peer, kept_here, kept_up_to, kept_opened}
 use Rattle.h2_calls.specs.Laws.{AreKept, HasClientStream, IsSoundPeer, IsReadable, GivesSound}
@@ -315,7 +315,7 @@ settings_low (a ∷ b ∷ c ∷ d ∷ e ∷ f ∷ rest) told le =
     let first = with_setting (number 0 (a ∷ b ∷ [])) (number 0 (c ∷ d ∷ e ∷ f ∷ [])) told in
     then_low (with_settings rest) first (setting_low (number 0 (a ∷ b ∷ [])) (number 0 (c ∷ d ∷ e ∷ f ∷ [])) told le) (λ s h. settings_low rest s h)
 
-told_good : (told : Result Settings ℕ) (peer : Peer) → IsSoundPeer peer → IsLow told → IsGood (settings_told told peer)
+told_good : (told : Result Settings ℕ) (peer : Peer) → IsSoundPeer peer → IsLow told → IsGood (outcome_of_settings told peer)
 told_good (Err code) peer p low = fault code
 told_good (Ok s) peer p low = record { sound = (low.low, record { window = low.low; block = p.block; streams = p.streams }) }
 
@@ -325,7 +325,7 @@ settings_good frame peer p =
     either (has ack_flag frame.head.flags && not (length frame.payload == 0)) (Err frame_size_error) _ (λ _. fault frame_size_error)
     (λ _. either (not (length frame.payload % 6 == 0)) (Err frame_size_error) _ (λ _. fault frame_size_error)
     (λ _. either (not (frame.head.stream == 0)) (Err protocol_error) _ (λ _. fault protocol_error)
-    (λ _. either (has ack_flag frame.head.flags) (gives event.SettingsAck peer) (settings_told told peer) (λ _. record { sound = (tt, p) })
+    (λ _. either (has ack_flag frame.head.flags) (gives event.SettingsAck peer) (outcome_of_settings told peer) (λ _. record { sound = (tt, p) })
     (λ _. told_good told peer p (settings_low frame.payload (record { window = peer.window; table = false }) p.window)))))
 
 below_64 : (octets : List ℕ) → length octets ≡ 8 → All (λ (octet : ℕ). octet < 2 ^ 8) octets → number 0 octets < 2 ^ 64

@@ -100,9 +100,9 @@ rst_stream_means frame peer =
     else reset_on frame.head.stream (state_among frame.head.stream peer.streams) peer
 
 -- SETTINGS (section 6.5)
-abbrev pub settings_told : Result Settings ℕ → Peer → Outcome
-settings_told (Err code) peer = Err code
-settings_told (Ok told) peer =
+abbrev pub outcome_of_settings : Result Settings ℕ → Peer → Outcome
+outcome_of_settings (Err code) peer = Err code
+outcome_of_settings (Ok told) peer =
     gives (event.Settings told.window told.table)
     (record peer { window = told.window; greeted = true })
 
@@ -116,7 +116,7 @@ settings_mean frame peer =
     else if not (length frame.payload % 6 == 0) then Err frame_size_error
     else if not (frame.head.stream == 0) then Err protocol_error
     else if has ack_flag frame.head.flags then gives event.SettingsAck peer
-    else settings_told (with_settings frame.payload (no_setting peer)) peer
+    else outcome_of_settings (with_settings frame.payload (no_setting peer)) peer
 
 -- PING (section 6.7)
 abbrev pub ping_means : Frame → Peer → Outcome

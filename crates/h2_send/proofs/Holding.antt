@@ -8,7 +8,7 @@ use Rattle.h2_windows.specs.Bounds.{largest_pending}
 use Rattle.h2_windows.specs.Holding.{waiting}
 use Rattle.h2_windows.specs.Shares.{share}
 use Rattle.h2_windows.specs.Sending.{sent}
-use Rattle.h2_windows.specs.Streams.{is_stream, fresh, opened, without, granted}
+use Rattle.h2_windows.specs.Streams.{is_stream, new_stream, opened, without, granted}
 use Rattle.h2_windows.specs.declared.stream.Stream.{Stream}
 use Rattle.h2_events.specs.Items.{said_by}
 use Rattle.h2_events.specs.Ports.{FitsMessage}
@@ -40,7 +40,7 @@ sent_within initial window (s ∷ streams) all =
     let n = share initial window s in
     (omega (arith, all.0, length-drop n s.pending), sent_within initial (window -ℤ pos n) streams all.1)
 
-insert_within : (id k : ℕ) (streams : List Stream) → HoldWithin streams → HoldWithin (insert streams k (fresh id))
+insert_within : (id k : ℕ) (streams : List Stream) → HoldWithin streams → HoldWithin (insert streams k (new_stream id))
 insert_within id zero streams all = (lit≤ tt, all)
 insert_within id (suc k) [] all = (lit≤ tt, tt)
 insert_within id (suc k) (s ∷ streams) all = (all.0, insert_within id k streams all.1)
@@ -48,7 +48,7 @@ insert_within id (suc k) (s ∷ streams) all = (all.0, insert_within id k stream
 opened_within : (id : ℕ) (streams : List Stream) → HoldWithin streams → HoldWithin (opened id streams)
 opened_within id streams all = by (list_any (is_stream id) streams)
   where
-    by : (b : Bool) → HoldWithin (if b then streams else insert streams (position_or_len (λ s. nat_lt id s.id) streams) (fresh id))
+    by : (b : Bool) → HoldWithin (if b then streams else insert streams (position_or_len (λ s. nat_lt id s.id) streams) (new_stream id))
     by true = all
     by false = insert_within id (position_or_len (λ s. nat_lt id s.id) streams) streams all
 

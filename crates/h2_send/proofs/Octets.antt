@@ -9,7 +9,7 @@ use Rattle.h2_frame.specs.Frames.{Frame}
 use Rattle.h2_windows.specs.Pacing.{is_data_on}
 use Rattle.h2_windows.specs.Shares.{share}
 use Rattle.h2_windows.specs.Sending.{sent, data_frame, data_frames, payloads_in, largest_payload}
-use Rattle.h2_windows.specs.Streams.{AreRising, is_stream, fresh, opened, without, granted}
+use Rattle.h2_windows.specs.Streams.{AreRising, is_stream, new_stream, opened, without, granted}
 use Rattle.h2_windows.specs.declared.stream.Stream.{Stream}
 use Rattle.h2_windows.proofs.Rising.{once}
 use Rattle.h2_replies.specs.Headers.{opening, ending}
@@ -221,7 +221,7 @@ without_other id on (s ∷ streams) differ = by (is_stream on s) refl (without_o
     by true is rest = rest ∙ sym (ap (λ (c : Bool). cond c s.pending (waiting_on id streams)) (apart id on s differ is))
     by false is rest = ap (λ (os : List ℕ). cond (is_stream id s) s.pending os) rest
 
-insert_waiting : (id on k : ℕ) (streams : List Stream) → (nat_eq on id ≡ true → there id streams ≡ false) → waiting_on id (insert streams k (fresh on)) ≡ waiting_on id streams
+insert_waiting : (id on k : ℕ) (streams : List Stream) → (nat_eq on id ≡ true → there id streams ≡ false) → waiting_on id (insert streams k (new_stream on)) ≡ waiting_on id streams
 insert_waiting id on zero streams new = by (nat_eq on id) refl
   where
     by : (b : Bool) → nat_eq on id ≡ b → cond b [] (waiting_on id streams) ≡ waiting_on id streams
@@ -237,7 +237,7 @@ insert_waiting id on (suc k) (s ∷ streams) new = ap (λ (os : List ℕ). cond 
 opened_waiting : (id on : ℕ) (streams : List Stream) → waiting_on id (opened on streams) ≡ waiting_on id streams
 opened_waiting id on streams = by (there on streams) refl
   where
-    by : (b : Bool) → there on streams ≡ b → waiting_on id (if b then streams else insert streams (position_or_len (λ s. nat_lt on s.id) streams) (fresh on)) ≡ waiting_on id streams
+    by : (b : Bool) → there on streams ≡ b → waiting_on id (if b then streams else insert streams (position_or_len (λ s. nat_lt on s.id) streams) (new_stream on)) ≡ waiting_on id streams
     by true is = refl
     by false is = insert_waiting id on (position_or_len (λ s. nat_lt on s.id) streams) streams (λ same. ap (λ k. there k streams) (sym (eqb-true on id same)) ∙ is)
 

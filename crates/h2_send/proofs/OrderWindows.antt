@@ -9,7 +9,7 @@ use Rattle.h2_frame.specs.Frames.{Frame}
 use Rattle.h2_windows.specs.Pacing.{IsPaced, Passing, Within, window_after, is_data, is_data_on}
 use Rattle.h2_windows.specs.Shares.{share, window_of}
 use Rattle.h2_windows.specs.Sending.{sent, after_sending, data_frames}
-use Rattle.h2_windows.specs.Streams.{AreRising, is_stream, fresh, opened, without, granted}
+use Rattle.h2_windows.specs.Streams.{AreRising, is_stream, new_stream, opened, without, granted}
 use Rattle.h2_windows.specs.Windows.{room}
 use Rattle.h2_windows.specs.declared.stream.Stream.{Stream}
 use Rattle.h2_windows.proofs.Rising.{once}
@@ -151,28 +151,28 @@ granted_own id n (s ∷ streams) is = by (is_stream id s) refl is (granted_own i
         ap (λ b. cond b s.credit (credit_on id (granted id n streams))) own ∙ rest is
         ∙ sym (ap (λ b. cond b s.credit (credit_on id streams) +ℤ pos n) own)
 
-insert_other : (id on k : ℕ) (streams : List Stream) → nat_eq on id ≡ false → credit_on id (insert streams k (fresh on)) ≡ credit_on id streams
+insert_other : (id on k : ℕ) (streams : List Stream) → nat_eq on id ≡ false → credit_on id (insert streams k (new_stream on)) ≡ credit_on id streams
 insert_other id on zero streams differ = ap (λ b. cond b (pos 0) (credit_on id streams)) differ
 insert_other id on (suc k) [] differ = ap (λ b. cond b (pos 0) (pos 0)) differ
 insert_other id on (suc k) (s ∷ streams) differ = ap (λ (c : ℤ). cond (is_stream id s) s.credit c) (insert_other id on k streams differ)
 
-insert_own : (id k : ℕ) (streams : List Stream) → there id streams ≡ false → credit_on id (insert streams k (fresh id)) ≡ pos 0
+insert_own : (id k : ℕ) (streams : List Stream) → there id streams ≡ false → credit_on id (insert streams k (new_stream id)) ≡ pos 0
 insert_own id zero streams none = ap (λ b. cond b (pos 0) (credit_on id streams)) (eq-eqb id id refl)
 insert_own id (suc k) [] none = ap (λ b. cond b (pos 0) (pos 0)) (eq-eqb id id refl)
 insert_own id (suc k) (s ∷ streams) none =
-    ap (λ b. cond b s.credit (credit_on id (insert streams k (fresh id)))) (or_first (is_stream id s) (there id streams) none)
+    ap (λ b. cond b s.credit (credit_on id (insert streams k (new_stream id)))) (or_first (is_stream id s) (there id streams) none)
     ∙ insert_own id k streams (or_second (is_stream id s) (there id streams) none)
 
 opened_other : (id on : ℕ) (streams : List Stream) → nat_eq on id ≡ false → credit_on id (opened on streams) ≡ credit_on id streams
 opened_other id on streams differ = by (there on streams)
   where
-    by : (b : Bool) → credit_on id (if b then streams else insert streams (position_or_len (λ s. nat_lt on s.id) streams) (fresh on)) ≡ credit_on id streams
+    by : (b : Bool) → credit_on id (if b then streams else insert streams (position_or_len (λ s. nat_lt on s.id) streams) (new_stream on)) ≡ credit_on id streams
     by true = refl
     by false = insert_other id on (position_or_len (λ s. nat_lt on s.id) streams) streams differ
 
 opened_own : (id : ℕ) (streams : List Stream) → there id streams ≡ false → credit_on id (opened id streams) ≡ pos 0
 opened_own id streams none =
-    ap (λ b. credit_on id (if b then streams else insert streams (position_or_len (λ s. nat_lt id s.id) streams) (fresh id))) none
+    ap (λ b. credit_on id (if b then streams else insert streams (position_or_len (λ s. nat_lt id s.id) streams) (new_stream id))) none
     ∙ insert_own id (position_or_len (λ s. nat_lt id s.id) streams) streams none
 
 sent_stream : (id initial : ℕ) (window : ℤ) (streams : List Stream) → AreRising streams → there id streams ≡ true → Passing (is_data_on id) (pos initial +ℤ credit_on id streams) (pos initial +ℤ credit_on id (sent initial window streams).streams) (sent initial window streams).frames

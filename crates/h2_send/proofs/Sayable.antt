@@ -4,7 +4,7 @@ use Rattle.std.specs.Prelude.{nat_eq, ◌&&◌, ◌||◌, if◌then◌else◌}
 use Rattle.std.specs.List.{insert}
 use Rattle.std.proofs.lemmas.Bool.{eqb-true}
 use Rattle.h2_frame.specs.Frames.{Frame}
-use Rattle.h2_windows.specs.Streams.{is_stream, fresh, opened, without, granted}
+use Rattle.h2_windows.specs.Streams.{is_stream, new_stream, opened, without, granted}
 use Rattle.h2_windows.specs.declared.stream.Stream.{Stream}
 use Rattle.h2_events.specs.Events.{opens, resets}
 use Rattle.h2_events.specs.Items.{can_say_after, can_say_from, can_say, is_last}
@@ -64,7 +64,7 @@ or_swap true false c = refl
 or_swap false true c = refl
 or_swap false false c = refl
 
-insert_is : (on id k : ℕ) (streams : List Stream) → there on (insert streams k (fresh id)) ≡ ((id == on) || there on streams)
+insert_is : (on id k : ℕ) (streams : List Stream) → there on (insert streams k (new_stream id)) ≡ ((id == on) || there on streams)
 insert_is on id zero streams = refl
 insert_is on id (suc k) [] = refl
 insert_is on id (suc k) (s ∷ streams) = ap (λ b. is_stream on s || b) (insert_is on id k streams) ∙ or_swap (is_stream on s) (id == on) (there on streams)
@@ -73,7 +73,7 @@ known : (e b : Bool) → (e ≡ true → b ≡ true) → b ≡ (e || b)
 known true b p = p refl
 known false b p = refl
 
-opened_if : (is : Bool) (on id k : ℕ) (streams : List Stream) → there id streams ≡ is → there on (if is then streams else insert streams k (fresh id)) ≡ ((id == on) || there on streams)
+opened_if : (is : Bool) (on id k : ℕ) (streams : List Stream) → there id streams ≡ is → there on (if is then streams else insert streams k (new_stream id)) ≡ ((id == on) || there on streams)
 opened_if true on id k streams same = known (id == on) (there on streams) (λ h. ap (λ n. there n streams) (sym (eqb-true id on h)) ∙ same)
 opened_if false on id k streams same = insert_is on id k streams
 

@@ -10,7 +10,7 @@ use Rattle.h2_frame.specs.Frames.{Frame}
 use Rattle.h2_windows.specs.Pacing.{is_data, is_data_on}
 use Rattle.h2_windows.specs.Shares.{share}
 use Rattle.h2_windows.specs.Sending.{sent, data_frame, data_frames, payloads_in, largest_payload}
-use Rattle.h2_windows.specs.Streams.{AreRising, is_stream, fresh, opened, without, granted}
+use Rattle.h2_windows.specs.Streams.{AreRising, is_stream, new_stream, opened, without, granted}
 use Rattle.h2_windows.specs.declared.stream.Stream.{Stream}
 use Rattle.h2_windows.proofs.Rising.{once}
 use Rattle.h2_replies.specs.Headers.{opening, ending, status_answer}
@@ -193,7 +193,7 @@ sent_begun : (id initial : ℕ) (window : ℤ) (streams : List Stream) → has_b
 sent_begun id initial window [] = refl
 sent_begun id initial window (s ∷ streams) = ap (λ b. (is_stream id s && s.begun) || b) (sent_begun id initial (window -ℤ pos (share initial window s)) streams)
 
-insert_begun : (id on k : ℕ) (streams : List Stream) → has_begun id (insert streams k (fresh on)) ≡ has_begun id streams
+insert_begun : (id on k : ℕ) (streams : List Stream) → has_begun id (insert streams k (new_stream on)) ≡ has_begun id streams
 insert_begun id on zero streams = ap (λ b. b || has_begun id streams) (and_false (nat_eq on id))
 insert_begun id on (suc k) [] = ap (λ b. b || false) (and_false (nat_eq on id))
 insert_begun id on (suc k) (s ∷ streams) = ap (λ b. (is_stream id s && s.begun) || b) (insert_begun id on k streams)
@@ -201,7 +201,7 @@ insert_begun id on (suc k) (s ∷ streams) = ap (λ b. (is_stream id s && s.begu
 opened_begun : (id on : ℕ) (streams : List Stream) → has_begun id (opened on streams) ≡ has_begun id streams
 opened_begun id on streams = by (there on streams)
   where
-    by : (b : Bool) → has_begun id (if b then streams else insert streams (position_or_len (λ s. nat_lt on s.id) streams) (fresh on)) ≡ has_begun id streams
+    by : (b : Bool) → has_begun id (if b then streams else insert streams (position_or_len (λ s. nat_lt on s.id) streams) (new_stream on)) ≡ has_begun id streams
     by true = refl
     by false = insert_begun id on (position_or_len (λ s. nat_lt on s.id) streams) streams
 

@@ -6,7 +6,7 @@ use Rattle.h2_frame.specs.Frames.{Frame}
 use Rattle.h2_windows.specs.declared.stream.Stream.{Stream}
 use Rattle.h2_windows.specs.Shares.{share}
 use Rattle.h2_windows.specs.Sending.{sent, data_frame, data_frames, payloads_in, largest_payload}
-use Rattle.h2_windows.specs.Streams.{is_stream, fresh, opened, without, granted, granted_to}
+use Rattle.h2_windows.specs.Streams.{is_stream, new_stream, opened, without, granted, granted_to}
 use Rattle.h2_windows.specs.Fitting.{HaveFitHeads, HaveFitNumbers}
 
 pub fit-append : (xs ys : List Frame) → HaveFitHeads xs → HaveFitHeads ys → HaveFitHeads (xs ++ ys)
@@ -31,12 +31,12 @@ pub sent_numbers : (initial : ℕ) (window : ℤ) (streams : List Stream) → Ha
 sent_numbers initial window [] small = tt
 sent_numbers initial window (s ∷ streams) small = (small.0, sent_numbers initial (window -ℤ pos (share initial window s)) streams small.1)
 
-put_numbers : (id k : ℕ) (streams : List Stream) → id < 2 ^ 31 → HaveFitNumbers streams → HaveFitNumbers (insert streams k (fresh id))
+put_numbers : (id k : ℕ) (streams : List Stream) → id < 2 ^ 31 → HaveFitNumbers streams → HaveFitNumbers (insert streams k (new_stream id))
 put_numbers id zero streams less a = (less, a)
 put_numbers id (suc k) [] less a = (less, tt)
 put_numbers id (suc k) (s ∷ streams) less a = (a.0, put_numbers id k streams less a.1)
 
-opened_at : (id k : ℕ) (there : Bool) (streams : List Stream) → id < 2 ^ 31 → HaveFitNumbers streams → HaveFitNumbers (if there then streams else insert streams k (fresh id))
+opened_at : (id k : ℕ) (there : Bool) (streams : List Stream) → id < 2 ^ 31 → HaveFitNumbers streams → HaveFitNumbers (if there then streams else insert streams k (new_stream id))
 opened_at id k true streams less a = a
 opened_at id k false streams less a = put_numbers id k streams less a
 

@@ -7,7 +7,7 @@ use Rattle.std.proofs.lemmas.Bool.Decides.{nat_tests}
 use Rattle.h2_windows.specs.declared.stream.Stream.{Stream}
 use Rattle.h2_windows.specs.Shares.{share}
 use Rattle.h2_windows.specs.Sending.{sent}
-use Rattle.h2_windows.specs.Streams.{is_stream, fresh, opened, without, granted, granted_to, AreAbove, AreRising}
+use Rattle.h2_windows.specs.Streams.{is_stream, new_stream, opened, without, granted, granted_to, AreAbove, AreRising}
 
 above_more : (n m : ℕ) (streams : List Stream) → n < m → AreAbove m streams → AreAbove n streams
 above_more n m [] less a = tt
@@ -18,12 +18,12 @@ above_more n m (s ∷ streams) less a = (omega (arith, less, a.0), above_more n 
 abbrev place : ℕ → List Stream → ℕ
 place id streams = position_or_len (λ s. nat_lt id s.id) streams
 
-put_later : (id : ℕ) (s : Stream) (n : ℕ) (streams : List Stream) → insert (s ∷ streams) (1 + n) (fresh id) ≡ s ∷ insert streams n (fresh id)
+put_later : (id : ℕ) (s : Stream) (n : ℕ) (streams : List Stream) → insert (s ∷ streams) (1 + n) (new_stream id) ≡ s ∷ insert streams n (new_stream id)
 put_later id s n streams =
     let up : 1 + n ≡ suc n = omega arith in
     rw up refl
 
-above_put : (n id k : ℕ) (streams : List Stream) → n < id → AreAbove n streams → AreAbove n (insert streams k (fresh id))
+above_put : (n id k : ℕ) (streams : List Stream) → n < id → AreAbove n streams → AreAbove n (insert streams k (new_stream id))
 above_put n id zero streams less a = (less, a)
 above_put n id (suc k) [] less a = (less, tt)
 above_put n id (suc k) (s ∷ streams) less a = (a.0, above_put n id k streams less a.1)
@@ -33,7 +33,7 @@ differ_less a b not_less differs =
     let le : a ≤ b = ltb-false b a not_less in
     grind (arith, nat_tests)
 
-put_at : (id : ℕ) (s : Stream) (streams : List Stream) (above : Bool) → nat_lt id s.id ≡ above → nat_eq s.id id ≡ false → AreAbove s.id streams → AreRising streams → AreRising (insert streams (place id streams) (fresh id)) → AreRising (insert (s ∷ streams) (cond (not above) (1 + place id streams) 0) (fresh id))
+put_at : (id : ℕ) (s : Stream) (streams : List Stream) (above : Bool) → nat_lt id s.id ≡ above → nat_eq s.id id ≡ false → AreAbove s.id streams → AreRising streams → AreRising (insert streams (place id streams) (new_stream id)) → AreRising (insert (s ∷ streams) (cond (not above) (1 + place id streams) 0) (new_stream id))
 put_at id s streams true is differs others rise e =
     let less : id < s.id = ltb-true id s.id is in
     ((less, above_more id s.id streams less others), (others, rise))
@@ -45,13 +45,13 @@ neither : (a b : Bool) → (a || b) ≡ false → (a ≡ false) × (b ≡ false)
 neither true b e = absurd cc
 neither false b e = (refl, e)
 
-put_rises : (id : ℕ) (streams : List Stream) → list_any (is_stream id) streams ≡ false → AreRising streams → AreRising (insert streams (place id streams) (fresh id))
+put_rises : (id : ℕ) (streams : List Stream) → list_any (is_stream id) streams ≡ false → AreRising streams → AreRising (insert streams (place id streams) (new_stream id))
 put_rises id [] none rise = (tt, tt)
 put_rises id (s ∷ streams) none (others, rise) =
     let (differs, more) = neither (is_stream id s) (list_any (is_stream id) streams) none in
     put_at id s streams (nat_lt id s.id) refl differs others rise (put_rises id streams more rise)
 
-opened_at : (id : ℕ) (streams : List Stream) (there : Bool) → list_any (is_stream id) streams ≡ there → AreRising streams → AreRising (if there then streams else insert streams (place id streams) (fresh id))
+opened_at : (id : ℕ) (streams : List Stream) (there : Bool) → list_any (is_stream id) streams ≡ there → AreRising streams → AreRising (if there then streams else insert streams (place id streams) (new_stream id))
 opened_at id streams true is rise = rise
 opened_at id streams false is rise = put_rises id streams is rise
 

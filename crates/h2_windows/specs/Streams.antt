@@ -7,14 +7,14 @@ abbrev pub is_stream : ℕ → Stream → Bool
 is_stream id s = nat_eq s.id id
 
 -- a stream on which nothing was sent, and to which nothing was granted beside the initial window
-abbrev pub fresh : ℕ → Stream
-fresh id = record { id = id; begun = false; credit = pos 0; taken = 0; pending = [] }
+abbrev pub new_stream : ℕ → Stream
+new_stream id = record { id = id; begun = false; credit = pos 0; taken = 0; pending = [] }
 
 -- with a new stream, in its place
 abbrev pub opened : ℕ → List Stream → List Stream
 opened id streams =
     if list_any (is_stream id) streams then streams
-    else insert streams (position_or_len (λ s. nat_lt id s.id) streams) (fresh id)
+    else insert streams (position_or_len (λ s. nat_lt id s.id) streams) (new_stream id)
 
 -- without the stream that has the number
 abbrev pub without : ℕ → List Stream → List Stream

@@ -3,7 +3,7 @@ ghost use Rattle.std.specs.Prelude.{◌≡◌, ◌^◌, ◌<◌, ◌≤◌, ◌&
 ghost use Rattle.std.specs.List.{list_any, position_or_len};
 ghost use Rattle.h2_windows.specs.Windows.{passes};
 ghost use Rattle.h2_windows.specs.Shares.{window_of};
-ghost use Rattle.h2_windows.specs.Streams.{is_stream, fresh, opened, without, granted, granted_to};
+ghost use Rattle.h2_windows.specs.Streams.{is_stream, new_stream, opened, without, granted, granted_to};
 
 use crate::pending::Pending;
 use crate::stream::Stream;

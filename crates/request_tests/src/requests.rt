@@ -1,7 +1,7 @@
 use crate::builders::{octets_of, path_of, schema_of, text_of};
 use base_kinds::{
     Act, Action, Ask, Bytes, Change, Changes, Elem, Given, Keys, Op, Path, Paths, Refusal, Row,
-    SetAsk, Span, Text, Value, Values,
+    Span, Text, UnresolvedSet, Value, Values,
 };
 use path_core::write_path_text;
 use schema_core::Schema;
@@ -360,8 +360,8 @@ fn value_of(rt: &impl Abort, alloc: Global, put: Sent) -> Value {
     }
 }
 
-fn nothing(rt: &impl Abort, alloc: Global) -> SetAsk {
-    SetAsk {
+fn nothing(rt: &impl Abort, alloc: Global) -> UnresolvedSet {
+    UnresolvedSet {
         prefix: Path::empty(alloc),
         target: text_of(rt, alloc, ""),
         deletes: Paths::empty(alloc),
@@ -373,7 +373,12 @@ fn nothing(rt: &impl Abort, alloc: Global) -> SetAsk {
 }
 
 /// A request with these operations: their words, their paths, and their values.
-fn request(rt: &impl Abort, alloc: Global, prefix: &str, lines: &[(&str, &str, Sent)]) -> SetAsk {
+fn request(
+    rt: &impl Abort,
+    alloc: Global,
+    prefix: &str,
+    lines: &[(&str, &str, Sent)],
+) -> UnresolvedSet {
     let mut ask = nothing(rt, alloc);
     ask.prefix = path_of(rt, alloc, prefix);
     for (word, text, put) in lines {
@@ -472,14 +477,20 @@ fn asked(rt: &impl Abort, alloc: Global, ask: &Ask) -> Bytes {
 }
 
 /// What becomes of the request, as a text.
-fn answer(rt: &impl Abort, alloc: Global, schema: &Schema, ask: &SetAsk) -> Bytes {
+fn answer(rt: &impl Abort, alloc: Global, schema: &Schema, ask: &UnresolvedSet) -> Bytes {
     match resolve(alloc, schema, ask) {
         Err(refusal) => refused(rt, alloc, refusal),
         Ok(ask) => asked(rt, alloc, &ask),
     }
 }
 
-fn assert_answer(rt: &impl Abort, alloc: Global, schema: &Schema, ask: &SetAsk, expected: &str) {
+fn assert_answer(
+    rt: &impl Abort,
+    alloc: Global,
+    schema: &Schema,
+    ask: &UnresolvedSet,
+    expected: &str,
+) {
     let answer = answer(rt, alloc, schema, ask);
     let shown = Text::of(alloc, answer.items()).expect(rt, "a text");
     assert_eq!(rt;
@@ -598,7 +609,12 @@ fn action_of(word: &str, id: Text, span: Span) -> Action {
 }
 
 /// A request with these operations and this action.
-fn acting(rt: &impl Abort, alloc: Global, lines: &[(&str, &str, Sent)], action: Action) -> SetAsk {
+fn acting(
+    rt: &impl Abort,
+    alloc: Global,
+    lines: &[(&str, &str, Sent)],
+    action: Action,
+) -> UnresolvedSet {
     let mut ask = request(rt, alloc, "/", lines);
     ask.action = action;
     ask

@@ -6,7 +6,7 @@ use Rattle.base_lists.specs.Results.{IsUnlessMemory}
 use Rattle.base_kinds.specs.declared.entry.Ask.{Ask}
 use Rattle.base_kinds.specs.declared.refusal.Refusal.{Refusal}
 use Rattle.base_kinds.specs.declared.refusal.Refusal.TheVariants as refusals
-use Rattle.base_kinds.specs.declared.request.SetAsk.{SetAsk}
+use Rattle.base_kinds.specs.declared.request.UnresolvedSet.{UnresolvedSet}
 use Rattle.base_kinds.specs.Schema.{SchemaNode}
 use Rattle.gnmi_set_msg.specs.declared.request.SetRequest.{SetRequest}
 use Rattle.gnmi_set_msg.specs.Asks.{ask_of}
@@ -27,12 +27,12 @@ some_none A a e = cc
 
 -- ---- what is asked
 
-asks_read : (schema : List SchemaNode) (read : Option SetRequest) (ask : SetAsk) → option_map ask_of read ≡ Some ask
+asks_read : (schema : List SchemaNode) (read : Option SetRequest) (ask : UnresolvedSet) → option_map ask_of read ≡ Some ask
     → set_ask schema read ≡ resolved schema ask
-asks_read schema None ask is = absurd (none_some SetAsk ask is)
-asks_read schema (Some request) ask is = ap (resolved schema) (some_same SetAsk (ask_of request) ask is)
+asks_read schema None ask is = absurd (none_some UnresolvedSet ask is)
+asks_read schema (Some request) ask is = ap (resolved schema) (some_same UnresolvedSet (ask_of request) ask is)
 
-pub resolved_so : (schema : List SchemaNode) (read : Option SetRequest) (ask : SetAsk) (result : Result Ask Refusal)
+pub resolved_so : (schema : List SchemaNode) (read : Option SetRequest) (ask : UnresolvedSet) (result : Result Ask Refusal)
     → option_map ask_of read ≡ Some ask → IsUnlessMemory refusals.NoMemory result (resolved schema ask)
     → IsUnlessMemory refusals.NoMemory result (set_ask schema read)
 resolved_so schema read ask result is resolves =
@@ -41,13 +41,13 @@ resolved_so schema read ask result is resolves =
 pub asks_none : (schema : List SchemaNode) (read : Option SetRequest) → option_map ask_of read ≡ None
     → set_ask schema read ≡ Err refusals.BadMessage
 asks_none schema None is = refl
-asks_none schema (Some request) is = absurd (some_none SetAsk (ask_of request) is)
+asks_none schema (Some request) is = absurd (some_none UnresolvedSet (ask_of request) is)
 
 -- ---- the front of the reply
 
 pub front_none : (read : Option SetRequest) → option_map ask_of read ≡ None → reply_front read ≡ Err refusals.BadMessage
 front_none None is = refl
-front_none (Some request) is = absurd (some_none SetAsk (ask_of request) is)
+front_none (Some request) is = absurd (some_none UnresolvedSet (ask_of request) is)
 
 judged_front : (request : SetRequest) (b : Bool) → is_too_large (longest_reply request) ≡ b
     → reply_front (Some request) ≡ cond b (Err refusals.TooLarge) (Ok (reply_message 0 request))

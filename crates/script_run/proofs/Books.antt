@@ -8,7 +8,7 @@ use Rattle.base_kinds.specs.declared.entry.View.{View}
 use Rattle.base_kinds.specs.declared.refusal.Refusal.{Refusal}
 use Rattle.base_kinds.specs.declared.refusal.Refusal.TheVariants as refusals
 use Rattle.base_kinds.specs.declared.request.Action.{Action}
-use Rattle.base_kinds.specs.declared.request.SetAsk.{SetAsk}
+use Rattle.base_kinds.specs.declared.request.UnresolvedSet.{UnresolvedSet}
 use Rattle.base_kinds.specs.Events.{is_long, set_answer, get_answer, view_of, view_or_not_found}
 use Rattle.base_kinds.specs.History.{world_of}
 use Rattle.base_kinds.specs.Parts.{part}
@@ -23,7 +23,7 @@ use Rattle.set_txn.specs.Resolution.{resolved}
 use Rattle.base_kinds.specs.declared.request.SubLine.{SubLine}
 use Rattle.script_run.specs.declared.calls.NamedCall.{NamedCall}
 use Rattle.script_run.specs.declared.pending.Pending.{Pending}
-use Rattle.script_run.specs.Requests.{set_ask}
+use Rattle.script_run.specs.Requests.{unresolved_set}
 use Rattle.script_run.specs.ScriptStates.{ScriptState, rules_in as state_rules, set_event, book_behind}
 use Rattle.script_run.specs.inner.ScriptBooks.{IsLeft, asked_event, asked_turn, left_by, left_by_look, looked_at, read_event, state_of}
 use Rattle.script_run.specs.Turns.{BookState, looked_by, turn, unless_failed}
@@ -201,10 +201,10 @@ state_seen seen reading pending subs calls = record {
 
 abbrev pub set_reply : ScriptState → ℕ → Action → Result ℕ Refusal
 set_reply state author action =
-    entry_stamp (unless_failed (book_behind (Some (set_event state author action)) state).failed (set_answer (state_rules state) state.history state.reading author (resolved state.schema (set_ask action state.pending))))
+    entry_stamp (unless_failed (book_behind (Some (set_event state author action)) state).failed (set_answer (state_rules state) state.history state.reading author (resolved state.schema (unresolved_set action state.pending))))
 
-pub replied : (seen : BookView FuseView) (reading : ℕ) (pending : Pending) (subs : List SubLine) (calls : List NamedCall) (author : ℕ) (action : Action) (request : SetAsk) (reply : Result ℕ Refusal) → request ≡ set_ask action pending
+pub replied : (seen : BookView FuseView) (reading : ℕ) (pending : Pending) (subs : List SubLine) (calls : List NamedCall) (author : ℕ) (action : Action) (request : UnresolvedSet) (reply : Result ℕ Refusal) → request ≡ unresolved_set action pending
     → reply ≡ entry_stamp (unless_failed (left_by (asked_event seen reading author request) seen).failed (set_answer (rules_in seen.opened) (history_in seen) reading author (resolved seen.opened.schema request)))
     → reply ≡ set_reply (state_seen seen reading pending subs calls) author action
 replied seen reading pending subs calls author action request reply asked given =
-    subst (λ (r : SetAsk). reply ≡ entry_stamp (unless_failed (left_by (asked_event seen reading author r) seen).failed (set_answer (rules_in seen.opened) (history_in seen) reading author (resolved seen.opened.schema r)))) asked given
+    subst (λ (r : UnresolvedSet). reply ≡ entry_stamp (unless_failed (left_by (asked_event seen reading author r) seen).failed (set_answer (rules_in seen.opened) (history_in seen) reading author (resolved seen.opened.schema r)))) asked given

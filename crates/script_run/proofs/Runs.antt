@@ -10,7 +10,7 @@ use Rattle.script_text.specs.Lines.{lines_of}
 use Rattle.commit_report.specs.Logs.{log_text}
 use Rattle.base_kinds.specs.Limits.{most_script_octets}
 use Rattle.script_run.specs.ScriptOctets.{is_too_long, to_last_feed, within_limit}
-use Rattle.script_run.specs.ScriptStates.{ScriptState, fresh}
+use Rattle.script_run.specs.ScriptStates.{ScriptState, new_state}
 use Rattle.script_run.specs.declared.run.ScriptEnd.{ScriptEnd}
 use Rattle.script_run.specs.declared.run.ScriptEnd.TheVariants.{Whole, Refused, DiskFault}
 use Rattle.script_run.specs.inner.Replies.{Acts}
@@ -74,5 +74,5 @@ of_whole schema limits octets more text ending (inr over) run =
     let within : most_script_octets ≤ length octets = omega (arith, over) in
     let same : take most_script_octets (octets ++ more) ≡ take most_script_octets octets = rw take-append-le in
     let lines : within_limit octets ≡ within_limit (octets ++ more) = front_of octets long ∙ ap to_last_feed (sym same) ∙ sym (front_of (octets ++ more) longer) in
-    subst (λ s. Prints (is_too_long (octets ++ more)) 1 (lines_of s) (fresh schema limits) text ending) lines
-    (subst (λ b. Prints b 1 (lines_of (within_limit octets)) (fresh schema limits) text ending) (long ∙ sym longer) run)
+    subst (λ s. Prints (is_too_long (octets ++ more)) 1 (lines_of s) (new_state schema limits) text ending) lines
+    (subst (λ b. Prints b 1 (lines_of (within_limit octets)) (new_state schema limits) text ending) (long ∙ sym longer) run)

@@ -7,7 +7,7 @@ use Rattle.base_kinds.specs.declared.entry.Entry.{Entry}
 use Rattle.base_kinds.specs.declared.entry.Limits.{Limits}
 use Rattle.base_kinds.specs.declared.refusal.Refusal.{Refusal}
 use Rattle.base_kinds.specs.declared.refusal.Refusal.TheVariants.{DiskFault}
-use Rattle.base_kinds.specs.declared.request.SetAsk.{SetAsk}
+use Rattle.base_kinds.specs.declared.request.UnresolvedSet.{UnresolvedSet}
 use Rattle.base_kinds.specs.declared.request.Action.{Action}
 use Rattle.base_kinds.specs.declared.request.Action.TheVariants as actions
 use Rattle.base_kinds.specs.Bases.{HasSoundTrees}
@@ -27,9 +27,9 @@ use Rattle.script_text.specs.declared.line.Line.{Line}
 use Rattle.script_text.specs.declared.line.Line.TheVariants as lines
 use Rattle.script_text.specs.Lines.{lines_of}
 use Rattle.script_text.proofs.Meanings.{one_meaning}
-use Rattle.script_run.specs.Requests.{set_ask}
+use Rattle.script_run.specs.Requests.{unresolved_set}
 use Rattle.script_run.specs.ScriptOctets.{is_too_long, within_limit}
-use Rattle.script_run.specs.ScriptStates.{ScriptState, fresh, rules_in, CountsAuthor, set_event, event_of_look, line_event, line_look, arming_with, book_in, book_behind, state_after}
+use Rattle.script_run.specs.ScriptStates.{ScriptState, new_state, rules_in, HasFitAuthor, set_event, event_of_look, line_event, line_look, arming_with, book_in, book_behind, state_after}
 use Rattle.book_core.specs.Calls.{expiry_entry}
 use Rattle.script_run.specs.AnswerLines.{event_reply, line_answer, line_text, look_reply}
 use Rattle.std.specs.List.{AllByRecursion}
@@ -38,7 +38,7 @@ use Rattle.script_run.specs.Restarts.{Takes}
 use Rattle.script_run.specs.Scripts.{Ends, Follows, IsTaken, Prints, RunsScript}
 use Rattle.script_run.specs.declared.run.ScriptEnd.{ScriptEnd}
 use Rattle.script_run.specs.Turns.{BookState, look_event, request_reply, unless_failed}
-use Rattle.script_run.specs.laws.ScriptLaws.{HasNoStop, HaveNoStops, LetsRun, NeverStops, state_behind, with_event, script_events, HaveAuthors, LetsPass, LetPass, IsQuiet, clock_event, IsDone, AreDone, LeavesBy}
+use Rattle.script_run.specs.laws.ScriptLaws.{HasNoStop, HaveNoStops, LetsRun, NeverStops, state_behind, with_event, script_events, HaveFitAuthors, LetsPass, LetPass, IsQuiet, clock_event, IsDone, AreDone, LeavesBy}
 use Rattle.set_txn.proofs.FitAsks.{resolved_is_fit}
 use Rattle.script_run.proofs.Running.{line_runs, takes_one}
 use Rattle.script_run.proofs.Turns.{book, with_entry, expiry_is}
@@ -77,14 +77,14 @@ makes_done (line ∷ ls) state =
     let first = done_first (line_event line state) state rest.0 in
     (first.events, (rest.0, first.are, rest.1), rest.2 ∙ first.whole)
 
-pub makes_histories : (schema : List SchemaNode) (limits : Limits) (ls : List Line) → IsHistory (state_behind ls (fresh schema limits)).history
+pub makes_histories : (schema : List SchemaNode) (limits : Limits) (ls : List Line) → IsHistory (state_behind ls (new_state schema limits)).history
 makes_histories schema limits ls =
-    let made = makes_done ls (fresh schema limits) in
+    let made = makes_done ls (new_state schema limits) in
     subst IsHistory (sym made.2) (events_keep_history (rules_of schema limits) [] made.0 tt)
 
 -- ---- legal histories
 
-asks_fit : (schema : List SchemaNode) (ask : SetAsk) (request : Result Ask Refusal) → resolved schema ask ≡ request → AsksFit request
+asks_fit : (schema : List SchemaNode) (ask : UnresolvedSet) (request : Result Ask Refusal) → resolved schema ask ≡ request → AsksFit request
 asks_fit schema ask (Ok it) is = resolved_is_fit schema ask it is
 asks_fit schema ask (Err refusal) is = tt
 
@@ -94,13 +94,13 @@ IsFitIfAny (Some event) = IsFitEvent event
 
 set_fits : (state : ScriptState) (author : ℕ) (action : Action) → 0 < author → IsFitEvent (set_event state author action)
 set_fits state author action counts =
-    record { author = omega (arith, counts); request_fits = asks_fit state.schema (set_ask action state.pending) (resolved state.schema (set_ask action state.pending)) refl }
+    record { author = omega (arith, counts); request_fits = asks_fit state.schema (unresolved_set action state.pending) (resolved state.schema (unresolved_set action state.pending)) refl }
 
 look_fits : (look : Option (List (List Elem))) (state : ScriptState) → IsFitIfAny (event_of_look look state)
 look_fits None state = tt
 look_fits (Some patterns) state = record { author = omega arith; request_fits = tt }
 
-event_fits : (line : Line) (state : ScriptState) → CountsAuthor line → IsFitIfAny (line_event line state)
+event_fits : (line : Line) (state : ScriptState) → HasFitAuthor line → IsFitIfAny (line_event line state)
 event_fits (lines.Set author) state counts = set_fits state author actions.Plain counts
 event_fits (lines.Get author pattern) state counts = record { author = omega (arith, counts); request_fits = tt }
 event_fits (lines.Trial author id span) state counts = set_fits state author (actions.Trial id span) counts
@@ -123,20 +123,20 @@ with_fit (Some event) false others done fit rest is = subst AreFitEvents (sym is
 with_fit (Some event) true others done fit rest (inl is) = subst AreFitEvents (sym is) rest
 with_fit (Some event) true others done fit rest (inr is) = subst AreFitEvents (sym is) (record { author = fit.author; request_fits = tt }, rest)
 
-done_fit : (ls : List Line) (state : ScriptState) (done : List Event) → HaveAuthors ls → AreDone ls state done → AreFitEvents done
+done_fit : (ls : List Line) (state : ScriptState) (done : List Event) → HaveFitAuthors ls → AreDone ls state done → AreFitEvents done
 done_fit [] state done have is = subst AreFitEvents (sym is) tt
 done_fit (line ∷ ls) state done have is =
     with_fit (line_event line state) (book_behind (line_event line state) state).failed is.0 done (event_fits line state have.0) (done_fit ls (state_after line state) is.0 have.1 is.2) is.1
 
-pub makes_legal_histories : (schema : List SchemaNode) (limits : Limits) (ls : List Line) → HaveAuthors ls → IsLegal (rules_of schema limits) [] (state_behind ls (fresh schema limits)).history
+pub makes_legal_histories : (schema : List SchemaNode) (limits : Limits) (ls : List Line) → HaveFitAuthors ls → IsLegal (rules_of schema limits) [] (state_behind ls (new_state schema limits)).history
 makes_legal_histories schema limits ls have =
     let rules = rules_of schema limits in
-    let made = makes_done ls (fresh schema limits) in
-    subst (IsLegal rules []) (sym made.2) (events_are_legal rules [] [] made.0 tt (done_fit ls (fresh schema limits) made.0 have made.1) (base_is_legal rules []))
+    let made = makes_done ls (new_state schema limits) in
+    subst (IsLegal rules []) (sym made.2) (events_are_legal rules [] [] made.0 tt (done_fit ls (new_state schema limits) made.0 have made.1) (base_is_legal rules []))
 
-pub makes_sound_trees : (schema : List SchemaNode) (limits : Limits) (ls : List Line) → HaveAuthors ls → HasSoundTrees schema (world_of (state_behind ls (fresh schema limits)).history)
+pub makes_sound_trees : (schema : List SchemaNode) (limits : Limits) (ls : List Line) → HaveFitAuthors ls → HasSoundTrees schema (world_of (state_behind ls (new_state schema limits)).history)
 makes_sound_trees schema limits ls have =
-    legal_trees_are_sound schema limits [] (state_behind ls (fresh schema limits)).history (record { tree = no_rows_are_sound schema; before = tt }) (makes_legal_histories schema limits ls have)
+    legal_trees_are_sound schema limits [] (state_behind ls (new_state schema limits)).history (record { tree = no_rows_are_sound schema; before = tt }) (makes_legal_histories schema limits ls have)
 
 -- ---- without `fail` and `stop` lines
 
@@ -224,12 +224,12 @@ prints_one more number (first ∷ others) state text text' ending ending' none n
 prints_one more number (first ∷ others) state text text' ending ending' none never (inr p) (inl q) = absurd (p.0 q.line q.meaning)
 prints_one more number (first ∷ others) state text text' ending ending' none never (inr p) (inr q) = (p.1 ∙ sym q.1, p.2 ∙ sym q.2)
 
-pub fresh_never_stops : (schema : List SchemaNode) (limits : Limits) → NeverStops (fresh schema limits).arming
+pub fresh_never_stops : (schema : List SchemaNode) (limits : Limits) → NeverStops (new_state schema limits).arming
 fresh_never_stops schema limits = record { stops = refl; stopped = refl }
 
 pub prints_one_text : (schema : List SchemaNode) (limits : Limits) (script text text' : List ℕ) (ending ending' : ScriptEnd) → HaveNoStops script → RunsScript schema limits script text ending → RunsScript schema limits script text' ending' → (text ≡ text') × (ending ≡ ending')
 unfolding RunsScript
-prints_one_text schema limits script text text' ending ending' none p q = prints_one (is_too_long script) 1 (lines_of (within_limit script)) (fresh schema limits) text text' ending ending' none (fresh_never_stops schema limits) p q
+prints_one_text schema limits script text text' ending ending' none p q = prints_one (is_too_long script) 1 (lines_of (within_limit script)) (new_state schema limits) text text' ending ending' none (fresh_never_stops schema limits) p q
 
 -- ---- what an answer says of the history
 

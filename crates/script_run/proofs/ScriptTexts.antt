@@ -14,7 +14,7 @@ use Rattle.script_text.specs.declared.line.Line.TheVariants as kinds
 use Rattle.script_text.specs.Lines.{lines_of}
 use Rattle.script_run.specs.AnswerLines.{answer_lines, event_reply, lines_if_any, line_text}
 use Rattle.script_run.specs.ScriptOctets.{is_too_long, to_last_feed, within_limit}
-use Rattle.script_run.specs.ScriptStates.{ScriptState, fresh, rules_in, line_event, state_after}
+use Rattle.script_run.specs.ScriptStates.{ScriptState, new_state, rules_in, line_event, state_after}
 use Rattle.script_run.specs.Scripts.{Prints, RunsScript}
 use Rattle.script_run.specs.Turns.{BookState, turn_answer}
 use Rattle.script_run.specs.declared.run.ScriptEnd.TheVariants.{Whole}
@@ -107,7 +107,7 @@ short_script script short = ap (λ b. if b then to_last_feed (take most_script_o
 runs_all : (schema : List SchemaNode) (limits : Limits) (script : List ℕ) (lines : List Line) → is_too_long script ≡ false → AreScriptLines (lines_of script) lines → LetRun lines → RunsScript schema limits script (whole_text schema limits lines) Whole
 unfolding RunsScript
 runs_all schema limits script lines short are lets =
-    let start = fresh schema limits in
+    let start = new_state schema limits in
     let text = whole_text schema limits lines in
     subst (λ b. Prints b 1 (lines_of (within_limit script)) start text Whole) (sym short)
     (subst (λ s. Prints false 1 (lines_of s) start text Whole) (sym (short_script script short)) (prints_all 1 (lines_of script) lines start are lets (fresh_never_stops schema limits)))
@@ -119,7 +119,7 @@ prints_answers schema limits script lines text ending short are lets runs =
 
 pub answers_events : AnswersEvents
 answers_events schema limits lines lets plain =
-    let start = fresh schema limits in
+    let start = new_state schema limits in
     let events = script_events lines start in
     let quiet : IsQuiet start = record { doubt = refl; arming = refl } in
     let log = codes "log\n" ++ log_text (state_behind lines start).history in

@@ -27,7 +27,7 @@ use Rattle.script_run.specs.AnswerLines.{line_answer}
 use Rattle.script_run.specs.CallViews.{PollCall, StreamCall}
 use Rattle.script_run.specs.OpenCalls.{call_at, call_named, has_name, with_call, without_call, without_place}
 use Rattle.script_run.specs.Restarts.{Takes, TakesBy, restarted_state}
-use Rattle.script_run.specs.ScriptStates.{ScriptState, fresh, line_look, line_step, look_answer, state_after}
+use Rattle.script_run.specs.ScriptStates.{ScriptState, new_state, line_look, line_step, look_answer, state_after}
 use Rattle.script_run.specs.Stops.{Restarted}
 use Rattle.script_run.specs.declared.subscribing.CallReply.TheVariants as replies
 use Rattle.script_run.specs.Subscribing.{CallStep, step_with, calls_left, end_step, open_by, once_reply, open_look, open_planned, open_step, planned_look, poll_look, poll_step, poll_turn, stream_turn, sub_ask, turn_look, turn_step}
@@ -219,7 +219,7 @@ lead_over [] state left all leads = subst (λ (s : ScriptState). AreOver s.histo
 lead_over (line ∷ ls) state left all leads = lead_over ls leads.1 left (taken_over line state leads.1 leads.0 all leads.2) leads.3
 
 pub streams_are_runs : StreamsAreRuns
-streams_are_runs schema limits ls left leads = lead_over ls (fresh schema limits) left tt leads
+streams_are_runs schema limits ls left leads = lead_over ls (new_state schema limits) left tt leads
 
 -- ---- what a turn says
 

@@ -7,7 +7,7 @@ use Rattle.script_text.specs.declared.line.Line.{Line}
 use Rattle.script_text.specs.Lines.{lines_of}
 use Rattle.script_run.specs.Restarts.{Takes, TakesBy}
 use Rattle.script_run.specs.ScriptOctets.{is_too_long, within_limit}
-use Rattle.script_run.specs.ScriptStates.{ScriptState, fresh, state_after}
+use Rattle.script_run.specs.ScriptStates.{ScriptState, new_state, state_after}
 use Rattle.script_run.specs.Scripts.{Follows, Prints, RunsScript}
 use Rattle.script_run.specs.declared.run.ScriptEnd.{ScriptEnd}
 use Rattle.script_run.specs.declared.run.ScriptEnd.TheVariants.{Whole, Refused, DiskFault}
@@ -86,10 +86,10 @@ all_kept (line ∷ lines) state last text running taken = (
 pub whole_scripts_keep : (schema : List SchemaNode) (limits : Limits) (script text : List ℕ) → RunsScript schema limits script text Whole → KeepsAnswers schema limits script text
 unfolding RunsScript
 whole_scripts_keep schema limits script text runs =
-    let found = way (is_too_long script) 1 (lines_of (within_limit script)) (fresh schema limits) text Whole refl runs in
+    let found = way (is_too_long script) 1 (lines_of (within_limit script)) (new_state schema limits) text Whole refl runs in
     record {
       lines = found.lines;
       are = found.are;
       last = found.last;
-      kept = all_kept found.lines (fresh schema limits) found.last text refl found.taken;
+      kept = all_kept found.lines (new_state schema limits) found.last text refl found.taken;
     }

@@ -6,7 +6,7 @@ use Rattle.base_kinds.specs.declared.operation.Act.TheVariants.{Delete, Replace,
 use Rattle.base_kinds.specs.declared.request.Change.{Change}
 use Rattle.base_kinds.specs.declared.request.Given.TheVariants.{Json}
 use Rattle.base_kinds.specs.declared.request.Action.{Action}
-use Rattle.base_kinds.specs.declared.request.SetAsk.{SetAsk}
+use Rattle.base_kinds.specs.declared.request.UnresolvedSet.{UnresolvedSet}
 use Rattle.script_run.specs.declared.pending.Pending.{Pending}
 
 abbrev pub nothing_pending : Pending
@@ -25,8 +25,8 @@ with_operation Update path value pending =
     record pending { updates = pending.updates ++ change path value ∷ [] }
 
 -- a Set of these operations with this action, without a prefix
-abbrev pub set_ask : Action → Pending → SetAsk
-set_ask action pending =
+abbrev pub unresolved_set : Action → Pending → UnresolvedSet
+unresolved_set action pending =
     record {
       prefix = [];
       target = [];

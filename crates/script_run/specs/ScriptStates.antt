@@ -18,7 +18,7 @@ use Rattle.set_txn.specs.Resolution.{resolved}
 use Rattle.script_text.specs.declared.line.Line.{Line}
 use Rattle.script_text.specs.declared.line.Line.TheVariants as lines
 use Rattle.script_run.specs.declared.pending.Pending.{Pending}
-use Rattle.script_run.specs.Requests.{nothing_pending, with_operation, set_ask}
+use Rattle.script_run.specs.Requests.{nothing_pending, with_operation, unresolved_set}
 use Rattle.script_run.specs.Subscribing.{CallStep, look_of, call_step, calls_left}
 use Rattle.script_run.specs.Turns.{BookState, book_after, look_event, looked_by}
 use Rattle.script_run.specs.declared.calls.NamedCall.{NamedCall}
@@ -36,11 +36,11 @@ pub record ScriptState : Type 0 where
   pub doubt : Option Entry
   pub arming : Arming
 
-abbrev pub fresh : List SchemaNode → Limits → ScriptState
-fresh schema limits =
+-- before the first line
+abbrev pub new_state : List SchemaNode → Limits → ScriptState
+new_state schema limits =
     record {
-      schema =
-          schema;
+      schema = schema;
       limits = limits;
       reading = 0;
       pending = nothing_pending;
@@ -59,7 +59,7 @@ abbrev pub set_event : ScriptState → ℕ → Action → Event
 set_event state author action = record {
   reading = state.reading;
   author = author;
-  request = Set (resolved state.schema (set_ask action state.pending));
+  request = Set (resolved state.schema (unresolved_set action state.pending));
 }
 
 -- the patterns that a line of subscriptions looks at, where it takes a turn of the book
@@ -94,15 +94,15 @@ line_event (lines.Stop calls fill) state = None
 line_event (lines.Fail calls) state = None
 
 -- author 0 is the target itself, and neither sets nor reads
-abbrev pub CountsAuthor : Line → Type 0
-CountsAuthor (lines.Set author) = 0 < author
-CountsAuthor (lines.Get author pattern) = 0 < author
-CountsAuthor (lines.Trial author id span) = 0 < author
-CountsAuthor (lines.Confirm author id) = 0 < author
-CountsAuthor (lines.Cancel author id) = 0 < author
-CountsAuthor (lines.Extend author id span) = 0 < author
-CountsAuthor (lines.Open author name mode only) = 0 < author
-CountsAuthor _ = Unit {0}
+abbrev pub HasFitAuthor : Line → Type 0
+HasFitAuthor (lines.Set author) = 0 < author
+HasFitAuthor (lines.Get author pattern) = 0 < author
+HasFitAuthor (lines.Trial author id span) = 0 < author
+HasFitAuthor (lines.Confirm author id) = 0 < author
+HasFitAuthor (lines.Cancel author id) = 0 < author
+HasFitAuthor (lines.Extend author id span) = 0 < author
+HasFitAuthor (lines.Open author name mode only) = 0 < author
+HasFitAuthor _ = Unit {0}
 
 -- the clock is set by its line alone
 abbrev pub reading_after : Line → ℕ → ℕ

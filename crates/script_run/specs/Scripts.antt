@@ -9,7 +9,7 @@ use Rattle.script_text.specs.declared.line.Line.{Line}
 use Rattle.script_text.specs.Grammar.{IsLine}
 use Rattle.script_text.specs.Lines.{lines_of}
 use Rattle.script_run.specs.ScriptOctets.{is_too_long, within_limit}
-use Rattle.script_run.specs.ScriptStates.{ScriptState, fresh}
+use Rattle.script_run.specs.ScriptStates.{ScriptState, new_state}
 use Rattle.script_run.specs.Restarts.{Takes}
 use Rattle.script_run.specs.declared.run.ScriptEnd.{ScriptEnd}
 use Rattle.script_run.specs.declared.run.ScriptEnd.TheVariants.{Whole, Refused, DiskFault}
@@ -55,4 +55,5 @@ Prints goes_on number (octets ∷ others) state text ending =
 -- under this schema and these limits a script prints this text, and ends so
 unfoldable pub RunsScript : List SchemaNode → Limits → List ℕ → List ℕ → ScriptEnd → Type 0
 RunsScript schema limits script text ending =
-    Prints (is_too_long script) 1 (lines_of (within_limit script)) (fresh schema limits) text ending
+    Prints (is_too_long script) 1 (lines_of (within_limit script)) (new_state schema limits) text
+    ending

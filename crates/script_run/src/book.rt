@@ -11,7 +11,9 @@ ghost use Rattle.script_run.specs.inner.ScriptBooks.{IsNew, IsLeft, MayStand, as
 ghost use Rattle.script_run.specs.AnswerLines.{entry_stamp};
 ghost use Rattle.script_run.specs.Turns.{unless_failed};
 
-use base_kinds::{Ask, Fill, Limits, MOST_ELEMENTS, NoMemory, Path, Paths, Refusal, SetAsk, View};
+use base_kinds::{
+    Ask, Fill, Limits, MOST_ELEMENTS, NoMemory, Path, Paths, Refusal, UnresolvedSet, View,
+};
 use book_core::{Book, BookOpening, doubts_may_stand};
 use commit_journal::Ledger;
 use memory_disks::{FuseDisk, MemDisk, NO_STOP};
@@ -46,7 +48,7 @@ pub fn set(
     book: &mut ScriptBook,
     reading: u64,
     author: u32,
-    request: SetAsk,
+    request: UnresolvedSet,
 ) -> Result<Result<u64, Refusal>, NoMemory>
     requires author { 0 < author }
     requires may_stand { MayStand book.old }

@@ -1,8 +1,9 @@
 ghost use Rattle.std.specs.Prelude.{◌≡◌, [], IfOk, OnOk};
-ghost use Rattle.script_run.specs.Requests.{nothing_pending, change as json_change, with_operation, set_ask};
+ghost use Rattle.script_run.specs.Requests.{nothing_pending, change as json_change, with_operation, unresolved_set};
 
 use base_kinds::{
-    Act, Action, Bytes, Change, Changes, Given, NoMemory, Path, Paths, SetAsk, Text, TextOfFault,
+    Act, Action, Bytes, Change, Changes, Given, NoMemory, Path, Paths, Text, TextOfFault,
+    UnresolvedSet,
 };
 use std::alloc::Global;
 
@@ -37,8 +38,8 @@ impl Pending {
     }
 
     /// A Set of these operations with this action.
-    pub fn into_set(self, alloc: Global, action: Action) -> Result<SetAsk, NoMemory>
-        ensures { IfOk result (λ ask. ask ≡ set_ask action self) }
+    pub fn into_set(self, alloc: Global, action: Action) -> Result<UnresolvedSet, NoMemory>
+        ensures { IfOk result (λ ask. ask ≡ unresolved_set action self) }
     {
         let target = empty_text(alloc)?;
         let Pending {
@@ -46,7 +47,7 @@ impl Pending {
             replaces,
             updates,
         } = self;
-        Ok(SetAsk {
+        Ok(UnresolvedSet {
             prefix: Path::empty(alloc),
             target,
             deletes,

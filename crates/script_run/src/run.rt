@@ -2,7 +2,7 @@ ghost use Rattle.std.specs.Prelude.{◌≡◌, ◌≤◌, ◌++◌, [], length, 
 ghost use Rattle.base_kinds.specs.Limits.{AreInRange, most_script_octets};
 ghost use Rattle.script_text.specs.declared.line.Line.{Line as ScriptLine};
 ghost use Rattle.script_text.specs.Lines.{lines_of};
-ghost use Rattle.script_run.specs.ScriptStates.{CountsAuthor};
+ghost use Rattle.script_run.specs.ScriptStates.{HasFitAuthor};
 ghost use Rattle.script_run.specs.inner.ScriptEnds.{text_at_end};
 ghost use Rattle.script_text.specs.Grammar.{IsLine};
 ghost use Rattle.script_run.specs.Scripts.{Prints, RunsScript, refused_line};
@@ -46,7 +46,7 @@ pub fn run_script(
     ensures { IfOk result (λ transcript.
         RunsScript schema limits script.now transcript.text transcript.ending) }
 {
-    let mut state = ScriptState::fresh(alloc, schema, limits)?;
+    let mut state = ScriptState::new(alloc, schema, limits)?;
     let mut text = Bytes::empty(alloc);
     let goes_on = is_too_long(script);
     let ending = take_lines(alloc, &mut state, goes_on, within_limit(script), &mut text)?;
@@ -110,10 +110,10 @@ fn take_lines(
 }
 
 /// The line that the octets are.
-#[tactic(auto, using(crate::proofs::Authors::counts_author))]
+#[tactic(auto, using(crate::proofs::Authors::has_fit_author))]
 fn script_line(alloc: Global, octets: &[u8]) -> Result<Option<Line>, NoMemory>
     ensures line { IfOk result (λ found. IfSome found (IsLine octets.now)) }
-    ensures author { IfOk result (λ found. IfSome found CountsAuthor) }
+    ensures author { IfOk result (λ found. IfSome found HasFitAuthor) }
     ensures no_line { IfOk result (λ found.
         IfNone found ((line : ScriptLine) → IsLine octets.now line → ⊥)) }
 {

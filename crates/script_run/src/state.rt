@@ -2,7 +2,7 @@ ghost use Rattle.std.specs.Prelude.{◌≡◌, ◌<◌, ◌++◌, IfOk, OnOk, So
 ghost use Rattle.base_kinds.specs.Limits.{AreInRange};
 ghost use Rattle.script_run.specs.inner.ScriptBooks.{state_after_set};
 ghost use Rattle.script_run.specs.inner.ScriptEnds.{text_at_end};
-ghost use Rattle.script_run.specs.ScriptStates.{fresh as fresh_state, CountsAuthor, set_event, state_after};
+ghost use Rattle.script_run.specs.ScriptStates.{new_state, HasFitAuthor, set_event, state_after};
 ghost use Rattle.script_run.specs.AnswerLines.{event_reply};
 ghost use Rattle.script_run.specs.inner.Replies.{Acts, line_of_opening, reply_at, reply_of};
 ghost use Rattle.script_text.specs.declared.line.Line.TheVariants.{Turn as LineTurn, Poll as LinePoll};
@@ -59,9 +59,9 @@ impl Model for ScriptState {
 }
 
 impl ScriptState {
-    pub fn fresh(alloc: Global, schema: Schema, limits: Limits) -> Result<ScriptState, NoMemory>
+    pub fn new(alloc: Global, schema: Schema, limits: Limits) -> Result<ScriptState, NoMemory>
         requires { AreInRange limits }
-        ensures { IfOk result (λ state. state ≡ fresh_state schema limits) }
+        ensures { IfOk result (λ state. state ≡ new_state schema limits) }
     {
         Ok(ScriptState {
             book: new_book(alloc, schema, limits)?,
@@ -84,7 +84,7 @@ impl ScriptState {
     /// Takes the next line, and adds what is printed at it. The answer is whether the script goes on, and it does unless no
     /// book could be opened behind a stop. After want of memory let the state go.
     pub fn act(&mut self, alloc: Global, line: Line, out: &mut Bytes) -> Result<bool, NoMemory>
-        requires author { CountsAuthor line }
+        requires author { HasFitAuthor line }
         ensures { IfOk result (Acts line self.old self.new out.old out.new) }
     {
         let reply = self.take(alloc, line)?;
@@ -99,7 +99,7 @@ impl ScriptState {
     /// Takes the next line's turn, and answers what it is answered.
     #[tactic(auto, unfolding(crate::specs::ScriptStates::state_after))]
     fn take(&mut self, alloc: Global, line: Line) -> Result<Option<Reply>, NoMemory>
-        requires author { CountsAuthor line }
+        requires author { HasFitAuthor line }
         ensures state { OnOk result (self.new ≡ state_after line self.old) }
         ensures reply { IfOk result
             (λ reply. reply ≡ reply_at line self.old) }

@@ -10,19 +10,19 @@ use Rattle.script_text.specs.declared.line.Line.TheVariants as lines
 use Rattle.script_text.specs.Grammar.{IsLine, IsSubscription, Says}
 
 -- a Set has an author
-abbrev CountsAuthor : Line → Type 0
-CountsAuthor (lines.Set author) = 1 ≤ author
-CountsAuthor _ = Unit {0}
+abbrev HasFitAuthor : Line → Type 0
+HasFitAuthor (lines.Set author) = 1 ≤ author
+HasFitAuthor _ = Unit {0}
 
-uncounted : (line other : Line) → line ≡ other → CountsAuthor other → CountsAuthor line
-uncounted line other is counts = subst CountsAuthor (sym is) counts
+uncounted : (line other : Line) → line ≡ other → HasFitAuthor other → HasFitAuthor line
+uncounted line other is counts = subst HasFitAuthor (sym is) counts
 
-of_subscription : (path : List Elem) (mode : SubMode) (rest : List ℕ) (line : Line) → IsSubscription path mode rest line → CountsAuthor line
+of_subscription : (path : List Elem) (mode : SubMode) (rest : List ℕ) (line : Line) → IsSubscription path mode rest line → HasFitAuthor line
 of_subscription path sub_modes.Change rest line said = uncounted line _ said.made tt
 of_subscription path sub_modes.Sample rest line said = uncounted line _ said.next.next.made tt
 of_subscription path sub_modes.Other rest line said = absurd said
 
-of_keyword : (keyword : Keyword) (rest : List ℕ) (line : Line) → Says keyword rest line → CountsAuthor line
+of_keyword : (keyword : Keyword) (rest : List ℕ) (line : Line) → Says keyword rest line → HasFitAuthor line
 of_keyword keywords.At rest line said = uncounted line _ said.made tt
 of_keyword keywords.Delete rest line said = uncounted line _ said.made tt
 of_keyword keywords.Replace rest line said = uncounted line _ said.next.made tt

@@ -27,9 +27,9 @@ use Rattle.h2_calls.specs.Payloads.{content, number}
 use Rattle.h2_calls.specs.Requests.{is_well_formed}
 use Rattle.h2_calls.specs.Blocks.{refused, request, later_block, block_on, headers_mean}
 use Rattle.h2_calls.specs.Calls.{Moment, read, frames_of, events_of, new_peer}
-use Rattle.h2_calls.specs.Meanings.{Meaning, said, block_ends, data_on, data_with, data_means, with_fragment, longer, headers_with, headers_begin, continuation_means, priority_means, reset_on, rst_stream_means, settings_told, settings_mean, ping_means, goaway_means, increment_on, increment_means, window_update_means, kind_means, next_means, meaning_of, Comes, Means}
+use Rattle.h2_calls.specs.Meanings.{Meaning, said, block_ends, data_on, data_with, data_means, with_fragment, longer, headers_with, headers_begin, continuation_means, priority_means, reset_on, rst_stream_means, outcome_of_settings, settings_mean, ping_means, goaway_means, increment_on, increment_means, window_update_means, kind_means, next_means, meaning_of, Comes, Means}
 use Rattle.h2_calls.specs.Laws.{IsSoundPeer, IsReadable, HasClientStream}
-use Rattle.h2_calls.proofs.CallLemmas.{calls_cut, frames_joined, highest_told}
+use Rattle.h2_calls.proofs.CallLemmas.{calls_cut, frames_joined, highest_is_from_events}
 use Rattle.h2_calls.proofs.SoundLemmas.{sound_moments}
 use Rattle.h2_recv.specs.declared.reader.Reader.{Reader}
 use Rattle.h2_recv.specs.Receiving.{ReadsWithEnds, new_reader}
@@ -118,7 +118,7 @@ module _ (highest : ℕ) where
       (either (is_idle peer frame.head.stream) (Err protocol_error) (reset_on frame.head.stream (state_among frame.head.stream peer.streams) peer)
       (fault protocol_error) (reset_new frame.head.stream (state_among frame.head.stream peer.streams) peer))
 
-  settings_told_new : (told : Result Settings ℕ) (peer : Peer) → IsNew highest (settings_told told peer)
+  settings_told_new : (told : Result Settings ℕ) (peer : Peer) → IsNew highest (outcome_of_settings told peer)
   settings_told_new (Err code) peer = fault code
   settings_told_new (Ok told) peer = record { new = record { above = λ s is. none_opened is } }
 
@@ -275,4 +275,4 @@ opens_above octets moments frame x reader reads =
     let r = reads.reaches in
     let cut = calls_cut new_peer reader.peer moments (read frame (Some x) ∷ []) r.calls in
     let sound = sound_moments new_peer cut.0 moments sound_at_first cut.1 (frames_front r.behind reader.rest moments (read frame (Some x) ∷ []) r.leading) in
-    subst (λ (n : ℕ). OpensAbove n x) (highest_told new_peer cut.0 moments cut.1) (means_new cut.0 cut.2.0 frame x sound.1 cut.2.1)
+    subst (λ (n : ℕ). OpensAbove n x) (highest_is_from_events new_peer cut.0 moments cut.1) (means_new cut.0 cut.2.0 frame x sound.1 cut.2.1)

@@ -12,7 +12,7 @@ use Rattle.base_kinds.specs.declared.operation.Act.TheVariants.{Replace, Update}
 use Rattle.base_kinds.specs.declared.request.Change.{Change}
 use Rattle.base_kinds.specs.declared.request.Given.{Given}
 use Rattle.base_kinds.specs.declared.request.Given.TheVariants as given
-use Rattle.base_kinds.specs.declared.request.SetAsk.{SetAsk}
+use Rattle.base_kinds.specs.declared.request.UnresolvedSet.{UnresolvedSet}
 use Rattle.base_kinds.specs.declared.refusal.Refusal.{Refusal}
 use Rattle.base_kinds.specs.declared.refusal.Refusal.TheVariants as refusals
 use Rattle.base_kinds.specs.declared.schema.Shape.{Shape}
@@ -195,11 +195,11 @@ of_delete prefix path =
 
 -- ---- requests
 
-in_none : (schema : List SchemaNode) (ask : SetAsk) (refusal : Refusal) → ((path : List Elem) → IsCauseInDelete path refusal → ⊥) → ((path : List Elem) (value : Given) → IsCauseInChange schema path value refusal → ⊥) → IsCauseInOperations schema ask refusal → ⊥
+in_none : (schema : List SchemaNode) (ask : UnresolvedSet) (refusal : Refusal) → ((path : List Elem) → IsCauseInDelete path refusal → ⊥) → ((path : List Elem) (value : Given) → IsCauseInChange schema path value refusal → ⊥) → IsCauseInOperations schema ask refusal → ⊥
 in_none schema ask refusal no_delete no_change (inl c) = no_delete (ask.prefix ++ c.0) c.2
 in_none schema ask refusal no_delete no_change (inr c) = no_change (ask.prefix ++ c.0.path) c.0.given c.2
 
-module _ (schema : List SchemaNode) (formed : IsWellFormed schema) (ask : SetAsk) where
+module _ (schema : List SchemaNode) (formed : IsWellFormed schema) (ask : UnresolvedSet) where
   abbrev O : Refusal → Type 0
   O = IsCauseInOperations schema ask
 

@@ -12,7 +12,7 @@ use Rattle.base_kinds.specs.declared.operation.Act.TheVariants.{Delete, Replace,
 use Rattle.base_kinds.specs.declared.request.Action.{Action}
 use Rattle.base_kinds.specs.declared.request.Action.TheVariants as actions
 use Rattle.base_kinds.specs.declared.request.Change.{Change}
-use Rattle.base_kinds.specs.declared.request.SetAsk.{SetAsk}
+use Rattle.base_kinds.specs.declared.request.UnresolvedSet.{UnresolvedSet}
 use Rattle.base_kinds.specs.declared.request.Span.{Span}
 use Rattle.base_kinds.specs.declared.request.Span.TheVariants as spans
 use Rattle.base_kinds.specs.declared.refusal.Refusal.{Refusal}
@@ -126,7 +126,7 @@ change_fit schema prefix act takes change op e =
     let v = followed (rows_of_value schema path change.given) (op_with act path w.a) op w.then in
     op_fit act takes path w.a v.a op fit v.then
 
-pub fit_ops : (schema : List SchemaNode) (ask : SetAsk) (ops : List Op) → ops_of_request schema ask ≡ Ok ops → AreFitOps ops
+pub fit_ops : (schema : List SchemaNode) (ask : UnresolvedSet) (ops : List Op) → ops_of_request schema ask ≡ Ok ops → AreFitOps ops
 fit_ops schema ask ops e =
     let replaced = traverse (op_of_change schema ask.prefix Replace) ask.replaces in
     let updated = traverse (op_of_change schema ask.prefix Update) ask.updates in
@@ -167,7 +167,7 @@ fit_action (actions.Cancel id) nanos ops good e fit = good
 fit_action (actions.Extend id span) nanos ops good e fit = record { id_fits = good; duration_fits = fit_duration span nanos e }
 fit_action actions.Mixed nanos ops good e fit = fit
 
-pub fit_ask : (ask : SetAsk) (nanos : ℕ) (ops : List Op) → checked_duration ask ≡ Ok nanos → AreFitOps ops → IsFit (ask_of ask.action ops nanos)
+pub fit_ask : (ask : UnresolvedSet) (nanos : ℕ) (ops : List Op) → checked_duration ask ≡ Ok nanos → AreFitOps ops → IsFit (ask_of ask.action ops nanos)
 fit_ask ask nanos ops e fit =
     let given = ok_or (action_duration ask.action) BadDuration in
     let a = not_refused ask.unsupported Unsupported (cond (is_mixed ask.action (has_operations ask)) (Err MixedAction) (cond (not (has_fit_id ask.action)) (Err BadId) given)) nanos e in
@@ -181,14 +181,14 @@ fit_ask ask nanos ops e fit =
 
 -- laws
 
-record Made (ask : SetAsk) (schema : List SchemaNode) (it : Ask) : Type 0 where
+record Made (ask : UnresolvedSet) (schema : List SchemaNode) (it : Ask) : Type 0 where
   nanos : ℕ
   ops : List Op
   timed : checked_duration ask ≡ Ok nanos
   resolved_ops : ops_of_request schema ask ≡ Ok ops
   is : ask_of ask.action ops nanos ≡ it
 
-made : (schema : List SchemaNode) (ask : SetAsk) (it : Ask) → resolved schema ask ≡ Ok it → Made ask schema it
+made : (schema : List SchemaNode) (ask : UnresolvedSet) (it : Ask) → resolved schema ask ≡ Ok it → Made ask schema it
 made schema ask it e =
     let d = followed (checked_duration ask) (λ nanos. and_then (ops_of_request schema ask) (λ ops. Ok (ask_of ask.action ops nanos))) it e in
     let o = followed (ops_of_request schema ask) (λ ops. Ok (ask_of ask.action ops d.a)) it d.then in

@@ -12,7 +12,7 @@ use Rattle.base_kinds.specs.declared.operation.Act.TheVariants.{Delete, Replace,
 use Rattle.base_kinds.specs.declared.request.Change.{Change}
 use Rattle.base_kinds.specs.declared.request.Given.{Given}
 use Rattle.base_kinds.specs.declared.request.Given.TheVariants as given
-use Rattle.base_kinds.specs.declared.request.SetAsk.{SetAsk}
+use Rattle.base_kinds.specs.declared.request.UnresolvedSet.{UnresolvedSet}
 use Rattle.base_kinds.specs.declared.refusal.Refusal.{Refusal}
 use Rattle.base_kinds.specs.declared.refusal.Refusal.TheVariants.{BadPath, NotInSchema, BadValue, Unsupported, BadDuration, MixedAction, BadId}
 use Rattle.base_kinds.specs.Schema.{SchemaNode, node_at}
@@ -119,7 +119,7 @@ change_refuses schema prefix act change =
     (λ keys. from_then (rows_of_value schema path change.given) (op_with act path keys) (value_refuses schema path change.given) (with_refuses act path keys)))
     (from_err BadPath tt)
 
-ops_refuse : (schema : List SchemaNode) (ask : SetAsk) → Refuses (ops_of_request schema ask)
+ops_refuse : (schema : List SchemaNode) (ask : UnresolvedSet) → Refuses (ops_of_request schema ask)
 ops_refuse schema ask =
     let replaced = traverse (op_of_change schema ask.prefix Replace) ask.replaces in
     let updated = traverse (op_of_change schema ask.prefix Update) ask.updates in
@@ -133,7 +133,7 @@ ops_refuse schema ask =
 
 -- the action
 
-duration_refuses : (ask : SetAsk) → Refuses (checked_duration ask)
+duration_refuses : (ask : UnresolvedSet) → Refuses (checked_duration ask)
 duration_refuses ask =
     let last = ok_or (action_duration ask.action) BadDuration in
     from_test ask.unsupported (Err Unsupported) (cond (is_mixed ask.action (has_operations ask)) (Err MixedAction) (cond (not (has_fit_id ask.action)) (Err BadId) last)) (from_err Unsupported tt)

@@ -8,12 +8,12 @@ use Rattle.base_kinds.specs.declared.request.Span.{Span}
 use Rattle.base_kinds.specs.declared.request.Span.TheVariants as spans
 use Rattle.base_kinds.specs.declared.request.Action.{Action}
 use Rattle.base_kinds.specs.declared.request.Action.TheVariants as actions
-use Rattle.base_kinds.specs.declared.request.SetAsk.{SetAsk}
+use Rattle.base_kinds.specs.declared.request.UnresolvedSet.{UnresolvedSet}
 use Rattle.base_kinds.specs.Legal.{is_fit_id, is_fit_duration}
 use Rattle.base_kinds.specs.Limits.{second, default_duration}
 use Rattle.set_txn.specs.Numbers.{natural}
 
-abbrev pub has_operations : SetAsk → Bool
+abbrev pub has_operations : UnresolvedSet → Bool
 has_operations ask =
     not (length ask.deletes == 0) || not (length ask.replaces == 0) || not (length ask.updates == 0)
 

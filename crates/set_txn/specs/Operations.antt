@@ -9,7 +9,7 @@ use Rattle.base_kinds.specs.declared.operation.Op.{Op}
 use Rattle.base_kinds.specs.declared.operation.Act.{Act}
 use Rattle.base_kinds.specs.declared.operation.Act.TheVariants.{Delete, Replace, Update}
 use Rattle.base_kinds.specs.declared.request.Change.{Change}
-use Rattle.base_kinds.specs.declared.request.SetAsk.{SetAsk}
+use Rattle.base_kinds.specs.declared.request.UnresolvedSet.{UnresolvedSet}
 use Rattle.base_kinds.specs.declared.refusal.Refusal.{Refusal}
 use Rattle.base_kinds.specs.declared.refusal.Refusal.TheVariants.{BadPath, BadValue}
 use Rattle.base_kinds.specs.Legal.{is_fit_path, is_fit_row}
@@ -61,7 +61,7 @@ op_of_change schema prefix act change =
     then op_at schema act (prefix ++ change.path) change else Err BadPath
 
 -- the deletes, then the replaces, then the updates, each in list order
-abbrev pub ops_of_request : List SchemaNode → SetAsk → Result (List Op) Refusal
+abbrev pub ops_of_request : List SchemaNode → UnresolvedSet → Result (List Op) Refusal
 ops_of_request schema ask =
     and_then (traverse (op_of_delete ask.prefix) ask.deletes) (λ deletes.
     and_then (traverse (op_of_change schema ask.prefix Replace) ask.replaces) (λ replaces.

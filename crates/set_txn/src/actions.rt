@@ -6,12 +6,12 @@ ghost use Rattle.set_txn.specs.Resolution.{checked_duration};
 use crate::numbers::natural;
 use base_kinds::{
     Action, Ask, Copied, DEFAULT_DURATION, LONGEST_DURATION, NoMemory, Ops, Refusal, SECOND,
-    SHORTEST_DURATION, SetAsk, Span, is_fit_id,
+    SHORTEST_DURATION, Span, UnresolvedSet, is_fit_id,
 };
 use std::alloc::Global;
 
 /// The duration of the request's action in nanoseconds, once the action is one that may be asked; 0 where it has none.
-pub(crate) fn checked_duration(ask: &SetAsk) -> Result<u64, Refusal>
+pub(crate) fn checked_duration(ask: &UnresolvedSet) -> Result<u64, Refusal>
     ensures { result ≡ checked_duration ask.now }
 {
     if ask.unsupported {
@@ -42,7 +42,7 @@ pub(crate) fn ask_of(alloc: Global, action: &Action, ops: Ops, nanos: u64) -> Re
     }
 }
 
-fn has_operations(ask: &SetAsk) -> bool
+fn has_operations(ask: &UnresolvedSet) -> bool
     ensures { result ≡ has_operations ask.now }
 {
     ask.deletes.len() != 0 || ask.replaces.len() != 0 || ask.updates.len() != 0

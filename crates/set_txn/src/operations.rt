@@ -7,14 +7,18 @@ use crate::fitness::{are_fit_rows, has_wildcard, is_whole_path};
 use crate::key_leaves::key_leaves_of;
 use crate::key_merge::{key_leaves_agree, with_keys};
 use crate::value_rows::rows_of_value;
-use base_kinds::{Act, Change, Op, Ops, Path, Refusal, Rows, Seq, SetAsk};
+use base_kinds::{Act, Change, Op, Ops, Path, Refusal, Rows, Seq, UnresolvedSet};
 use path_core::{PathFault, join_prefix};
 use schema_core::Schema;
 use std::alloc::Global;
 
 /// The deletes, then the replaces, then the updates, each in list order.
 #[tactic(auto, using(crate::proofs::Traversals::in_three))]
-pub(crate) fn ops_of_request(alloc: Global, schema: &Schema, ask: &SetAsk) -> Result<Ops, Refusal>
+pub(crate) fn ops_of_request(
+    alloc: Global,
+    schema: &Schema,
+    ask: &UnresolvedSet,
+) -> Result<Ops, Refusal>
     ensures answer { IsUnlessMemory Refusal.NoMemory result (ops_of_request schema.now ask.now) }
 {
     let mut ops = Seq::empty(alloc);

@@ -5,7 +5,7 @@ ghost use Rattle.set_txn.specs.Resolution.{resolved};
 
 use crate::actions::{ask_of, checked_duration};
 use crate::operations::ops_of_request;
-use base_kinds::{Ask, Refusal, SetAsk};
+use base_kinds::{Ask, Refusal, UnresolvedSet};
 use schema_core::Schema;
 use std::alloc::Global;
 
@@ -16,7 +16,7 @@ use std::alloc::Global;
 /// `BadPath` and `NotInSchema` of its path before those of its value, `NotInSchema` and `BadValue`. A duration that isn't
 /// given is 600 s.
 #[tactic(auto, using(crate::proofs::FitAsks::fit_ask, crate::proofs::FitAsks::fit_ops))]
-pub fn resolve(alloc: Global, schema: &Schema, ask: &SetAsk) -> Result<Ask, Refusal>
+pub fn resolve(alloc: Global, schema: &Schema, ask: &UnresolvedSet) -> Result<Ask, Refusal>
     ensures answer { IsUnlessMemory Refusal.NoMemory result (resolved schema.now ask.now) }
     ensures fit { IfOk result (λ it. IsFit it) }
 {

@@ -24,7 +24,8 @@ pub record FileFails (name : List ℕ) (before after : Environment) (ending : En
   pub line : SaysLast (codes "input fault\n") before.output after.output
 
 -- memory was wanting for the text or the schema
-pub record NoRoom (name : List ℕ) (before after : Environment) (ending : Ending) : Type 0 where
+pub record RunsOutOfMemory
+    (name : List ℕ) (before after : Environment) (ending : Ending) : Type 0 where
   pub files : (after.files ≡ files_after_ask name before.files)
       ⊎ ((text : List ℕ) × GaveText name text before.files after.files)
   pub input : after.input ≡ before.input
@@ -55,4 +56,4 @@ abbrev pub UnderSchema : List ℕ → Environment → Environment → Ending →
     Type 0
 UnderSchema name before after ending Then =
     FromText name before after ending Then ⊎ FileFails name before after ending
-    ⊎ NoRoom name before after ending
+    ⊎ RunsOutOfMemory name before after ending

@@ -2,7 +2,7 @@
 use Rattle.std.specs.Prelude.{◌≡◌, ℕ, suc, ◌<◌, List, [], ◌∷◌, ◌++◌, Bool, true, false, length, Option, None, Some, Result}
 use Rattle.base_kinds.specs.declared.path.Elem.{Elem}
 use Rattle.base_kinds.specs.declared.entry.Ask.{Ask}
-use Rattle.base_kinds.specs.declared.request.SetAsk.{SetAsk}
+use Rattle.base_kinds.specs.declared.request.UnresolvedSet.{UnresolvedSet}
 use Rattle.base_kinds.specs.declared.entry.Limits.{Limits}
 use Rattle.base_kinds.specs.Events.{Set, Get, Event}
 use Rattle.base_kinds.specs.Schema.{SchemaNode}
@@ -59,7 +59,7 @@ abbrev pub left_by : Event → BookView FuseView → BookState
 left_by event book = book_after (rules_in book.opened) event (state_of book)
 
 -- a Set of this author, and the turn of one that asks for this
-abbrev pub asked_event : BookView FuseView → ℕ → ℕ → SetAsk → Event
+abbrev pub asked_event : BookView FuseView → ℕ → ℕ → UnresolvedSet → Event
 asked_event book reading author request =
     record {
       reading = reading;

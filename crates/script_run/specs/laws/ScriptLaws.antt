@@ -18,7 +18,7 @@ use Rattle.script_text.specs.declared.line.Line.{Line}
 use Rattle.script_text.specs.declared.line.Line.TheVariants as lines
 use Rattle.script_text.specs.Grammar.{IsLine}
 use Rattle.script_run.specs.AnswerLines.{line_answer}
-use Rattle.script_run.specs.ScriptStates.{ScriptState, fresh, rules_in, CountsAuthor, line_event, book_behind, state_after}
+use Rattle.script_run.specs.ScriptStates.{ScriptState, new_state, rules_in, HasFitAuthor, line_event, book_behind, state_after}
 use Rattle.script_text.specs.Lines.{lines_of}
 use Rattle.script_run.specs.Restarts.{Takes}
 use Rattle.script_run.specs.ScriptOctets.{within_limit}
@@ -118,23 +118,23 @@ MakesDoneEvents =
 abbrev pub MakesHistories : Type 0
 MakesHistories =
     (schema : List SchemaNode) (limits : Limits) (lines : List Line) →
-    IsHistory (state_behind lines (fresh schema limits)).history
+    IsHistory (state_behind lines (new_state schema limits)).history
 
 -- each line that makes or reads something has an author, as every line that is read from octets
-abbrev pub HaveAuthors : List Line → Type 0
-HaveAuthors = AllByRecursion CountsAuthor
+abbrev pub HaveFitAuthors : List Line → Type 0
+HaveFitAuthors = AllByRecursion HasFitAuthor
 
 -- the history of such lines is one that a target may come to
 abbrev pub MakesLegalHistories : Type 0
 MakesLegalHistories =
-    (schema : List SchemaNode) (limits : Limits) (lines : List Line) → HaveAuthors lines →
-    IsLegal (rules_of schema limits) [] (state_behind lines (fresh schema limits)).history
+    (schema : List SchemaNode) (limits : Limits) (lines : List Line) → HaveFitAuthors lines →
+    IsLegal (rules_of schema limits) [] (state_behind lines (new_state schema limits)).history
 
 -- and the tree that it stands for is valid under the schema and small enough
 abbrev pub MakesSoundTrees : Type 0
 MakesSoundTrees =
-    (schema : List SchemaNode) (limits : Limits) (lines : List Line) → HaveAuthors lines →
-    HasSoundTrees schema (world_of (state_behind lines (fresh schema limits)).history)
+    (schema : List SchemaNode) (limits : Limits) (lines : List Line) → HaveFitAuthors lines →
+    HasSoundTrees schema (world_of (state_behind lines (new_state schema limits)).history)
 
 -- ---- one text
 

@@ -12,7 +12,7 @@ use Rattle.script_text.specs.Lines.{lines_of}
 use Rattle.script_text.specs.Grammar.{IsLine}
 use Rattle.script_run.specs.AnswerLines.{answer_lines, line_text}
 use Rattle.script_run.specs.ScriptOctets.{is_too_long}
-use Rattle.script_run.specs.ScriptStates.{ScriptState, fresh, state_after}
+use Rattle.script_run.specs.ScriptStates.{ScriptState, new_state, state_after}
 use Rattle.script_run.specs.Scripts.{RunsScript}
 use Rattle.script_run.specs.declared.run.ScriptEnd.{ScriptEnd}
 use Rattle.script_run.specs.declared.run.ScriptEnd.TheVariants.{Whole}
@@ -33,7 +33,7 @@ texts_of (line ∷ lines) state = line_text line state ++ texts_of lines (state_
 
 -- these texts, and then the log of the history that the lines made
 abbrev pub whole_text : List SchemaNode → Limits → List Line → List ℕ
-whole_text schema limits lines = let start = fresh schema limits in
+whole_text schema limits lines = let start = new_state schema limits in
     texts_of lines start ++ (codes "log\n" ++ log_text (state_behind lines start).history)
 
 -- a script within the limit of its octets whose lines are these, none of which lets the disk stop, prints that, and it is whole
@@ -70,4 +70,4 @@ AnswersEvents =
     (schema : List SchemaNode) (limits : Limits) (lines : List Line) → LetPass lines
     → ArePlain lines →
     whole_text schema limits lines
-    ≡ events_text schema limits (script_events lines (fresh schema limits))
+    ≡ events_text schema limits (script_events lines (new_state schema limits))

@@ -18,7 +18,7 @@ use Rattle.script_text.specs.declared.line.Line.{Line}
 use Rattle.script_text.specs.declared.line.Line.TheVariants as lines
 use Rattle.script_run.specs.CallViews.{PollCall, StreamCall}
 use Rattle.script_run.specs.OpenCalls.{call_named, with_call, without_call}
-use Rattle.script_run.specs.ScriptStates.{ScriptState, fresh, line_step, state_after}
+use Rattle.script_run.specs.ScriptStates.{ScriptState, new_state, line_step, state_after}
 use Rattle.script_run.specs.Subscribing.{step_with, sub_ask}
 use Rattle.script_run.specs.declared.subscribing.CallReply.TheVariants as replies
 use Rattle.script_run.specs.declared.calls.OpenCall.{OpenCall}
@@ -46,7 +46,7 @@ AreOver h calls = AllByRecursion (λ (call : NamedCall). IsCallOver h call.call)
 abbrev pub StreamsAreRuns : Type 0
 StreamsAreRuns =
     (schema : List SchemaNode) (limits : Limits) (lines : List Line) (left : ScriptState) →
-    LeadTo lines (fresh schema limits) left → AreOver left.history left.calls
+    LeadTo lines (new_state schema limits) left → AreOver left.history left.calls
 
 -- ---- what is printed
 

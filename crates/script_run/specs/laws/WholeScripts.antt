@@ -15,7 +15,7 @@ use Rattle.script_text.specs.Lines.{lines_of}
 use Rattle.script_run.specs.AnswerLines.{line_answer}
 use Rattle.script_run.specs.Restarts.{Takes}
 use Rattle.script_run.specs.ScriptOctets.{within_limit}
-use Rattle.script_run.specs.ScriptStates.{ScriptState, rules_in, fresh, line_event, book_behind, state_after}
+use Rattle.script_run.specs.ScriptStates.{ScriptState, rules_in, new_state, line_event, book_behind, state_after}
 use Rattle.script_run.specs.Scripts.{RunsScript}
 use Rattle.script_run.specs.Turns.{takes_turn}
 use Rattle.script_run.specs.declared.run.ScriptEnd.TheVariants.{Whole}
@@ -58,7 +58,7 @@ pub record KeepsAnswers (schema : List SchemaNode) (limits : Limits)
   pub lines : List Line
   pub are : AreScriptLines (lines_of (within_limit script)) lines
   pub last : ScriptState
-  pub kept : AreKept lines (fresh schema limits) last text
+  pub kept : AreKept lines (new_state schema limits) last text
 
 abbrev pub WholeScriptsKeep : Type 0
 WholeScriptsKeep =

@@ -8,7 +8,7 @@ use Rattle.base_kinds.specs.declared.operation.Row.{Row}
 use Rattle.base_kinds.specs.declared.request.Change.{Change}
 use Rattle.base_kinds.specs.declared.request.Given.{Given}
 use Rattle.base_kinds.specs.declared.request.Given.TheVariants as given
-use Rattle.base_kinds.specs.declared.request.SetAsk.{SetAsk}
+use Rattle.base_kinds.specs.declared.request.UnresolvedSet.{UnresolvedSet}
 use Rattle.base_kinds.specs.declared.refusal.Refusal.{Refusal}
 use Rattle.base_kinds.specs.declared.refusal.Refusal.TheVariants as refusals
 use Rattle.base_kinds.specs.declared.schema.Shape.{Shape}
@@ -100,7 +100,7 @@ IsCauseInChange schema path value refusals.BadValue =
 IsCauseInChange schema path value _ = ⊥
 
 -- some operation has a cause
-abbrev pub IsCauseInOperations : List SchemaNode → SetAsk → Refusal → Type 0
+abbrev pub IsCauseInOperations : List SchemaNode → UnresolvedSet → Refusal → Type 0
 IsCauseInOperations schema ask refusal =
     ((path : List Elem) × (Contains ask.deletes path)
     × IsCauseInDelete (ask.prefix ++ path) refusal)
@@ -108,7 +108,7 @@ IsCauseInOperations schema ask refusal =
     × IsCauseInChange schema (ask.prefix ++ change.path) change.given refusal)
 
 -- the action, or some operation, has a cause
-abbrev pub HasCause : List SchemaNode → SetAsk → Refusal → Type 0
+abbrev pub HasCause : List SchemaNode → UnresolvedSet → Refusal → Type 0
 HasCause schema ask refusals.Unsupported = ask.unsupported ≡ true
 HasCause schema ask refusals.MixedAction = is_mixed ask.action (has_operations ask) ≡ true
 HasCause schema ask refusals.BadId = has_fit_id ask.action ≡ false
@@ -118,12 +118,12 @@ HasCause schema ask refusal = IsCauseInOperations schema ask refusal
 -- a request is refused for a cause of the profile
 abbrev pub RefusalsHaveCauses : Type 0
 RefusalsHaveCauses =
-    (schema : List SchemaNode) (ask : SetAsk) (refusal : Refusal)
+    (schema : List SchemaNode) (ask : UnresolvedSet) (refusal : Refusal)
     → IsWellFormed schema → resolved schema ask ≡ Err refusal → HasCause schema ask refusal
 
 -- the same under the schema that a text is
 abbrev pub RefusalsUnderTextsHaveCauses : Type 0
 RefusalsUnderTextsHaveCauses =
-    (text : List ℕ) (schema : List SchemaNode) (ask : SetAsk) (refusal : Refusal)
+    (text : List ℕ) (schema : List SchemaNode) (ask : UnresolvedSet) (refusal : Refusal)
     → schema_of text ≡ Ok schema → resolved schema ask ≡ Err refusal
     → HasCause schema ask refusal

@@ -4,7 +4,7 @@ use Rattle.std.specs.List.{Contains, AllByRecursion}
 use Rattle.base_kinds.specs.declared.path.Elem.{Elem}
 use Rattle.base_kinds.specs.declared.operation.Row.{Row}
 use Rattle.base_kinds.specs.declared.operation.Op.{Op}
-use Rattle.base_kinds.specs.declared.request.SetAsk.{SetAsk}
+use Rattle.base_kinds.specs.declared.request.UnresolvedSet.{UnresolvedSet}
 use Rattle.base_kinds.specs.Ancestors.{child}
 use Rattle.base_kinds.specs.Schema.{SchemaNode}
 use Rattle.schema_core.specs.WellFormed.{IsWellFormed}
@@ -32,6 +32,6 @@ BelongsAt path row = IsAtOrBelow path row.path ⊎ NamesKeyLeaf path row.path
 -- Each row of an operation stands at or below the operation's path, or is a key leaf that the path names.
 abbrev pub RowsBelong : Type 0
 RowsBelong =
-    (schema : List SchemaNode) (ask : SetAsk) (ops : List Op)
+    (schema : List SchemaNode) (ask : UnresolvedSet) (ops : List Op)
     → IsWellFormed schema → ops_of_request schema ask ≡ Ok ops
     → AllByRecursion (λ (op : Op). AllByRecursion (BelongsAt op.path) op.rows) ops

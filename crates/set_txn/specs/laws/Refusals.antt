@@ -1,6 +1,6 @@
 -- Why a request is refused before it is judged.
 use Rattle.std.specs.Prelude.{◌≡◌, List, Err}
-use Rattle.base_kinds.specs.declared.request.SetAsk.{SetAsk}
+use Rattle.base_kinds.specs.declared.request.UnresolvedSet.{UnresolvedSet}
 use Rattle.base_kinds.specs.declared.refusal.Refusal.{Refusal}
 use Rattle.base_kinds.specs.declared.refusal.Refusal.TheVariants as refusals
 use Rattle.base_kinds.specs.Schema.{SchemaNode}
@@ -20,5 +20,5 @@ IsOfRequests _ = ⊥
 -- no other comes: a definition wants no memory, and what the tree holds is judged later
 abbrev pub RefusalsOfRequests : Type 0
 RefusalsOfRequests =
-    (schema : List SchemaNode) (ask : SetAsk) (refusal : Refusal)
+    (schema : List SchemaNode) (ask : UnresolvedSet) (refusal : Refusal)
     → resolved schema ask ≡ Err refusal → IsOfRequests refusal

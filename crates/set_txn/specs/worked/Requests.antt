@@ -16,7 +16,7 @@ use Rattle.base_kinds.specs.declared.request.Given.TheVariants as given
 use Rattle.base_kinds.specs.declared.request.Span.TheVariants as spans
 use Rattle.base_kinds.specs.declared.request.Action.{Action}
 use Rattle.base_kinds.specs.declared.request.Action.TheVariants as actions
-use Rattle.base_kinds.specs.declared.request.SetAsk.{SetAsk}
+use Rattle.base_kinds.specs.declared.request.UnresolvedSet.{UnresolvedSet}
 use Rattle.base_kinds.specs.declared.refusal.Refusal.TheVariants.{BadPath, NotInSchema, BadValue, Unsupported, BadDuration, MixedAction, BadId}
 use Rattle.base_kinds.specs.Schema.{SchemaNode}
 use Rattle.set_txn.specs.Actions.{duration}
@@ -80,7 +80,7 @@ name_of = interface (codes "eth0") ∷ plain (codes "name") ∷ []
 abbrev scalar : List Elem → Value → Change
 scalar path value = record { path = path; given = given.Scalar value }
 
-abbrev nothing : SetAsk
+abbrev nothing : UnresolvedSet
 nothing = record {
   prefix = [];
   target = [];
@@ -91,10 +91,10 @@ nothing = record {
   unsupported = false;
 }
 
-abbrev update : Change → SetAsk
+abbrev update : Change → UnresolvedSet
 update change = record nothing { updates = change ∷ [] }
 
-abbrev acts : Action → SetAsk
+abbrev acts : Action → UnresolvedSet
 acts action = record nothing { action = action }
 
 abbrev row : List Elem → Value → Row

@@ -3,7 +3,7 @@ use Rattle.std.specs.Prelude.{nat_lt}
 use Rattle.std.proofs.lemmas.Bool.{lt-ltb}
 use Rattle.std.proofs.lemmas.List.Sums.{position_or_len_is}
 use Rattle.h2_windows.specs.declared.stream.Stream.{Stream}
-use Rattle.h2_windows.specs.Streams.{fresh}
+use Rattle.h2_windows.specs.Streams.{new_stream}
 use Rattle.h2_windows.proofs.streams.place_for.Goals as goal
 
 pub returns-then-id-stream-clause-place : goal.returns-then-id-stream-clause-place
@@ -12,4 +12,4 @@ returns-then-id-stream-clause-place c =
     sym (position_or_len_is (λ (s : Stream). nat_lt c.args.id s.id) c.args.streams.now c.loop-place.place d (omega (arith, c.loop-place-test.true)) (λ k less. c.loop-place.invariant k d less) (λ less. ap (λ (s : Stream). nat_lt c.args.id s.id) (sym c.index-streams-place.is) ∙ lt-ltb c.args.id d.id c.if-id-stream.true))
 
 pub returns-clause-place : goal.returns-clause-place
-returns-clause-place c = sym (position_or_len_is (λ (s : Stream). nat_lt c.args.id s.id) c.args.streams.now (length c.args.streams.now) (fresh 0) (omega arith) (λ k less. c.loop-place.invariant k (fresh 0) (omega (arith, c.loop-place-test.false))) (λ less. absurd (omega (arith, less))))
+returns-clause-place c = sym (position_or_len_is (λ (s : Stream). nat_lt c.args.id s.id) c.args.streams.now (length c.args.streams.now) (new_stream 0) (omega arith) (λ k less. c.loop-place.invariant k (new_stream 0) (omega (arith, c.loop-place-test.false))) (λ less. absurd (omega (arith, less))))
