@@ -1,5 +1,5 @@
 // The keys of a list's entries.
-ghost use Rattle.std.specs.Prelude.{string_bytes, ◌≡◌, ◌≢◌, ◌<◌, ◌≤◌, ◌++◌, ◌∷◌, [], Ok, Err, Some, length, slice_get, IfOk, IfErr, OnOk};
+ghost use Rattle.std.specs.Prelude.{string_bytes, ◌≡◌, ◌<◌, ◌≤◌, ◌++◌, ◌∷◌, [], Ok, Err, Some, length, slice_get, IfOk, IfErr};
 ghost use Rattle.std.specs.Option.{option_map};
 ghost use Rattle.std.specs.Ordering.{is_gt};
 ghost use Rattle.std.specs.List.{list_any, position_or_len};
@@ -7,7 +7,7 @@ ghost use Rattle.serde_json.specs.View.{view};
 ghost use Rattle.serde_json.specs.Find.{get};
 ghost use Rattle.base_kinds.specs.Paths.{text_cmp};
 ghost use Rattle.schema_core.specs.Nodes.{names_at, names_above};
-ghost use Rattle.base_lists.specs.Results.{IsUnlessMemory};
+ghost use Rattle.base_lists.specs.Results.{IsUnlessMemory, and_then};
 ghost use Rattle.json_rows.specs.Leaves.{leaf_at};
 ghost use Rattle.json_rows.specs.Members.{qualified};
 ghost use Rattle.json_rows.specs.Entries.{only_member, key_text_of, key_of_entry, required_key, with_key, keys_of_entry, same_key, same_keys, keys_unless_seen, key_as_in_path, entry_keys_agree};
@@ -57,10 +57,8 @@ fn only_member<'j>(
 
 /// The text of the key that a key leaf's value is.
 fn key_text_of(alloc: Global, leaf: &Node, json: &Json) -> Result<Text, RowsFault>
-    ensures ok { IfOk result (λ text. key_text_of (leaf_at leaf.now.shape (view json.now))
-        ≡ Ok (Some text)) }
-    ensures fault { IfErr result (λ fault. fault ≢ RowsFault.NoMemory
-        → key_text_of (leaf_at leaf.now.shape (view json.now)) ≡ Err fault) }
+    ensures answer { IsUnlessMemory RowsFault.NoMemory (and_then result (λ text. Ok (Some text)))
+        (key_text_of (leaf_at leaf.now.shape (view json.now))) }
 {
     let Some(value) = leaf_at(alloc, leaf.shape(), json)? else {
         return Err(RowsFault::BadValue);
@@ -159,11 +157,9 @@ pub(crate) fn entry_keys_agree(
     entry: &Json,
 ) -> Result<(), RowsFault>
     requires { list.0 < length schema.now }
-    ensures ok { OnOk result (entry_keys_agree schema.now (names_at schema.now list.0) keys.now
-        (view entry.now) names.now ≡ Ok tt) }
-    ensures fault { IfErr result (λ fault. fault ≢ RowsFault.NoMemory
-        → entry_keys_agree schema.now (names_at schema.now list.0) keys.now
-        (view entry.now) names.now ≡ Err fault) }
+    ensures answer { IsUnlessMemory RowsFault.NoMemory result
+        (entry_keys_agree schema.now (names_at schema.now list.0) keys.now (view entry.now)
+        names.now) }
 {
     for name in names {
         if let Some(text) = key_of_entry(alloc, schema, list, name, entry)? {

@@ -1,7 +1,8 @@
 // Rows of leaves and leaf-lists, and the keys of entries that differ.
-ghost use Rattle.std.specs.Prelude.{◌≡◌, ◌≢◌, ◌++◌, ◌∷◌, [], Ok, Err, IfOk, IfErr, OnOk, false};
+ghost use Rattle.std.specs.Prelude.{◌≡◌, ◌++◌, ◌∷◌, [], Ok, Err, IfOk, OnOk, false};
 ghost use Rattle.std.specs.Option.{option_copied};
 ghost use Rattle.serde_json.specs.View.{view, items_view};
+ghost use Rattle.base_lists.specs.Results.{IsUnlessMemory, and_then};
 ghost use Rattle.json_rows.specs.Leaves.{leaf_at, values_from};
 ghost use Rattle.json_rows.specs.Entries.{keys_unless_seen};
 ghost use Rattle.json_rows.specs.Walk.{below, rows_with_leaf, rows_with_leaf_list};
@@ -36,10 +37,8 @@ pub(crate) fn add_leaf(
     json: &Json,
     rows: &mut Rows,
 ) -> Result<(), RowsFault>
-    ensures ok { OnOk result (rows_with_leaf path rows.old (leaf_at (option_copied shape.entry)
-        (view json.now)) ≡ Ok rows.new) }
-    ensures fault { IfErr result (λ fault. fault ≢ RowsFault.NoMemory → rows_with_leaf path rows.old
-        (leaf_at (option_copied shape.entry) (view json.now)) ≡ Err fault) }
+    ensures answer { IsUnlessMemory RowsFault.NoMemory (and_then result (λ _. Ok rows.new))
+        (rows_with_leaf path rows.old (leaf_at (option_copied shape.entry) (view json.now))) }
 {
     let Some(value) = leaf_at(alloc, shape, json)? else {
         return Err(RowsFault::BadValue);
@@ -79,11 +78,9 @@ pub(crate) fn add_list(
     items: &Vec<Json>,
     rows: &mut Rows,
 ) -> Result<(), RowsFault>
-    ensures ok { OnOk result (rows_with_leaf_list path rows.old
-        (values_from (option_copied shape.entry) [] (items_view items.now.items)) ≡ Ok rows.new) }
-    ensures fault { IfErr result (λ fault. fault ≢ RowsFault.NoMemory
-        → rows_with_leaf_list path rows.old (values_from (option_copied shape.entry) []
-        (items_view items.now.items)) ≡ Err fault) }
+    ensures answer { IsUnlessMemory RowsFault.NoMemory (and_then result (λ _. Ok rows.new))
+        (rows_with_leaf_list path rows.old
+        (values_from (option_copied shape.entry) [] (items_view items.now.items))) }
 {
     let Some(values) = values_of(alloc, shape, items)? else {
         return Err(RowsFault::BadValue);
@@ -98,10 +95,9 @@ pub(crate) fn add_list(
 
 /// Adds the keys to those of the entries before, where no entry had them.
 pub(crate) fn add_keys(alloc: Global, seen: &mut SeenKeys, keys: &Keys) -> Result<(), RowsFault>
-    ensures ok { OnOk result (keys_unless_seen seen.old keys.now ≡ Ok keys.now) }
+    ensures answer { IsUnlessMemory RowsFault.NoMemory (and_then result (λ _. Ok keys.now))
+        (keys_unless_seen seen.old keys.now) }
     ensures more { OnOk result (seen.new ≡ seen.old ++ keys.now ∷ []) }
-    ensures fault { IfErr result (λ fault. fault ≢ RowsFault.NoMemory
-        → keys_unless_seen seen.old keys.now ≡ Err fault) }
 {
     if seen.add(alloc, keys)? {
         Ok(())

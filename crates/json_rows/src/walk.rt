@@ -1,6 +1,7 @@
 // The walk of a JSON value, which gives its rows.
-ghost use Rattle.std.specs.Prelude.{◌≡◌, ◌≢◌, ◌<◌, ◌++◌, ◌∷◌, [], Ok, Err, Some, length, slice_get, IfOk, IfErr, OnOk};
+ghost use Rattle.std.specs.Prelude.{◌≡◌, ◌<◌, ◌++◌, ◌∷◌, [], Ok, Err, Some, length, slice_get, IfOk};
 ghost use Rattle.std.specs.Option.{ForSome};
+ghost use Rattle.base_lists.specs.Results.{IsUnlessMemory, and_then};
 ghost use Rattle.base_kinds.specs.Schema.{names_of};
 ghost use Rattle.serde_json.specs.View.{view, items_view, members_view};
 ghost use Rattle.schema_core.specs.Nodes.{names_at, names_above};
@@ -32,11 +33,9 @@ pub(crate) fn add_node(
     requires node { slice_get schema.now id.0 ≡ Some node.now }
     requires within { id.0 < length schema.now }
     requires named { names_at schema.now id.0 ≡ names_of above.now ++ name.now ∷ [] }
-    ensures ok { OnOk result (rows_at_node node.now.sort schema.now node.now above.now name.now
-        rows.old (view json.now) ≡ Ok rows.new) }
-    ensures fault { IfErr result (λ fault. fault ≢ RowsFault.NoMemory
-        → rows_at_node node.now.sort schema.now node.now above.now name.now rows.old (view json.now)
-        ≡ Err fault) }
+    ensures answer { IsUnlessMemory RowsFault.NoMemory (and_then result (λ _. Ok rows.new))
+        (rows_at_node node.now.sort schema.now node.now above.now name.now rows.old
+        (view json.now)) }
 {
     match (node.sort(), json) {
         (Sort::Container, Json::Object(members)) => {
@@ -70,11 +69,8 @@ fn add_members(
 ) -> Result<(), RowsFault>
     requires within { ForSome parent (λ id. id.0 < length schema.now) }
     requires named { names_above schema.now parent ≡ names_of here.now }
-    ensures ok { OnOk result (rows_of_members schema.now here.now [] rows.old
-        (members_view members.now.entries) ≡ Ok rows.new) }
-    ensures fault { IfErr result (λ fault. fault ≢ RowsFault.NoMemory
-        → rows_of_members schema.now here.now [] rows.old (members_view members.now.entries)
-        ≡ Err fault) }
+    ensures answer { IsUnlessMemory RowsFault.NoMemory (and_then result (λ _. Ok rows.new))
+        (rows_of_members schema.now here.now [] rows.old (members_view members.now.entries)) }
 {
     let mut seen: Texts = Seq::empty(alloc);
     for (text, json) in members.iter() {
@@ -100,11 +96,9 @@ fn add_entries(
 ) -> Result<(), RowsFault>
     requires within { id.0 < length schema.now }
     requires named { names_at schema.now id.0 ≡ names_of above.now ++ name.now ∷ [] }
-    ensures ok { OnOk result (rows_of_entries schema.now node.now above.now name.now [] rows.old
-        (items_view items.now.items) ≡ Ok rows.new) }
-    ensures fault { IfErr result (λ fault. fault ≢ RowsFault.NoMemory
-        → rows_of_entries schema.now node.now above.now name.now [] rows.old
-        (items_view items.now.items) ≡ Err fault) }
+    ensures answer { IsUnlessMemory RowsFault.NoMemory (and_then result (λ _. Ok rows.new))
+        (rows_of_entries schema.now node.now above.now name.now [] rows.old
+        (items_view items.now.items)) }
 {
     let mut seen = SeenKeys::empty(alloc);
     for item in items {
@@ -128,10 +122,8 @@ pub(crate) fn add_object(
 ) -> Result<(), RowsFault>
     requires within { ForSome parent (λ id. id.0 < length schema.now) }
     requires named { names_above schema.now parent ≡ names_of here.now }
-    ensures ok { OnOk result (rows_of_object schema.now here.now rows.old (view json.now)
-        ≡ Ok rows.new) }
-    ensures fault { IfErr result (λ fault. fault ≢ RowsFault.NoMemory
-        → rows_of_object schema.now here.now rows.old (view json.now) ≡ Err fault) }
+    ensures answer { IsUnlessMemory RowsFault.NoMemory (and_then result (λ _. Ok rows.new))
+        (rows_of_object schema.now here.now rows.old (view json.now)) }
 {
     match json {
         Json::Object(members) => add_members(alloc, schema, parent, here, members, rows),
