@@ -1,5 +1,6 @@
 // What an ask becomes, ask by ask.
-ghost use Rattle.std.specs.Prelude.{◌≡◌, ◌≢◌, ◌+◌, ◌<◌, ◌≤◌, Ok, Err, true, false, length, IsTrue, IfOk, IfErr, OnOk, IsErrOf};
+ghost use Rattle.std.specs.Prelude.{◌≡◌, ◌+◌, ◌<◌, ◌≤◌, Ok, Err, true, false, length, IsTrue, IfOk, IfErr, OnOk, IsErrOf};
+ghost use Rattle.base_lists.specs.Results.{IsUnlessMemory, and_then};
 ghost use Rattle.base_kinds.specs.History.{stamp_of, world_of};
 ghost use Rattle.base_kinds.specs.Legal.{IsFit, is_fit_duration};
 ghost use Rattle.base_kinds.specs.Limits.{latest_reading, longest_duration};
@@ -39,13 +40,11 @@ impl<T: TreeLike + Drop> Core<T> {
     ) -> Result<Judged<T>, Refusal>
         requires { IsFit ask }
         ensures judged { let rules = rules_of self.now.schema self.now.limits in
-            IfOk result (λ judged. judge rules self.now.entries now author ask ≡ Ok judged.entry) }
+            IsUnlessMemory Refusal.NoMemory (and_then result (λ judged. Ok judged.entry))
+            (judge rules self.now.entries now author ask) }
         ensures prepared { IfOk result (λ judged.
             IsPreparedFor (preparation_of T.rows judged.prepared)
             (world_of self.now.entries) judged.entry.kind) }
-        ensures refused { let rules = rules_of self.now.schema self.now.limits in
-            IfErr result (λ refusal. refusal ≢ Refusal.NoMemory
-            → judge rules self.now.entries now author ask ≡ Err refusal) }
         ensures memory { IsErrOf result Refusal.NoMemory → EndsTrial ask → ⊥ }
     {
         match ask {
@@ -68,14 +67,11 @@ impl<T: TreeLike + Drop> Core<T> {
         ops: Ops,
     ) -> Result<Judged<T>, Refusal>
         ensures judged { let rules = rules_of self.now.schema self.now.limits in
-            IfOk result (λ judged.
-            judge rules self.now.entries now author (Ask.Apply ops) ≡ Ok judged.entry) }
+            IsUnlessMemory Refusal.NoMemory (and_then result (λ judged. Ok judged.entry))
+            (judge rules self.now.entries now author (Ask.Apply ops)) }
         ensures prepared { IfOk result (λ judged.
             IsPreparedFor (preparation_of T.rows judged.prepared)
             (world_of self.now.entries) judged.entry.kind) }
-        ensures refused { let rules = rules_of self.now.schema self.now.limits in
-            IfErr result (λ refusal. refusal ≢ Refusal.NoMemory
-            → judge rules self.now.entries now author (Ask.Apply ops) ≡ Err refusal) }
     {
         let tree = self.tree_changed(alloc, &ops)?;
         let entry = self.next_entry(now, author, Kind::Apply(ops));
@@ -100,16 +96,11 @@ impl<T: TreeLike + Drop> Core<T> {
     ) -> Result<Judged<T>, Refusal>
         requires { IsTrue (is_fit_duration duration) }
         ensures judged { let rules = rules_of self.now.schema self.now.limits in
-            IfOk result (λ judged.
-            judge rules self.now.entries now author (Ask.Trial id ops duration)
-            ≡ Ok judged.entry) }
+            IsUnlessMemory Refusal.NoMemory (and_then result (λ judged. Ok judged.entry))
+            (judge rules self.now.entries now author (Ask.Trial id ops duration)) }
         ensures prepared { IfOk result (λ judged.
             IsPreparedFor (preparation_of T.rows judged.prepared)
             (world_of self.now.entries) judged.entry.kind) }
-        ensures refused { let rules = rules_of self.now.schema self.now.limits in
-            IfErr result (λ refusal. refusal ≢ Refusal.NoMemory
-            → judge rules self.now.entries now author (Ask.Trial id ops duration)
-            ≡ Err refusal) }
     {
         let tree = self.tree_changed(alloc, &ops)?;
         let kept_id = id.copy(alloc)?;
@@ -127,14 +118,11 @@ impl<T: TreeLike + Drop> Core<T> {
     #[tactic(auto, using(crate::proofs::Judged::confirm_refused, crate::proofs::Judged::confirm_accepted))]
     fn answer_confirm(&self, now: u64, author: u32, id: &Text) -> Result<Judged<T>, Refusal>
         ensures judged { let rules = rules_of self.now.schema self.now.limits in
-            IfOk result (λ judged.
-            judge rules self.now.entries now author (Ask.Confirm id.now) ≡ Ok judged.entry) }
+            IsUnlessMemory Refusal.NoMemory (and_then result (λ judged. Ok judged.entry))
+            (judge rules self.now.entries now author (Ask.Confirm id.now)) }
         ensures prepared { IfOk result (λ judged.
             IsPreparedFor (preparation_of T.rows judged.prepared)
             (world_of self.now.entries) judged.entry.kind) }
-        ensures refused { let rules = rules_of self.now.schema self.now.limits in
-            IfErr result (λ refusal.
-            judge rules self.now.entries now author (Ask.Confirm id.now) ≡ Err refusal) }
         ensures memory { ¬ (IsErrOf result Refusal.NoMemory) }
     {
         self.check_trial(id)?;
@@ -147,14 +135,11 @@ impl<T: TreeLike + Drop> Core<T> {
     #[tactic(auto, using(crate::proofs::Judged::cancel_refused, crate::proofs::Judged::cancel_accepted))]
     fn answer_cancel(&self, now: u64, author: u32, id: &Text) -> Result<Judged<T>, Refusal>
         ensures judged { let rules = rules_of self.now.schema self.now.limits in
-            IfOk result (λ judged.
-            judge rules self.now.entries now author (Ask.Cancel id.now) ≡ Ok judged.entry) }
+            IsUnlessMemory Refusal.NoMemory (and_then result (λ judged. Ok judged.entry))
+            (judge rules self.now.entries now author (Ask.Cancel id.now)) }
         ensures prepared { IfOk result (λ judged.
             IsPreparedFor (preparation_of T.rows judged.prepared)
             (world_of self.now.entries) judged.entry.kind) }
-        ensures refused { let rules = rules_of self.now.schema self.now.limits in
-            IfErr result (λ refusal.
-            judge rules self.now.entries now author (Ask.Cancel id.now) ≡ Err refusal) }
         ensures memory { ¬ (IsErrOf result Refusal.NoMemory) }
     {
         self.check_trial(id)?;
@@ -174,16 +159,11 @@ impl<T: TreeLike + Drop> Core<T> {
     ) -> Result<Judged<T>, Refusal>
         requires { IsTrue (is_fit_duration duration) }
         ensures judged { let rules = rules_of self.now.schema self.now.limits in
-            IfOk result (λ judged.
-            judge rules self.now.entries now author (Ask.Extend id.now duration)
-            ≡ Ok judged.entry) }
+            IsUnlessMemory Refusal.NoMemory (and_then result (λ judged. Ok judged.entry))
+            (judge rules self.now.entries now author (Ask.Extend id.now duration)) }
         ensures prepared { IfOk result (λ judged.
             IsPreparedFor (preparation_of T.rows judged.prepared)
             (world_of self.now.entries) judged.entry.kind) }
-        ensures refused { let rules = rules_of self.now.schema self.now.limits in
-            IfErr result (λ refusal. refusal ≢ Refusal.NoMemory
-            → judge rules self.now.entries now author (Ask.Extend id.now duration)
-            ≡ Err refusal) }
     {
         self.check_trial(id)?;
         let deadline = self.deadline(now, duration);
