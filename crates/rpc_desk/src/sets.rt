@@ -1,6 +1,6 @@
 // A Set: what its message asks, its reply, and its turn.
-ghost use Rattle.std.specs.Prelude.{◌≡◌, ◌≢◌, ◌+◌, ◌≤◌, Ok, Err, length, vec_len, vec_capacity, IfOk, IfErr};
-ghost use Rattle.base_lists.specs.Results.{IsUnlessMemory};
+ghost use Rattle.std.specs.Prelude.{◌+◌, ◌≤◌, Ok, Err, length, vec_len, vec_capacity, IfOk};
+ghost use Rattle.base_lists.specs.Results.{IsUnlessMemory, and_then};
 ghost use Rattle.base_kinds.specs.Legal.{IsFit};
 ghost use Rattle.gnmi_set_msg.specs.Requests.{request_of};
 ghost use Rattle.rpc_desk.specs.Answers.{IsAnsweredBy};
@@ -36,11 +36,10 @@ fn set_ask(alloc: Global, schema: &Schema, body: &[u8]) -> Result<Ask, Refusal>
 /// The reply without its timestamp, and with room for it.
 #[tactic(auto, using(crate::proofs::Fronts::front_none, crate::proofs::Fronts::front_too_long, crate::proofs::Fronts::front_fits))]
 fn reply_front(alloc: Global, body: &[u8]) -> Result<Vec<u8>, Refusal>
-    ensures ok { IfOk result (λ front. reply_front (request_of body.now) ≡ Ok front.items) }
+    ensures answer { IsUnlessMemory Refusal.NoMemory (and_then result (λ front. Ok front.items))
+        (reply_front (request_of body.now)) }
     ensures short { IfOk result (λ front. vec_len front ≤ MOST_FRONT_OCTETS) }
     ensures room { IfOk result (λ front. vec_len front + MOST_STAMP_OCTETS ≤ vec_capacity front) }
-    ensures refused { IfErr result (λ refusal. refusal ≢ Refusal.NoMemory
-        → reply_front (request_of body.now) ≡ Err refusal) }
 {
     let mut octets = Bytes::empty(alloc);
     match write_set_reply(alloc, body, 0, &mut octets) {
