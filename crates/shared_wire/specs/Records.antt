@@ -299,3 +299,8 @@ abbrev pub SaysOrTells : ℕ → Said → Result Took WireFaultOut → List Wire
     → Type 0
 SaysOrTells stream said answer found added =
     UnlessFault (fault_in found) added answer (λ is. SaysOn stream said is found added)
+
+abbrev pub StatesOrTells : ℕ → ℕ → Result Took WireFaultOut → List WireRecord → List WireRecord
+    → Type 0
+StatesOrTells stream status answer found added =
+    UnlessFault (fault_in found) added answer (λ is. StatesOn stream status is found added)

@@ -7,7 +7,7 @@ ghost use Rattle.h2_send.specs.Offers.{IsStatus};
 ghost use Rattle.h2_send.specs.Port.{ready_in};
 ghost use Rattle.h2_send.specs.Wires.{progress_of};
 ghost use Rattle.shared_wire.specs.Parts.{FitTypes, event_parts};
-ghost use Rattle.shared_wire.specs.Records.{ActsOn, ActsOrEnds, Adds, AddsSo, AreRecords, EndsOn, FitsTypes, IsLastRoom, IsOpen, ReadsOrTells, SaysOn, SaysOrTells, StatesOn, left_in, record_author};
+ghost use Rattle.shared_wire.specs.Records.{ActsOn, ActsOrEnds, Adds, AddsSo, AreRecords, EndsOn, FitsTypes, IsLastRoom, IsOpen, ReadsOrTells, SaysOn, SaysOrTells, StatesOn, StatesOrTells, left_in, record_author};
 ghost use Rattle.shared_wire.specs.Visits.{StandsBehind, first_records};
 ghost use Rattle.shared_wire.specs.inner.Logging.{Loses, acted_so, condition_by, deed_of, starved_record, stated_so};
 
@@ -331,6 +331,26 @@ impl<S: Sink> HeldWire<S> {
         self.count += 1;
         self.condition = condition_by(took);
         took
+    }
+
+    /// Answers a call with a status of HTTP, or tells the fault that closed the wire.
+    pub(crate) fn http_or_fault(
+        &mut self,
+        alloc: Global,
+        author: u32,
+        stream: u32,
+        status: u16,
+    ) -> Result<Took, WireFaultOut>
+        requires author { 0 < author }
+        requires status { IsStatus status }
+        ensures records { AreRecords self.old.records }
+        ensures does { AddsSo author (StatesOrTells stream status result)
+            self.old.records self.new.records }
+    {
+        match answer_of(self.condition) {
+            Ok(()) => Ok(self.http(alloc, author, stream, status)),
+            Err(fault) => Err(fault),
+        }
     }
 
     /// Ends the connection, as `Wire::finish` does. There is always room for its record.

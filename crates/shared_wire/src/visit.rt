@@ -7,7 +7,7 @@ ghost use Rattle.h2_send.specs.Offers.{IsStatus};
 ghost use Rattle.h2_send.specs.Port.{Asks, Offers, asked, given_by, noted};
 ghost use Rattle.h2_send.specs.Wires.{progress_of};
 ghost use Rattle.turn_lock.specs.Passes.{IsInside, IsOutside, IsSamePass, OwnsItsEntries};
-ghost use Rattle.shared_wire.specs.Records.{ActsOn, ActsOrEnds, EndsOn, ReadsOn, ReadsOrTells, SaysOn, SaysOrTells, StatesOn, left_in, record_author};
+ghost use Rattle.shared_wire.specs.Records.{ActsOn, ActsOrEnds, EndsOn, ReadsOn, ReadsOrTells, SaysOn, SaysOrTells, StatesOn, StatesOrTells, left_in, record_author};
 ghost use Rattle.shared_wire.specs.Visits.{DoesInTurn, GivesBack, IsFirstVisit, IsTwin, Meets, given_in, most_authors};
 
 use crate::held::HeldWire;
@@ -248,6 +248,23 @@ impl<S: Sink + Drop, R: Wait + Clone + Drop> WireVisit<S, R> {
         let author = self.lock.number(&self.pass);
         let mut held = enter(&self.lock, &self.rt, &mut self.pass);
         let took = held.say_or_fault(alloc, author, stream, piece);
+        self.lock.leave(&mut self.pass, held);
+        took
+    }
+
+    /// Answers a call with a status of HTTP, as `http` does. Where a fault closed the wire before, that is the answer.
+    pub fn http_or_fault(
+        &mut self,
+        alloc: Global,
+        stream: u32,
+        status: u16,
+    ) -> Result<Took, WireFaultOut>
+        requires status { IsStatus status }
+        ensures { DoesInTurn (StatesOrTells stream status result) self.old self.new }
+    {
+        let author = self.lock.number(&self.pass);
+        let mut held = enter(&self.lock, &self.rt, &mut self.pass);
+        let took = held.http_or_fault(alloc, author, stream, status);
         self.lock.leave(&mut self.pass, held);
         took
     }

@@ -153,11 +153,17 @@ fn a_write_fault_closes_the_wire_for_all_ports(rt: HostRuntime) -> Result<(), Fa
     Ok(())
 }
 
-/// What the second port is told then of the other stream, and of a piece there.
+/// What the second port is told then of the other stream, of a piece there, and of a status.
 fn fault_told<R: Wait + Clone + Drop>(
     rt: &R,
     alloc: Global,
-) -> Option<(Result<Ready, WireFaultOut>, Result<Took, WireFaultOut>)> {
+) -> Option<
+    (
+        Result<Ready, WireFaultOut>,
+        Result<Took, WireFaultOut>,
+        Result<Took, WireFaultOut>,
+    ),
+> {
     let mut one = first_visit(rt, alloc, "4")?;
     let _opened = open_streams(alloc, &mut one, 100);
     let mut other = another(&mut one)?;
@@ -165,17 +171,19 @@ fn fault_told<R: Wait + Clone + Drop>(
     let _faulty = one.offer(alloc, 1, piece(alloc, 1, 0)?);
     let ready = other.readiness_or_fault(3);
     let took = other.say_or_fault(alloc, 3, &piece(alloc, 3, 0)?);
+    let stated = other.http_or_fault(alloc, 3, 405);
     match before {
-        Ok(Ready::Free) => Some((ready, took)),
+        Ok(Ready::Free) => Some((ready, took, stated)),
         _ => None,
     }
 }
 
 #[test]
 fn a_fault_that_closed_the_wire_is_told_to_all_ports(rt: HostRuntime) -> Result<(), Fail> {
-    let (ready, took) = fault_told(&rt, rt.alloc()).ok_or("no wire")?;
+    let (ready, took, stated) = fault_told(&rt, rt.alloc()).ok_or("no wire")?;
     assert!(rt; ready == Err(WireFaultOut::WriteFault));
     assert!(rt; took == Err(WireFaultOut::WriteFault));
+    assert!(rt; stated == Err(WireFaultOut::WriteFault));
     Ok(())
 }
 
@@ -208,8 +216,8 @@ fn a_window_that_would_be_too_large_ends_the_connection(rt: HostRuntime) -> Resu
 }
 
 /// What becomes of a status on a stream that octets wait on, on one that is free, on the same one again, and on one that was
-/// never opened.
-fn statuses<R: Wait + Clone + Drop>(rt: &R, alloc: Global) -> Option<[Took; 4]> {
+/// never opened; there twice, since a call that tells faults answers the same where there is none.
+fn statuses<R: Wait + Clone + Drop>(rt: &R, alloc: Global) -> Option<[Took; 5]> {
     let mut visit = first_visit(rt, alloc, "0")?;
     let _opened = open_streams(alloc, &mut visit, 2);
     let _begun = visit.offer(alloc, 1, piece(alloc, 1, 0)?);
@@ -217,12 +225,13 @@ fn statuses<R: Wait + Clone + Drop>(rt: &R, alloc: Global) -> Option<[Took; 4]> 
     let free = visit.http(alloc, 3, 405);
     let ended = visit.http(alloc, 3, 405);
     let idle = visit.http(alloc, 5, 405);
-    Some([waits, free, ended, idle])
+    let told = visit.http_or_fault(alloc, 5, 405).ok()?;
+    Some([waits, free, ended, idle, told])
 }
 
 #[test]
 fn a_status_is_busy_or_gone_as_its_stream_is(rt: HostRuntime) -> Result<(), Fail> {
     let found = statuses(&rt, rt.alloc()).ok_or("no wire")?;
-    assert!(rt; found == [Took::Busy, Took::Taken, Took::Gone, Took::Gone]);
+    assert!(rt; found == [Took::Busy, Took::Taken, Took::Gone, Took::Gone, Took::Gone]);
     Ok(())
 }
