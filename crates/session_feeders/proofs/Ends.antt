@@ -1,14 +1,14 @@
 -- What feeders have done at their end, one more of them.
-use Rattle.std.proofs.Common.{◌≡◌, ◌⊎◌, inl, inr, ℕ, List, [], ◌∷◌, ◌++◌, Bool, true, false, map, refl, sym, ap, ◌∙◌, subst, append-nil, append_assoc}
+use Rattle.std.proofs.Common.{◌≡◌, inl, inr, ℕ, List, [], ◌∷◌, ◌++◌, Bool, true, false, map, refl, sym, ap, ◌∙◌, subst, append-nil, append_assoc}
 use Rattle.std.specs.Prelude.{Some}
 use Rattle.std.proofs.lemmas.Bool.{false≢true}
-use Rattle.std.specs.List.{AllByRecursion}
 use Rattle.base_kinds.specs.Schema.{SchemaNode}
 use Rattle.book_port.specs.Follows.{Turn}
 use Rattle.book_port.specs.Ports.{PortView, CanMeet, Meets, TakesOne, TakesTurns}
+use Rattle.h2_events.specs.declared.port.Ready.{Ready}
 use Rattle.h2_send.specs.Inputs.{Speech}
-use Rattle.shared_wire.specs.Records.{WireRecord}
-use Rattle.shared_wire.specs.Visits.{VisitEnd, VisitView, Meets as MeetsVisit, end_of, given_in}
+use Rattle.shared_wire.specs.Records.{ReadsOn, WireRecord}
+use Rattle.shared_wire.specs.Visits.{DoesInTurn, VisitEnd, VisitView, Meets as MeetsVisit, OthersWentOn, end_of, given_in}
 use Rattle.stream_feed.specs.Feeds.{Feeds}
 use Rattle.stream_feed.specs.declared.job.FeedEnd.{FeedEnd}
 use Rattle.sub_plan.specs.declared.plan.Plan.{Plan}
@@ -78,46 +78,71 @@ module _ (schema : List SchemaNode) (started : Started) (end : FeedEnd) (book : 
       let taken = all_taken started.book book feeds.turns feeds.looks.taken in
       record { book = taken.0 ∙ is.book_is; shared = shared; other_shared = taken.1 ∙ is.shared }
 
-  pub has_lock : (port lock : List ℕ) → IsOf port lock started → wire.lock ≡ lock
-  has_lock port lock is = feeds.speaks.connection ∙ is.wire_is
-
   met_none : started.wire.met ≡ [] → wire.met ≡ []
   met_none none = none_of wire.met (ap others_of feeds.speaks.authors ∙ ap (λ (ends : List VisitEnd). map (λ (one : VisitEnd). one.author) ends) none)
 
-  pub one_ended : (book_name lock : List ℕ) → IsOf book_name lock started → HasEnded schema started
-      (record { stream = started.stream; plan = started.plan; end = end; from = ports_at started.book started.wire; to = ports_at book wire }) wire
-  one_ended book_name lock is = record {
-    stream = refl;
-    plan = refl;
-    from = refl;
-    feeds = feeds;
-    visit_is = refl;
-    author = ap first_of feeds.speaks.authors;
-    none_met = met_none is.none_met;
-    made = feeds.speaks.given
-        ∙ ap (λ (rs : List WireRecord). given_in rs ++ map (λ word. Some (Speech started.stream word)) (words_of feeds)) is.none_made;
-  }
+  -- The port was asked how a stream stands.
+  module _ (on : ℕ) (ready : Ready) (visit : VisitView) (asked : DoesInTurn (ReadsOn on ready) wire visit) where
+    found_is : visit.seen ≡ asked.found
+    found_is = ap (λ (v : VisitView). v.seen) asked.turn.new_is ∙ ap (λ (rs : List WireRecord). asked.found ++ rs) asked.does.none ∙ append-nil asked.found
 
-  -- and behind it the others
-  pub one_ends : (others : List Started) (old_book mid_book new_book : PortView) (old_wire mid_wire new_wire : VisitView) → IsOf old_book.book old_wire.lock started → Meets old_book book mid_book → MeetsVisit old_wire wire mid_wire
-      → AllEnd schema others mid_book mid_wire new_book new_wire → AllEnd schema (started ∷ others) old_book old_wire new_book new_wire
-  one_ends others old_book mid_book new_book old_wire mid_wire new_wire is meets visit_meets all = record {
-    feeders = record { stream = started.stream; plan = started.plan; end = end; from = ports_at started.book started.wire; to = ports_at book wire } ∷ all.feeders;
-    visits = wire ∷ all.visits;
-    ended = (one_ended old_book.book old_wire.lock is, all.ended);
-    books = (mid_book, meets, all.books);
-    wires = (mid_wire, visit_meets, all.wires);
-    met = all.met
-        ∙ ap (λ (ends : List VisitEnd). ends ++ map end_of all.visits) (ap (λ (v : VisitView). v.met) visit_meets.new_is
-        ∙ ap (λ (ends : List VisitEnd). old_wire.met ++ end_of wire ∷ ends) (met_none is.none_met))
-        ∙ append_assoc old_wire.met (end_of wire ∷ []) (map end_of all.visits);
-  }
+    visit_is : visit ≡ record wire { seen = visit.seen; finds = wire.finds ++ visit.seen ∷ [] }
+    visit_is =
+        asked.turn.new_is
+        ∙ ap (λ (rs : List WireRecord). record wire { seen = asked.found ++ rs; finds = wire.finds ++ asked.found ∷ []; made = wire.made ++ rs }) asked.does.none
+        ∙ ap (λ (rs : List WireRecord). record wire { seen = rs; finds = wire.finds ++ asked.found ∷ []; made = wire.made ++ [] }) (append-nil asked.found)
+        ∙ ap (λ (rs : List WireRecord). record wire { seen = asked.found; finds = wire.finds ++ asked.found ∷ []; made = rs }) (append-nil wire.made)
+        ∙ ap (λ (rs : List WireRecord). record wire { seen = rs; finds = wire.finds ++ rs ∷ [] }) (sym found_is)
+
+    author_is : visit.author ≡ wire.author
+    author_is = ap (λ (v : VisitView). v.author) visit_is
+
+    visit_met : started.wire.met ≡ [] → visit.met ≡ []
+    visit_met none = ap (λ (v : VisitView). v.met) visit_is ∙ met_none none
+
+    pub has_lock : (port lock : List ℕ) → IsOf port lock started → visit.lock ≡ lock
+    has_lock port lock is = ap (λ (v : VisitView). v.lock) visit_is ∙ feeds.speaks.connection ∙ is.wire_is
+
+    pub one_ended : (book_name lock : List ℕ) → IsOf book_name lock started → HasEnded schema started
+        (record { stream = started.stream; plan = started.plan; end = end; from = ports_at started.book started.wire; to = ports_at book wire }) visit
+    one_ended book_name lock is = record {
+      stream = refl;
+      plan = refl;
+      from = refl;
+      feeds = feeds;
+      last = wire;
+      last_is = refl;
+      records = asked.turn.has_seen;
+      went_on = subst (λ (n : ℕ). OthersWentOn n wire.seen visit.seen) (sym author_is) (subst (OthersWentOn wire.author wire.seen) (sym found_is) asked.turn.begins);
+      visit_is = visit_is;
+      author = author_is ∙ ap first_of feeds.speaks.authors;
+      none_met = visit_met is.none_met;
+      made = ap (λ (v : VisitView). given_in v.made) visit_is
+          ∙ feeds.speaks.given
+          ∙ ap (λ (rs : List WireRecord). given_in rs ++ map (λ word. Some (Speech started.stream word)) (words_of feeds)) is.none_made;
+    }
+
+    -- and behind it the others
+    pub one_ends : (others : List Started) (old_book mid_book new_book : PortView) (old_wire mid_wire new_wire : VisitView) → IsOf old_book.book old_wire.lock started → Meets old_book book mid_book → MeetsVisit old_wire visit mid_wire
+        → AllEnd schema others mid_book mid_wire new_book new_wire → AllEnd schema (started ∷ others) old_book old_wire new_book new_wire
+    one_ends others old_book mid_book new_book old_wire mid_wire new_wire is meets visit_meets all = record {
+      feeders = record { stream = started.stream; plan = started.plan; end = end; from = ports_at started.book started.wire; to = ports_at book wire } ∷ all.feeders;
+      visits = visit ∷ all.visits;
+      ended = (one_ended old_book.book old_wire.lock is, all.ended);
+      books = (mid_book, meets, all.books);
+      wires = (mid_wire, visit_meets, all.wires);
+      met = all.met
+          ∙ ap (λ (ends : List VisitEnd). ends ++ map end_of all.visits) (ap (λ (v : VisitView). v.met) visit_meets.new_is
+          ∙ ap (λ (ends : List VisitEnd). old_wire.met ++ end_of visit ∷ ends) (visit_met is.none_met))
+          ∙ append_assoc old_wire.met (end_of visit ∷ []) (map end_of all.visits);
+    }
 
 pub ends_under : (schema under : List SchemaNode) (started : Started) (end : FeedEnd) (book : PortView) (wire : VisitView) → Feeds under started.stream started.plan end (ports_at started.book started.wire) (ports_at book wire) → under ≡ schema
-    → (others : List Started) (old_book mid_book new_book : PortView) (old_wire mid_wire new_wire : VisitView) → IsOf old_book.book old_wire.lock started → Meets old_book book mid_book → MeetsVisit old_wire wire mid_wire
+    → (on : ℕ) (ready : Ready) (visit : VisitView) → DoesInTurn (ReadsOn on ready) wire visit
+    → (others : List Started) (old_book mid_book new_book : PortView) (old_wire mid_wire new_wire : VisitView) → IsOf old_book.book old_wire.lock started → Meets old_book book mid_book → MeetsVisit old_wire visit mid_wire
     → AllEnd schema others mid_book mid_wire new_book new_wire → AllEnd schema (started ∷ others) old_book old_wire new_book new_wire
-ends_under schema under started end book wire feeds is others old_book mid_book new_book old_wire mid_wire new_wire its meets visit_meets all =
-    one_ends schema started end book wire (subst (λ (s : List SchemaNode). Feeds s started.stream started.plan end (ports_at started.book started.wire) (ports_at book wire)) is feeds)
+ends_under schema under started end book wire feeds is on ready visit asked others old_book mid_book new_book old_wire mid_wire new_wire its meets visit_meets all =
+    one_ends schema started end book wire (subst (λ (s : List SchemaNode). Feeds s started.stream started.plan end (ports_at started.book started.wire) (ports_at book wire)) is feeds) on ready visit asked
     others old_book mid_book new_book old_wire mid_wire new_wire its meets visit_meets all
 
 pub none_end : (schema : List SchemaNode) (book : PortView) (wire : VisitView) → AllEnd schema [] book wire book wire

@@ -7,8 +7,8 @@ use Rattle.h2_events.specs.Items.{said_by}
 use Rattle.h2_events.specs.declared.said.Piece.TheVariants as piece
 use Rattle.h2_events.specs.declared.said.Said.{Said}
 use Rattle.h2_send.specs.Inputs.{Input, Event, Speech}
-use Rattle.shared_wire.specs.Records.{left_in}
-use Rattle.shared_wire.specs.Visits.{VisitView, IsTwin as IsWireTwin, Meets as MeetsVisit, authors_of, end_of, given_in}
+use Rattle.shared_wire.specs.Records.{AreRecords, left_in}
+use Rattle.shared_wire.specs.Visits.{VisitView, IsTwin as IsWireTwin, Meets as MeetsVisit, OthersWentOn, authors_of, end_of, given_in}
 use Rattle.stream_feed.specs.Feeds.{Feeds, Ports, last_pieces}
 use Rattle.stream_feed.specs.Wires.{WireView}
 use Rattle.stream_feed.specs.declared.job.FeedEnd.{FeedEnd}
@@ -104,15 +104,23 @@ abbrev pub words_of : {schema : List SchemaNode} {stream : ℕ} {plan : Plan} {e
 words_of {schema} {stream} {plan} {end} feeds =
     map said_by (map piece.Message feeds.taken ++ last_pieces end) ++ feeds.lost
 
--- A feeder that was started so has ended, with this port of the wire. It has said there what it said, on its stream, and nothing
--- else was done through its port.
+-- A feeder that was started so has ended, and its port of the wire has then taken one turn more, in which it made no record: now
+-- it is this one. The feeder has said there what it said, on its stream, and nothing else was done through its port.
 pub record HasEnded (schema : List SchemaNode) (started : Started) (feeder : Feeder)
     (visit : VisitView) : Type 0 where
   pub stream : feeder.stream ≡ started.stream
   pub plan : feeder.plan ≡ started.plan
   pub from : feeder.from ≡ ports_at started.book started.wire
   pub feeds : Feeds schema feeder.stream feeder.plan feeder.end feeder.from feeder.to
-  pub visit_is : feeder.to.wire ≡ wire_of visit
+  -- the port of the wire as it was at the feeder's end
+  pub last : VisitView
+  pub last_is : feeder.to.wire ≡ wire_of last
+  -- What it had seen by then are records of the wire, from the first one. Its further turn found these again, and behind them
+  -- records of others alone.
+  pub records : AreRecords last.seen
+  pub went_on : OthersWentOn visit.author last.seen visit.seen
+  -- That turn changed nothing else of it.
+  pub visit_is : visit ≡ record last { seen = visit.seen; finds = last.finds ++ visit.seen ∷ [] }
   pub author : visit.author ≡ started.wire.author
   pub none_met : visit.met ≡ []
   pub made : given_in visit.made

@@ -47,8 +47,10 @@ where
     let FeedDone {
         end: _,
         book: own,
-        wire: visit,
+        wire: mut visit,
     } = next.finish(rt);
+    // It tells contracts that what the port had seen are records of the wire, which went on from them.
+    let _ = visit.readiness(0);
     meet_ports(book, wire, own, visit);
 }
 
