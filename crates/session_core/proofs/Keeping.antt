@@ -19,7 +19,7 @@ use Rattle.sub_plan.specs.declared.plan.Plan.{Plan}
 use Rattle.subscribe_calls.specs.Calls.{CallView}
 use Rattle.session_core.specs.laws.StreamLaws.{IsFirstMessage}
 use Rattle.session_core.specs.declared.served.Served.{Served}
-use Rattle.session_core.specs.Deeds.{Deed, Doing, Answering, Turning, Dropping, Service, IsAmong, IsPlain, IsTurnIn, IsBegun, IsFirst, IsPolled, IsNext, IsEnding, IsHeardBy, IsAnswer, IsDone, AreDone, asked_in, requests_in, kept_streaming, kept_polled, others_than, is_last_poll, most_polls}
+use Rattle.session_core.specs.Deeds.{Deed, Doing, Answering, Handing, Turning, Dropping, Service, IsAmong, IsPlain, IsTurnIn, IsBegun, IsFirst, IsPolled, IsNext, IsEnding, IsHeardBy, IsAnswer, IsDone, AreDone, asked_in, requests_in, kept_streaming, kept_polled, others_than, is_last_poll, most_polls}
 
 pub all_both : {X : Type 0} (P : X → Type 0) (xs ys : List X) → AllByRecursion P xs → AllByRecursion P ys → AllByRecursion P (xs ++ ys)
 all_both P [] ys p q = q
@@ -155,6 +155,7 @@ module _ (schema : List SchemaNode) (deed : Deed) (old new : Service) where
 
   pub changes : (doing : Doing) → deed.doing ≡ doing → IsDone schema doing deed old new → Changes deed old.calls new.calls
   changes (Answering asked) at is = answered asked at is
+  changes (Handing body) at is = stays [] is.plain
   changes Turning at is = turned is.served is.others is.later is.among is.served.call.plan.mode is.turn
   changes Dropping at is = dropped is.served is.others is.later is.among [] is.plain
 
@@ -192,6 +193,7 @@ module _ (P : ℕ → Type 0) where
   -- a deed is done on a stream of which something was asked, or of a call that is served
   done_on : (schema : List SchemaNode) (deed : Deed) (old new : Service) (doing : Doing) → IsDone schema doing deed old new → AllByRecursion (λ (r : Request). P r.stream) (asked_in deed.stream doing) → All old.calls → P deed.stream
   done_on schema deed old new (Answering asked) is asks all = asks.0
+  done_on schema deed old new (Handing body) is asks all = asks.0
   done_on schema deed old new Turning is asks all = subst P is.among.on (one_among is.others is.later is.served (subst All is.among.whole all))
   done_on schema deed old new Dropping is asks all = subst P is.among.on (one_among is.others is.later is.served (subst All is.among.whole all))
 

@@ -1,9 +1,9 @@
 -- What one input more adds to the order.
-use Rattle.std.proofs.Common.{◌≡◌, ℕ, ◌==◌, List, [], ◌∷◌, ◌++◌, Bool, false, map, refl, ap, ◌∙◌, cond, append-nil}
+use Rattle.std.proofs.Common.{◌≡◌, ℕ, ◌==◌, List, [], ◌∷◌, ◌++◌, Bool, true, false, map, refl, sym, ap, ◌∙◌, cond, append-nil}
 use Rattle.h2_frame.specs.Frames.{Frame}
 use Rattle.h2_events.specs.declared.event.RecvEvent.{RecvEvent}
 use Rattle.h2_events.specs.declared.said.Said.{Said}
-use Rattle.h2_events.specs.Items.{Item, Read, Ended, heard, said_on, is_last, as_read, can_say, can_say_from, can_say_after}
+use Rattle.h2_events.specs.Items.{Read, Ended, heard, said_on, is_last, as_read, can_say, can_say_from, can_say_after}
 use Rattle.h2_events.specs.Items as item
 use Rattle.h2_events.proofs.Orders.{heard-append, heard-wrote, said_on-append, said_on-wrote, as_read-append, as_read-wrote}
 use Rattle.h2_events.proofs.Streams.{can_say-append}
@@ -12,6 +12,8 @@ use Rattle.h2_send.specs.Lines.{first_line}
 use Rattle.h2_send.specs.Acting.{handled}
 use Rattle.h2_send.specs.Orders.{line_after, order_of}
 use Rattle.h2_send.proofs.Orders.{grows}
+use Rattle.session_feeders.specs.Feeders.{is_fed}
+use Rattle.session_core.specs.Serving.{without_fed}
 
 pub one_more : (inputs : List Input) (i : Input) → order_of (inputs ++ i ∷ []) ≡ order_of inputs ++ item_of i ∷ map item.Wrote (handled i (line_after first_line inputs)).frames
 one_more inputs i = grows first_line inputs i
@@ -68,6 +70,35 @@ read_by_speech inputs on said =
     ap as_read (one_more inputs (Speech on said))
     ∙ as_read-append (order_of inputs) (item.Accepted on said ∷ map item.Wrote frames)
     ∙ ap (λ t. as_read (order_of inputs) ++ cond (is_last said) (Ended on ∷ t) t) (as_read-wrote frames)
+
+-- ---- without the ends of the calls that feeders serve
+
+end_more : (b : Bool) (stream : ℕ) (all first second : List Read) → all ≡ first ++ second → cond b all (Ended stream ∷ all) ≡ cond b first (Ended stream ∷ first) ++ second
+end_more true stream all first second is = is
+end_more false stream all first second is = ap (λ (rs : List Read). Ended stream ∷ rs) is
+
+pub without_more : (fed : List ℕ) (reads others : List Read) → without_fed fed (reads ++ others) ≡ without_fed fed reads ++ without_fed fed others
+without_more fed [] others = refl
+without_more fed (item.Event event ∷ reads) others = ap (λ (rs : List Read). item.Event event ∷ rs) (without_more fed reads others)
+without_more fed (Ended stream ∷ reads) others =
+    end_more (is_fed fed stream) stream (without_fed fed (reads ++ others)) (without_fed fed reads) (without_fed fed others) (without_more fed reads others)
+
+-- both orders go on in one way
+pub both_more : (fed : List ℕ) (first second more : List Read) → without_fed fed first ≡ without_fed fed second → without_fed fed (first ++ more) ≡ without_fed fed (second ++ more)
+both_more fed first second more same =
+    without_more fed first more ∙ ap (λ (rs : List Read). rs ++ without_fed fed more) same ∙ sym (without_more fed second more)
+
+end_untold : (last : Bool) (fed : List ℕ) (on : ℕ) → is_fed fed on ≡ true → without_fed fed (cond last (Ended on ∷ []) []) ≡ []
+end_untold true fed on theirs = ap (λ (b : Bool). cond b [] (Ended on ∷ [])) theirs
+end_untold false fed on theirs = refl
+
+-- the end of such a call isn't told
+pub read_by_feeder : (fed : List ℕ) (inputs : List Input) (on : ℕ) (said : Said) → is_fed fed on ≡ true → without_fed fed (as_read (order_of (inputs ++ Speech on said ∷ []))) ≡ without_fed fed (as_read (order_of inputs))
+read_by_feeder fed inputs on said theirs =
+    ap (without_fed fed) (read_by_speech inputs on said)
+    ∙ without_more fed (as_read (order_of inputs)) (cond (is_last said) (Ended on ∷ []) [])
+    ∙ ap (λ (rs : List Read). without_fed fed (as_read (order_of inputs)) ++ rs) (end_untold (is_last said) fed on theirs)
+    ∙ append-nil (without_fed fed (as_read (order_of inputs)))
 
 -- ---- what can be said
 

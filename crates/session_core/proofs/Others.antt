@@ -5,7 +5,7 @@ use Rattle.std.specs.List.{AllByRecursion}
 use Rattle.h2_events.specs.declared.port.Ready.TheVariants.{Free, Busy}
 use Rattle.h2_events.specs.declared.said.Said.{Said}
 use Rattle.h2_events.specs.declared.said.Said.TheVariants.{Message, Finish, Status}
-use Rattle.h2_events.specs.Items.{Read, Event, Ended, as_read, is_last, said_on}
+use Rattle.h2_events.specs.Items.{is_last, said_on}
 use Rattle.h2_send.specs.Accepting.{AreAccepted, IsAccepted, IsOpenedOnce}
 use Rattle.h2_send.specs.Inputs.{Input, Speech}
 use Rattle.h2_send.specs.Inputs as inputs
@@ -18,14 +18,13 @@ use Rattle.session_feeders.specs.Feeders.{is_fed}
 use Rattle.session_core.specs.declared.served.Served.{Served}
 use Rattle.session_core.specs.declared.waiting.Waiting.{Waiting}
 use Rattle.session_core.specs.Deeds.{Deed, said_to}
-use Rattle.session_core.specs.Feeding.{AreFromFeeders, IsSaidApart, without_fed}
-use Rattle.session_core.specs.FeederRuns.{IsServedApart}
+use Rattle.session_core.specs.Feeding.{AreFromFeeders}
 use Rattle.session_core.specs.Rounds.{HadTurns}
 use Rattle.session_core.specs.Runs.{IsAtRest}
-use Rattle.session_core.specs.Saying.{IsFront, IsOver, any_opens, waits_on}
-use Rattle.session_core.specs.Serving.{Course, Standing, Start}
+use Rattle.session_core.specs.Saying.{IsFront, IsOver, IsSaid, any_opens, waits_on}
+use Rattle.session_core.specs.Serving.{Course, IsServed, Standing, Start, deeds_in}
 use Rattle.session_core.proofs.Behind.{still_behind}
-use Rattle.session_core.proofs.Orders.{can_say_more, heard_by_speech, read_by_speech, said_by_speech}
+use Rattle.session_core.proofs.Orders.{can_say_more, heard_by_speech, read_by_feeder, said_by_speech}
 use Rattle.session_core.proofs.Rounds.{frame_more, recent_more}
 
 abbrev more : List Input → ℕ → Said → List Input
@@ -51,60 +50,44 @@ still_over stream on given said over = record {
   closed = can_say_more stream given (Speech on said) ∙ ap (λ (b : Bool). b && not (on == stream && is_last said)) over.closed;
 }
 
-still_said : (b : Bool) (fed : List ℕ) (stream on : ℕ) (given : List Input) (said : Said) (waiting : List Waiting) (deeds : List Deed) → is_fed fed on ≡ true → is_fed fed stream ≡ b
-    → IsSaidApart b stream waiting (order_of given) deeds → IsSaidApart b stream waiting (order_of (more given on said)) deeds
-still_said true fed stream on given said waiting deeds theirs is s = s
-still_said false fed stream on given said waiting deeds theirs is (inl all) =
-    inl (ap (λ (ws : List Said). ws ++ waits_on stream waiting) (same_said fed stream on given said theirs is) ∙ all)
-still_said false fed stream on given said waiting deeds theirs is (inr (over, front)) =
-    inr (still_over stream on given said over, subst (λ ws. IsFront ws (said_to stream deeds)) (sym (same_said fed stream on given said theirs is)) front)
-
-end_more : (b : Bool) (stream : ℕ) (all first second : List Read) → all ≡ first ++ second → cond b all (Ended stream ∷ all) ≡ cond b first (Ended stream ∷ first) ++ second
-end_more true stream all first second is = is
-end_more false stream all first second is = ap (λ (rs : List Read). Ended stream ∷ rs) is
-
-without_more : (fed : List ℕ) (reads others : List Read) → without_fed fed (reads ++ others) ≡ without_fed fed reads ++ without_fed fed others
-without_more fed [] others = refl
-without_more fed (Event event ∷ reads) others = ap (λ rs. Event event ∷ rs) (without_more fed reads others)
-without_more fed (Ended stream ∷ reads) others =
-    end_more (is_fed fed stream) stream (without_fed fed (reads ++ others)) (without_fed fed reads) (without_fed fed others) (without_more fed reads others)
-
-end_untold : (last : Bool) (fed : List ℕ) (on : ℕ) → is_fed fed on ≡ true → without_fed fed (cond last (Ended on ∷ []) []) ≡ []
-end_untold true fed on theirs = ap (λ (b : Bool). cond b [] (Ended on ∷ [])) theirs
-end_untold false fed on theirs = refl
-
-same_reads : (fed : List ℕ) (on : ℕ) (given : List Input) (said : Said) → is_fed fed on ≡ true → without_fed fed (as_read (order_of (more given on said))) ≡ without_fed fed (as_read (order_of given))
-same_reads fed on given said theirs =
-    ap (without_fed fed) (read_by_speech given on said)
-    ∙ without_more fed (as_read (order_of given)) (cond (is_last said) (Ended on ∷ []) [])
-    ∙ ap (λ rs. without_fed fed (as_read (order_of given)) ++ rs) (end_untold (is_last said) fed on theirs)
-    ∙ append-nil (without_fed fed (as_read (order_of given)))
+still_said : (fed : List ℕ) (stream on : ℕ) (given : List Input) (said : Said) (waiting : List Waiting) (deeds : List Deed) → is_fed fed on ≡ true → is_fed fed stream ≡ false
+    → IsSaid stream waiting (order_of given) deeds → IsSaid stream waiting (order_of (more given on said)) deeds
+still_said fed stream on given said waiting deeds theirs own (inl all) =
+    inl (ap (λ (ws : List Said). ws ++ waits_on stream waiting) (same_said fed stream on given said theirs own) ∙ all)
+still_said fed stream on given said waiting deeds theirs own (inr (over, front)) =
+    inr (still_over stream on given said over, subst (λ ws. IsFront ws (said_to stream deeds)) (sym (same_said fed stream on given said theirs own)) front)
 
 -- ---- what was served
 
 abbrev pub course_with : Course → List Input → Course
 course_with course given = record course { inputs = given }
 
-pub one_served : (fed : List ℕ) (start : Start) (course : Course) (on : ℕ) (said : Said) → is_fed fed on ≡ true → IsServedApart fed start course → IsServedApart fed start (course_with course (more course.inputs on said))
-one_served fed start course on said theirs s = record {
-  rounds = s.rounds;
-  last = more s.last on said;
-  given = ap (λ (is : List Input). more is on said) s.given ∙ append_assoc _ s.last (Speech on said ∷ []);
-  frame = frame_more s.rounds s.last on said s.frame;
-  whole = s.whole;
-  recent = recent_more course.inputs course.standing.round on said s.recent;
-  asked = s.asked;
-  done = s.done;
-  timely = s.timely;
-  clock = s.clock;
-  said = λ stream. still_said (is_fed fed stream) fed stream on course.inputs said course.waiting _ theirs refl (s.said stream);
-  opened = λ stream. subst (IsOpenedOnce stream) (sym (heard_by_speech course.inputs on said)) (s.opened stream);
-  together = same_reads fed on course.inputs said theirs ∙ s.together;
-}
+pub served_on : (fed : List ℕ) (start : Start) (course : Course) (on : ℕ) (said : Said) → is_fed fed on ≡ true → (s : IsServed fed start course) → (now : IsServed fed start (course_with course (more course.inputs on said))) × (deeds_in now ≡ deeds_in s)
+served_on fed start course on said theirs s = (
+  record {
+    rounds = s.rounds;
+    last = more s.last on said;
+    given = ap (λ (is : List Input). more is on said) s.given ∙ append_assoc _ s.last (Speech on said ∷ []);
+    frame = frame_more s.rounds s.last on said s.frame;
+    whole = s.whole;
+    recent = recent_more course.inputs course.standing.round on said s.recent;
+    asked = s.asked;
+    done = s.done;
+    timely = s.timely;
+    clock = s.clock;
+    said = λ stream own. still_said fed stream on course.inputs said course.waiting _ theirs own (s.said stream own);
+    opened = λ stream. subst (IsOpenedOnce stream) (sym (heard_by_speech course.inputs on said)) (s.opened stream);
+    one_order = read_by_feeder fed course.inputs on said theirs ∙ s.one_order;
+  },
+  refl,
+)
+
+pub one_served : (fed : List ℕ) (start : Start) (course : Course) (on : ℕ) (said : Said) → is_fed fed on ≡ true → IsServed fed start course → IsServed fed start (course_with course (more course.inputs on said))
+one_served fed start course on said theirs s = (served_on fed start course on said theirs s).0
 
 -- ---- what rests
 
-free_accepted : (on : ℕ) (said : Said) (line : Line) → IsAccepted (Speech on said) line → ready_on on line.streams ≡ Free
+pub free_accepted : (on : ℕ) (said : Said) (line : Line) → IsAccepted (Speech on said) line → ready_on on line.streams ≡ Free
 free_accepted on (Message octets) line is = is.0
 free_accepted on (Finish refusal) line is = is
 free_accepted on (Status status) line is = is.0
@@ -118,14 +101,14 @@ had_still : {A : Type 0} (stream on : ℕ) (given : List Input) (said : Said) �
 had_still stream on given said free (inl had) = inl had
 had_still stream on given said free (inr busy) = inr (still_busy stream on given said free busy)
 
-turned_still : (deeds : List Deed) (on : ℕ) (given : List Input) (said : Said) (calls : List Served) → ready_on on (line_after first_line given).streams ≡ Free → AllByRecursion (HadTurns deeds given) calls → AllByRecursion (HadTurns deeds (more given on said)) calls
+pub turned_still : (deeds : List Deed) (on : ℕ) (given : List Input) (said : Said) (calls : List Served) → ready_on on (line_after first_line given).streams ≡ Free → AllByRecursion (HadTurns deeds given) calls → AllByRecursion (HadTurns deeds (more given on said)) calls
 turned_still deeds on given said [] free had = tt
 turned_still deeds on given said (served ∷ calls) free had = (
   record { had = had_still served.stream on given said free had.0.had; once = had.0.once },
   turned_still deeds on given said calls free had.1,
 )
 
-one_rests : (owed : List Request) (given : List Input) (waiting : List Waiting) (standing : Standing) (on : ℕ) (said : Said) → ready_on on (line_after first_line given).streams ≡ Free → IsAtRest owed given waiting standing → IsAtRest owed (more given on said) waiting standing
+pub one_rests : (owed : List Request) (given : List Input) (waiting : List Waiting) (standing : Standing) (on : ℕ) (said : Said) → ready_on on (line_after first_line given).streams ≡ Free → IsAtRest owed given waiting standing → IsAtRest owed (more given on said) waiting standing
 one_rests owed given waiting standing on said free rest = record {
   none_owed = rest.none_owed;
   behind = still_behind on said given waiting free rest.behind;
@@ -137,11 +120,11 @@ one_rests owed given waiting standing on said free rest = record {
 next_accepted : (given theirs : List Input) (on : ℕ) (said : Said) → AreAccepted (line_after first_line given) (Speech on said ∷ theirs) → AreAccepted (line_after first_line (more given on said)) theirs
 next_accepted given theirs on said are = subst (λ (l : Line). AreAccepted l theirs) (sym (line_after_one first_line given (Speech on said))) are.1
 
-pub others_serve : (fed : List ℕ) (start : Start) (course : Course) (theirs : List Input) → AreFromFeeders fed theirs → IsServedApart fed start course → IsServedApart fed start (course_with course (course.inputs ++ theirs))
-others_serve fed start course [] from s = subst (λ (is : List Input). IsServedApart fed start (course_with course is)) (sym (append-nil course.inputs)) s
+pub others_serve : (fed : List ℕ) (start : Start) (course : Course) (theirs : List Input) → AreFromFeeders fed theirs → IsServed fed start course → IsServed fed start (course_with course (course.inputs ++ theirs))
+others_serve fed start course [] from s = subst (λ (is : List Input). IsServed fed start (course_with course is)) (sym (append-nil course.inputs)) s
 others_serve fed start course (inputs.Event event ∷ theirs) from s = absurd from.0
 others_serve fed start course (Speech on said ∷ theirs) from s =
-    subst (λ (is : List Input). IsServedApart fed start (course_with course is)) (append_assoc course.inputs (Speech on said ∷ []) theirs)
+    subst (λ (is : List Input). IsServed fed start (course_with course is)) (append_assoc course.inputs (Speech on said ∷ []) theirs)
     (others_serve fed start (course_with course (more course.inputs on said)) theirs from.1 (one_served fed start course on said from.0 s))
 
 pub others_rest : (fed : List ℕ) (owed : List Request) (given : List Input) (waiting : List Waiting) (standing : Standing) (theirs : List Input) → AreFromFeeders fed theirs → AreAccepted (line_after first_line given) theirs → IsAtRest owed given waiting standing

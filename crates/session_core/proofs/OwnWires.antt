@@ -1,5 +1,7 @@
 -- A wire of the session's own as its sending half.
-use Rattle.std.proofs.Common.{◌≡◌, ◌≢◌, inl, inr, ℕ, List, [], ◌∷◌, ◌++◌, Bool, true, false, refl, sym, ap, ◌∙◌, subst, append-nil, Result, Ok, Err}
+use Rattle.std.proofs.Common.{◌≡◌, ◌≢◌, inl, inr, ℕ, List, [], ◌∷◌, Bool, true, false, refl, sym, ap, ◌∙◌, subst, append-nil, map, Result, Ok, Err}
+use Rattle.std.specs.Prelude.{Some}
+use Rattle.std.proofs.Math.Nat.{le_refl}
 use Rattle.edge_traits.specs.Output.{Output, Wrote, FailedWithin}
 use Rattle.h2_frame.specs.ErrorCodes.{flow_control_error}
 use Rattle.h2_windows.specs.Written.{octets_of}
@@ -15,9 +17,8 @@ use Rattle.h2_send.specs.Acting.{acted, handled}
 use Rattle.h2_send.specs.Conditions.{IsClosed, answer_of, readiness}
 use Rattle.h2_send.specs.Farewells.{farewell}
 use Rattle.h2_send.specs.Inputs.{Input, Event, Speech}
-use Rattle.h2_send.specs.Lines.{Line, first_line, is_new_stream, overflows}
+use Rattle.h2_send.specs.Lines.{Line, is_new_stream, overflows}
 use Rattle.h2_send.specs.Offers.{IsStatus, has_begun, ready_on}
-use Rattle.h2_send.specs.Orders.{line_after}
 use Rattle.h2_send.specs.Port.{Progress, Takes, line_of}
 use Rattle.h2_send.specs.Wires.{Does, IsFolded, WireView, finished, progress_of}
 use Rattle.h2_send.specs.Wires as wires
@@ -26,9 +27,16 @@ use Rattle.h2_send.specs.declared.condition.Condition.TheVariants as condition
 use Rattle.h2_send.specs.declared.fault.WireFaultOut.{WireFaultOut}
 use Rattle.h2_send.specs.declared.fault.WireFaultOut.TheVariants as faults
 use Rattle.h2_send.proofs.Closing.{open_line}
-use Rattle.session_core.specs.inner.Sending.{Acts, Closes, ClosesFor, DoesWhereOpen, Reads, Says, TellsDone, TellsFault, TellsTook}
-use Rattle.session_core.proofs.Found.{nothing_found}
-use Rattle.session_core.proofs.Words.{is_free}
+use Rattle.session_core.specs.inner.Sending.{Acts, Closes, DoesWhereOpen, Finds, Gives, Reads, Says, TellsDone, TellsFault, TellsTook}
+use Rattle.session_core.proofs.Others.{free_accepted}
+
+-- nobody else did anything
+none_gave : (at : Progress) (inputs : List Input) → [] ≡ map Some inputs → Gives inputs at at
+none_gave at [] is = refl
+none_gave at (input ∷ inputs) is = absurd cc
+
+found_so : (at : Progress) → Finds [] [] at at
+found_so at = record { did = []; told = refl; gave = none_gave at }
 
 not_closed : (state : Condition) → state ≡ condition.Open → IsClosed state → ⊥
 not_closed state is closed = subst IsClosed is closed
@@ -39,7 +47,7 @@ module _ {S : Type 0} (seen : S → Output) where
 
   own_call : (old new : WireView S) (Does : Progress → Progress → Type 0) (Tells : Result (Unit {0}) WireFaultOut → Type 0) → (old.condition ≡ condition.Open → Does (at old) (at new))
       → (IsClosed old.condition → (at new ≡ at old) × Tells (answer_of old.condition)) → DoesWhereOpen [] [] (at old) (at new) Does Tells
-  own_call old new Does Tells does tells = record { found = at old; finds = nothing_found [] (at old); does = does; tells = tells }
+  own_call old new Does Tells does tells = record { found = at old; finds = found_so (at old); does = does; tells = tells }
 
   -- the windows are those of the inputs
   line_is : (w : WireView S) → IsFolded w.condition w.line w.inputs → w.condition ≡ condition.Open → w.line ≡ line_of (at w)
@@ -69,7 +77,7 @@ module _ {S : Type 0} (seen : S → Output) where
     said_so : (stream : ℕ) (said : Said) (answer : Took) → old.line ≡ line_of (at old) → IsAccepted (Speech stream said) (line_of (at old)) → wires.Says seen (Speech stream said) answer old new → Says stream said answer (at old) (at new)
     said_so stream said took.Taken is accepts says = (accepts, takes took.Taken (Speech stream said) is says)
     said_so stream said took.WriteFault is accepts says = (accepts, takes took.WriteFault (Speech stream said) is says)
-    said_so stream said took.NoMemory is accepts says = let t = takes took.NoMemory (Speech stream said) is says in (t.0, t.2)
+    said_so stream said took.NoMemory is accepts says = let t = takes took.NoMemory (Speech stream said) is says in (t.0, t.2, (Speech stream said ∷ [], t.1, le_refl 1))
     said_so stream said took.Busy is accepts says = absurd says
     said_so stream said took.Gone is accepts says = absurd says
 
@@ -81,7 +89,7 @@ module _ {S : Type 0} (seen : S → Output) where
     gone_so stream said answer is never same = subst (λ (t : Took). Says stream said t (at old) (at new)) (sym is) (never, ap at same)
 
     not_free : (stream : ℕ) (said : Said) (r : Ready) → ready_on stream (line_of (at old)).streams ≡ r → (r ≡ Free → ⊥) → IsAccepted (Speech stream said) (line_of (at old)) → ⊥
-    not_free stream said r is other accepts = other (sym is ∙ is_free stream said (line_of (at old)) accepts)
+    not_free stream said r is other accepts = other (sym is ∙ free_accepted stream said (line_of (at old)) accepts)
 
     ready_is : (stream : ℕ) (r : Ready) → old.condition ≡ condition.Open → readiness old.condition stream old.line ≡ r → ready_on stream (line_of (at old)).streams ≡ r
     ready_is stream r is_open is =
@@ -185,7 +193,7 @@ module _ {S : Type 0} (seen : S → Output) where
         (ap (overflows event) (sym is) ∙ accepts, (subst (λ (l : Line). Wrote (octets_of (acted event l).frames) (seen old.sink) (seen new.sink)) is wrote, ap (λ (w : WireView S). w.inputs) same, ap (λ (w : WireView S). w.condition) same))
     acts_in (Err faults.WriteFault) is (accepts, (failed, grows, state, port)) =
         inl (ap (overflows event) (sym is) ∙ accepts, (subst (λ (l : Line). FailedWithin (octets_of (acted event l).frames) (seen old.sink) (seen new.sink)) is failed, grows, state))
-    acts_in (Err faults.NoMemory) is (accepts, (wants, same, grows, state, port)) = (same, state)
+    acts_in (Err faults.NoMemory) is (accepts, (wants, same, grows, state, port)) = (same, state, (Event event ∷ [], grows, le_refl 1))
     acts_in (Err faults.Overflow) is (accepts, never) = absurd never
 
     -- it is acted on

@@ -38,11 +38,11 @@ frame_more (r ∷ rounds) [] stream said is = absurd is
 frame_more (r ∷ rounds) (Event event ∷ inputs) stream said is = speeches_more inputs stream said is
 frame_more (r ∷ rounds) (Speech on word ∷ inputs) stream said is = absurd is
 
-pub whole_more : (schema : List SchemaNode) (start : Service) (before rounds : List Round) (round : Round) → AreWhole schema start before rounds → IsWhole schema start (before ++ rounds) round
-    → AreWhole schema start before (rounds ++ round ∷ [])
-whole_more schema start before [] round are is = (subst (λ (rs : List Round). IsWhole schema start rs round) (append-nil before) is, tt)
-whole_more schema start before (r ∷ rounds) round are is =
-    (are.0, whole_more schema start (before ++ r ∷ []) rounds round are.1 (subst (λ (rs : List Round). IsWhole schema start rs round) (sym (append_assoc before (r ∷ []) rounds)) is))
+pub whole_more : (fed : List ℕ) (schema : List SchemaNode) (start : Service) (before rounds : List Round) (round : Round) → AreWhole fed schema start before rounds → IsWhole fed schema start (before ++ rounds) round
+    → AreWhole fed schema start before (rounds ++ round ∷ [])
+whole_more fed schema start before [] round are is = (subst (λ (rs : List Round). IsWhole fed schema start rs round) (append-nil before) is, tt)
+whole_more fed schema start before (r ∷ rounds) round are is =
+    (are.0, whole_more fed schema start (before ++ r ∷ []) rounds round are.1 (subst (λ (rs : List Round). IsWhole fed schema start rs round) (sym (append_assoc before (r ∷ []) rounds)) is))
 
 pub recent_more : (inputs : List Input) (deeds : List Deed) (stream : ℕ) (said : Said) → AllByRecursion (IsRecent inputs) deeds → AllByRecursion (IsRecent (inputs ++ Speech stream said ∷ [])) deeds
 recent_more inputs [] stream said are = tt

@@ -27,7 +27,7 @@ use Rattle.subscribe_calls.specs.Calls.{CallView, HaveSaid, IsCallAt, view_in, c
 use Rattle.subscribe_calls.specs.Turns.{Answers}
 use Rattle.subscribe_calls.proofs.Going.{calls_go_on, calls_stay}
 use Rattle.session_core.specs.declared.served.Served.{Served}
-use Rattle.session_core.specs.Deeds.{Deed, Doing, Answering, Turning, Dropping, Service, IsAnswer, IsBegun, IsFirst, IsNext, IsPolled, IsEnding, IsHeardBy, IsPlain, IsCallTurn, IsTurnIn, IsDone, AreDone, kept_streaming, most_polls, new_served, others_than, said_streaming, told, told_all, turns_in}
+use Rattle.session_core.specs.Deeds.{Deed, Doing, Answering, Handing, Turning, Dropping, Service, IsAnswer, IsBegun, IsFirst, IsNext, IsPolled, IsEnding, IsHeardBy, IsPlain, IsCallTurn, IsTurnIn, IsDone, AreDone, kept_streaming, most_polls, new_served, others_than, said_streaming, told, told_all, turns_in}
 use Rattle.session_core.specs.Rounds.{is_turn}
 use Rattle.session_core.specs.laws.StreamLaws.{AsksStream, IsFirstMessage, NoneBegins, SaysRun, said_in_turns}
 use Rattle.session_core.proofs.History.{turns_taken}
@@ -47,6 +47,7 @@ over_stays s true deed old new is (inr (inr e)) first none = absurd (none_found 
 no_turn : (schema : List SchemaNode) (s : ℕ) (b : Bool) (deed : Deed) (doing : Doing) (old new : Service) → (deed.stream == s) ≡ b → IsDone schema doing deed old new → calls_on s old.calls ≡ [] → (b && is_turn doing) ≡ false
 no_turn schema s false deed doing old new is done none = refl
 no_turn schema s true deed (Answering asked) old new is done none = refl
+no_turn schema s true deed (Handing body) old new is done none = refl
 no_turn schema s true deed Dropping old new is done none = refl
 no_turn schema s true deed Turning old new is done none = absurd (none_found s deed old.calls done.others done.later done.served done.among.whole done.among.on is none)
 
@@ -279,6 +280,7 @@ module _ (schema : List SchemaNode) (plan : Plan) (streams : plan.mode ≡ modes
     step false doing off at is first =
         unchanged c (elsewhere s deed old.calls next.calls (changes schema deed old next doing at is) off ∙ mine) refl
     step true (Answering asked) on at is first = answers on asked is (λ f. first (subst IsFirstMessage (sym at) f))
+    step true (Handing body) on at is first = same_calls (calls_in [] old.calls deed old next is.plain)
     step true Turning on at is first = turns on is
     step true Dropping on at is first = dropped on is.others is.later is.served is.among.whole is.among.on (calls_in [] _ deed old next is.plain)
 

@@ -13,15 +13,15 @@ use Rattle.h2_send.proofs.Octets.{front_said}
 use Rattle.h2_send.proofs.Orders.{heard_again}
 use Rattle.h2_send.proofs.StreamFrames.{answered_on}
 use Rattle.session_core.specs.declared.how.How.{How}
-use Rattle.session_core.specs.Runs.{Outside, SessionRun}
+use Rattle.session_core.specs.Runs.{Outside, RunBeside}
 
-once : (schema : List SchemaNode) (old new : Outside) (how : How) (run : SessionRun schema old how new) (stream : ℕ) → IsOpenedOnce stream (events_of run.inputs)
-once schema old new how run stream = subst (λ (es : List RecvEvent). IsOpenedOnce stream es) (heard_again first_line run.inputs) (run.served.opened stream)
+once : (fed : List ℕ) (schema : List SchemaNode) (old new : Outside) (how : How) (run : RunBeside fed schema old how new) (stream : ℕ) → IsOpenedOnce stream (events_of run.inputs)
+once fed schema old new how run stream = subst (λ (es : List RecvEvent). IsOpenedOnce stream es) (heard_again first_line run.inputs) (run.served.opened stream)
 
-pub streams_answered : (schema : List SchemaNode) (old new : Outside) (how : How) (run : SessionRun schema old how new) (stream : ℕ)
+pub streams_answered : (fed : List ℕ) (schema : List SchemaNode) (old new : Outside) (how : How) (run : RunBeside fed schema old how new) (stream : ℕ)
     → IsAnswer stream (said_on stream (order_of run.inputs)) (frames_on stream (written (order_of run.inputs)))
-streams_answered schema old new how run stream = answered_on stream run.inputs run.accepted (once schema old new how run stream)
+streams_answered fed schema old new how run stream = answered_on stream run.inputs run.accepted (once fed schema old new how run stream)
 
-pub data_fronts : (schema : List SchemaNode) (old new : Outside) (how : How) (run : SessionRun schema old how new) (stream : ℕ)
+pub data_fronts : (fed : List ℕ) (schema : List SchemaNode) (old new : Outside) (how : How) (run : RunBeside fed schema old how new) (stream : ℕ)
     → (end : List ℕ) × (octets_said (said_on stream (order_of run.inputs)) ≡ data_on stream (written (order_of run.inputs)) ++ end)
-data_fronts schema old new how run stream = front_said stream run.inputs run.accepted (once schema old new how run stream)
+data_fronts fed schema old new how run stream = front_said stream run.inputs run.accepted (once fed schema old new how run stream)

@@ -173,3 +173,7 @@ no_poll_first body is = message_is (turn_of body) is
 pub ok_or : {A E : Type 0} (P : A → Type 0) (Q : Type 0) (result : Result A E) → Q → IfOk result P → MatchResult result P (λ fault. Q)
 ok_or P Q (Ok value) q p = p
 ok_or P Q (Err fault) q p = q
+
+pub begun_or : {A E : Type 0} (P S : A → Type 0) (Q : Type 0) (result : Result A E) → ((a : A) → P a → S a) → Q → IfOk result P → MatchResult result S (λ fault. Q)
+begun_or P S Q (Ok value) so q p = so value p
+begun_or P S Q (Err fault) so q p = q

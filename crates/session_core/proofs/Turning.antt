@@ -23,10 +23,12 @@ use Rattle.session_core.specs.declared.how.How.TheVariants as hows
 use Rattle.session_core.specs.declared.reply.Reply.{Reply}
 use Rattle.session_core.specs.declared.served.Served.{Served}
 use Rattle.session_core.specs.declared.waiting.Waiting.{Waiting}
-use Rattle.session_core.specs.Deeds.{Deed, Turning, Dropping, Service, IsDeed, asked_in}
+use Rattle.session_feeders.specs.Feeders.{is_fed}
+use Rattle.session_core.specs.Deeds.{Deed, Turning, Dropping, Service, IsDeed, asked_in, handed_by}
 use Rattle.session_core.specs.Rounds.{HadTurns, IsTimely, deeds_of, had_turns, is_turn, turns_on}
 use Rattle.session_core.specs.Saying.{AreBehind}
-use Rattle.session_core.specs.Serving.{Start, Standing, IsServed, first_service, standing_of}
+use Rattle.session_core.specs.Serving.{Start, Standing, first_service, standing_of}
+use Rattle.session_core.specs.inner.Feeders.{IsServedBeside, FeederState}
 use Rattle.session_core.specs.inner.Places.{IsTurning, NotYet, HasEnded, HasRested, Stands, course_of, place_of}
 use Rattle.session_core.specs.inner.Steps.{IsTurned, deed_with, list_of, said_in, service}
 use Rattle.session_core.specs.inner.Words.{words}
@@ -105,32 +107,32 @@ none_yet : (deeds : List Deed) (calls : List Served) → ((s : ℕ) → turns_on
 none_yet deeds [] none = tt
 none_yet deeds (c ∷ calls) none = (λ in_mode. none c.stream, none_yet deeds calls none)
 
-module _ (start : Start) (output : Output) (octets : List ℕ) (recv : State) (sending : Progress) (heard : List RecvEvent) where
+module _ (fed : List ℕ) (start : Start) (output : Output) (octets : List ℕ) (recv : State) (sending : Progress) (side : FeederState) (heard : List RecvEvent) where
   -- a deed that answers no request
-  stands_more : (waiting : List Waiting) (at : Standing) (deed : Deed) (new : Service) (later : List ℕ) → deed.given ≡ sending.inputs → asked_in deed.stream deed.doing ≡ []
+  stands_more : (waiting : List Waiting) (at : Standing) (deed : Deed) (new : Service) (later : List ℕ) → deed.given ≡ sending.inputs → asked_in deed.stream deed.doing ≡ [] → handed_by deed.stream deed.doing ≡ []
       → IsDeed start.schema deed (service at.port at.calls) new → later ≡ at.readings ++ deed.readings
       → (is_turn deed.doing ≡ true → ready_on deed.stream (line_after first_line sending.inputs).streams ≡ Free) → AreBehind sending.inputs waiting
-      → Stands start output octets (place_of recv sending heard waiting [] at)
-      → Stands start output octets (place_of recv sending heard (waiting ++ words deed.stream deed.said) [] (standing_of new.port new.calls later (at.round ++ deed ∷ [])))
-  stands_more waiting at deed new later given none is read free behind stands = record {
+      → Stands fed start output octets (place_of recv sending side heard waiting [] at)
+      → Stands fed start output octets (place_of recv sending side heard (waiting ++ words deed.stream deed.said) [] (standing_of new.port new.calls later (at.round ++ deed ∷ [])))
+  stands_more waiting at deed new later given none kept is read free behind stands = record {
     moments = stands.moments;
     reader = stands.reader;
     recv_is = stands.recv_is;
     frames = stands.frames;
     writing = stands.writing;
     heard_is = stands.heard_is;
-    served = subst (λ (asks : List Request). (sd : IsServed start (course_of stands.moments sending.inputs waiting (asks ++ []) at)) → (is_turn deed.doing ≡ true → IsTimely (deeds_of sd.rounds ++ at.round) deed)
-        → IsServed start (course_of stands.moments sending.inputs (waiting ++ words deed.stream deed.said) [] (standing_of new.port new.calls later (at.round ++ deed ∷ [])))) none
-        (λ sd turns. deed_served start stands.moments sending.inputs waiting [] at deed new later given is read sd turns) stands.served
-        (λ turn. turn_timely start stands.moments sending.inputs waiting at deed given (none_waits_there deed.stream sending.inputs waiting (free turn) behind) (free_says deed.stream sending.inputs (free turn)) stands.served);
+    served = subst (λ (asks : List Request). (sd : IsServedBeside fed start side (course_of stands.moments sending.inputs waiting (asks ++ []) at)) → (is_turn deed.doing ≡ true → is_fed fed deed.stream ≡ false → IsTimely (deeds_of sd.served.rounds ++ at.round) deed)
+        → IsServedBeside fed start side (course_of stands.moments sending.inputs (waiting ++ words deed.stream deed.said) [] (standing_of new.port new.calls later (at.round ++ deed ∷ [])))) none
+        (λ sd turns. deed_served fed start side stands.moments sending.inputs waiting [] at deed new later given is read kept sd turns) stands.served
+        (λ turn own. turn_timely fed start stands.moments sending.inputs waiting at deed given (none_waits_there deed.stream sending.inputs waiting (free turn) behind) (free_says deed.stream sending.inputs (free turn)) stands.served.served own);
   }
 
-  module _ (done later : List Served) (served : Served) (waiting : List Waiting) (port : PortView) (readings : List ℕ) (t : IsTurning start output octets done (served ∷ later) recv sending heard waiting port readings) where
+  module _ (done later : List Served) (served : Served) (waiting : List Waiting) (port : PortView) (readings : List ℕ) (t : IsTurning fed start output octets done (served ∷ later) recv sending side heard waiting port readings) where
     -- the call has had its turns
-    turns_had_so : HadTurns t.round sending.inputs served → IsTurning start output octets (done ++ served ∷ []) later recv sending heard waiting port readings
+    turns_had_so : HadTurns t.round sending.inputs served → IsTurning fed start output octets (done ++ served ∷ []) later recv sending side heard waiting port readings
     turns_had_so had = record {
       round = t.round;
-      stands = subst (λ (calls : List Served). Stands start output octets (place_of recv sending heard waiting [] (standing_of port calls readings t.round))) (sym (append_assoc done (served ∷ []) later)) t.stands;
+      stands = subst (λ (calls : List Served). Stands fed start output octets (place_of recv sending side heard waiting [] (standing_of port calls readings t.round))) (sym (append_assoc done (served ∷ []) later)) t.stands;
       behind = t.behind;
       turned = all_more (HadTurns t.round sending.inputs) done served t.turned had;
       not_yet = t.not_yet.1;
@@ -139,17 +141,17 @@ module _ (start : Start) (output : Output) (octets : List ℕ) (recv : State) (s
     none_so_far : served.call.plan.mode ≡ modes.Stream → turns_on served.stream t.round ≤ 1
     none_so_far in_mode = let none = t.not_yet.0 in_mode in omega (arith, none)
 
-    pub turns_had : (had_turns served.call.plan.mode served t.round ≡ true) ⊎ (ready_on served.stream (line_after first_line sending.inputs).streams ≡ Busy) → IsTurning start output octets (done ++ served ∷ []) later recv sending heard waiting port readings
+    pub turns_had : (had_turns served.call.plan.mode served t.round ≡ true) ⊎ (ready_on served.stream (line_after first_line sending.inputs).streams ≡ Busy) → IsTurning fed start output octets (done ++ served ∷ []) later recv sending side heard waiting port readings
     turns_had had = turns_had_so (record { had = had; once = none_so_far })
 
-    pub is_busy : ready_on served.stream (line_of sending).streams ≡ Busy → IsTurning start output octets (done ++ served ∷ []) later recv sending heard waiting port readings
+    pub is_busy : ready_on served.stream (line_of sending).streams ≡ Busy → IsTurning fed start output octets (done ++ served ∷ []) later recv sending side heard waiting port readings
     is_busy busy = turns_had (inr busy)
 
     -- it is over
-    pub is_gone : ready_on served.stream (line_of sending).streams ≡ Gone → IsTurning start output octets (done ++ []) later recv sending heard waiting port readings
+    pub is_gone : ready_on served.stream (line_of sending).streams ≡ Gone → IsTurning fed start output octets (done ++ []) later recv sending side heard waiting port readings
     is_gone gone =
         let deed = deed_with served.stream Dropping sending.inputs [] None false [] in
-        let stood = stands_more waiting (standing_of port (done ++ served ∷ later) readings t.round) deed (service port (done ++ later)) readings refl refl
+        let stood = stands_more waiting (standing_of port (done ++ served ∷ later) readings t.round) deed (service port (done ++ later)) readings refl refl refl
         (record {
           served = served;
           others = done;
@@ -158,9 +160,9 @@ module _ (start : Start) (output : Output) (octets : List ℕ) (recv : State) (s
           over = gone;
           plain = record { says = refl; unread = refl; unturned = refl; unfailed = refl; new_is = refl };
         }) (sym (append-nil readings)) (λ is. absurd cc) t.behind t.stands in
-        subst (λ (front : List Served). IsTurning start output octets front later recv sending heard waiting port readings) (sym (append-nil done)) (record {
+        subst (λ (front : List Served). IsTurning fed start output octets front later recv sending side heard waiting port readings) (sym (append-nil done)) (record {
           round = t.round ++ deed ∷ [];
-          stands = subst (λ (ws : List Waiting). Stands start output octets (place_of recv sending heard ws [] (standing_of port (done ++ later) readings (t.round ++ deed ∷ [])))) (append-nil waiting) stood;
+          stands = subst (λ (ws : List Waiting). Stands fed start output octets (place_of recv sending side heard ws [] (standing_of port (done ++ later) readings (t.round ++ deed ∷ [])))) (append-nil waiting) stood;
           behind = t.behind;
           turned = turns_more t.round deed sending.inputs sending.inputs done (no_turn_off deed done refl) (λ others behind. behind) t.turned;
           not_yet = not_yet_more t.round deed later (no_turn_off deed later refl) t.not_yet.1;
@@ -171,16 +173,16 @@ module _ (start : Start) (output : Output) (octets : List ℕ) (recv : State) (s
       abbrev pub turn_deed : Deed
       turn_deed = deed_with served.stream Turning sending.inputs is.readings is.turn is.failed (said_in reply)
 
-      pub has_turned : Stands start output octets (place_of recv sending heard (waiting ++ words served.stream (said_in reply)) [] (standing_of next (done ++ list_of left ++ later) more (t.round ++ turn_deed ∷ [])))
-      has_turned = stands_more waiting (standing_of port (done ++ served ∷ later) readings t.round) turn_deed (service next (done ++ list_of left ++ later)) more refl refl
+      pub has_turned : Stands fed start output octets (place_of recv sending side heard (waiting ++ words served.stream (said_in reply)) [] (standing_of next (done ++ list_of left ++ later) more (t.round ++ turn_deed ∷ [])))
+      has_turned = stands_more waiting (standing_of port (done ++ served ∷ later) readings t.round) turn_deed (service next (done ++ list_of left ++ later)) more refl refl refl
           (is.deed done later sending.inputs free) is.clock (λ turn. free) t.behind t.stands
 
       -- what it says was said, as far as it could be
-      module _ (last : State) (new : Progress) (rest : List Waiting) (keeps : (others : List Waiting) → AreBehind sending.inputs others → AreBehind new.inputs others) (behind : AreBehind new.inputs rest)
-          (stands : Stands start output octets (place_of last new heard rest [] (standing_of next (done ++ list_of left ++ later) more (t.round ++ turn_deed ∷ [])))) where
+      module _ (last : State) (new : Progress) (later_side : FeederState) (rest : List Waiting) (keeps : (others : List Waiting) → AreBehind sending.inputs others → AreBehind new.inputs others) (behind : AreBehind new.inputs rest)
+          (stands : Stands fed start output octets (place_of last new later_side heard rest [] (standing_of next (done ++ list_of left ++ later) more (t.round ++ turn_deed ∷ [])))) where
         -- no other call is on its stream
         off : AllByRecursion (λ (c : Served). (served.stream == c.stream) ≡ false) done × AllByRecursion (λ (c : Served). (served.stream == c.stream) ≡ false) later
-        off = others_off done later served (apart_all start.schema (first_service start) _ _ t.stands.served.done none_apart)
+        off = others_off done later served (apart_all start.schema (first_service start) _ _ t.stands.served.served.done none_apart)
 
         later_not_yet : AllByRecursion (NotYet (t.round ++ turn_deed ∷ [])) later
         later_not_yet = not_yet_more t.round turn_deed later (streams_off turn_deed later off.1) t.not_yet.1
@@ -189,10 +191,10 @@ module _ (start : Start) (output : Output) (octets : List ℕ) (recv : State) (s
         front_turned = turns_more t.round turn_deed sending.inputs new.inputs done (streams_off turn_deed done off.0) keeps t.turned
 
         -- the call is served no more
-        pub ends_so : left ≡ None → IsTurning start output octets (done ++ []) later last new heard rest next more
-        ends_so none = subst (λ (front : List Served). IsTurning start output octets front later last new heard rest next more) (sym (append-nil done)) (record {
+        pub ends_so : left ≡ None → IsTurning fed start output octets (done ++ []) later last new later_side heard rest next more
+        ends_so none = subst (λ (front : List Served). IsTurning fed start output octets front later last new later_side heard rest next more) (sym (append-nil done)) (record {
           round = t.round ++ turn_deed ∷ [];
-          stands = subst (λ (calls : List Served). Stands start output octets (place_of last new heard rest [] (standing_of next calls more (t.round ++ turn_deed ∷ []))))
+          stands = subst (λ (calls : List Served). Stands fed start output octets (place_of last new later_side heard rest [] (standing_of next calls more (t.round ++ turn_deed ∷ []))))
               (ap (λ (o : Option Served). done ++ list_of o ++ later) none ∙ ap (λ (front : List Served). front ++ later) (append-nil done)) stands;
           behind = behind;
           turned = front_turned;
@@ -200,10 +202,10 @@ module _ (start : Start) (output : Output) (octets : List ℕ) (recv : State) (s
         })
 
         -- it is served on, and may have further turns
-        pub goes_on_so : (now : Served) → left ≡ Some now → now.call.plan.mode ≡ modes.Poll → IsTurning start output octets done (now ∷ later) last new heard rest next more
+        pub goes_on_so : (now : Served) → left ≡ Some now → now.call.plan.mode ≡ modes.Poll → IsTurning fed start output octets done (now ∷ later) last new later_side heard rest next more
         goes_on_so now some polls = record {
           round = t.round ++ turn_deed ∷ [];
-          stands = subst (λ (calls : List Served). Stands start output octets (place_of last new heard rest [] (standing_of next calls more (t.round ++ turn_deed ∷ []))))
+          stands = subst (λ (calls : List Served). Stands fed start output octets (place_of last new later_side heard rest [] (standing_of next calls more (t.round ++ turn_deed ∷ []))))
               (ap (λ (o : Option Served). done ++ list_of o ++ later) some ∙ append_assoc done (now ∷ []) later) stands;
           behind = behind;
           turned = front_turned;
@@ -223,10 +225,10 @@ module _ (start : Start) (output : Output) (octets : List ℕ) (recv : State) (s
 
         -- a call of mode STREAM has had the one that it has
         pub one_turn : (now : Served) → left ≡ Some now → now.stream ≡ served.stream → served.call.plan.mode ≡ modes.Stream → now.call.plan.mode ≡ modes.Stream
-            → IsTurning start output octets (done ++ now ∷ []) later last new heard rest next more
+            → IsTurning fed start output octets (done ++ now ∷ []) later last new later_side heard rest next more
         one_turn now some on streams in_mode = record {
           round = t.round ++ turn_deed ∷ [];
-          stands = subst (λ (calls : List Served). Stands start output octets (place_of last new heard rest [] (standing_of next calls more (t.round ++ turn_deed ∷ []))))
+          stands = subst (λ (calls : List Served). Stands fed start output octets (place_of last new later_side heard rest [] (standing_of next calls more (t.round ++ turn_deed ∷ []))))
               (ap (λ (o : Option Served). done ++ list_of o ++ later) some) stands;
           behind = behind;
           turned = all_more (HadTurns (t.round ++ turn_deed ∷ []) new.inputs) done now front_turned (had_its_turn now on streams in_mode);
@@ -235,39 +237,39 @@ module _ (start : Start) (output : Output) (octets : List ℕ) (recv : State) (s
 
         -- whatever is left of a call of mode STREAM
         pub left_so : served.call.plan.mode ≡ modes.Stream → IfSome left (λ now. (now.stream ≡ served.stream) × (now.call.plan ≡ served.call.plan))
-            → IsTurning start output octets (done ++ list_of left) later last new heard rest next more
+            → IsTurning fed start output octets (done ++ list_of left) later last new later_side heard rest next more
         left_so in_mode same = by_case left refl same where
-          by_case : (o : Option Served) → left ≡ o → IfSome o (λ now. (now.stream ≡ served.stream) × (now.call.plan ≡ served.call.plan)) → IsTurning start output octets (done ++ list_of left) later last new heard rest next more
-          by_case None is same = subst (λ (o : Option Served). IsTurning start output octets (done ++ list_of o) later last new heard rest next more) (sym is) (ends_so is)
-          by_case (Some now) is same = subst (λ (o : Option Served). IsTurning start output octets (done ++ list_of o) later last new heard rest next more) (sym is)
+          by_case : (o : Option Served) → left ≡ o → IfSome o (λ now. (now.stream ≡ served.stream) × (now.call.plan ≡ served.call.plan)) → IsTurning fed start output octets (done ++ list_of left) later last new later_side heard rest next more
+          by_case None is same = subst (λ (o : Option Served). IsTurning fed start output octets (done ++ list_of o) later last new later_side heard rest next more) (sym is) (ends_so is)
+          by_case (Some now) is same = subst (λ (o : Option Served). IsTurning fed start output octets (done ++ list_of o) later last new later_side heard rest next more) (sym is)
               (one_turn now is same.0 in_mode (ap (λ (p : Plan). p.mode) same.1 ∙ in_mode))
 
   -- ---- all of them
 
-  pub all_due : (waiting : List Waiting) (at : Standing) → ((s : ℕ) → turns_on s at.round ≡ 0) → AreBehind sending.inputs waiting → Stands start output octets (place_of recv sending heard waiting [] at)
-      → IsTurning start output octets [] at.calls recv sending heard waiting at.port at.readings
+  pub all_due : (waiting : List Waiting) (at : Standing) → ((s : ℕ) → turns_on s at.round ≡ 0) → AreBehind sending.inputs waiting → Stands fed start output octets (place_of recv sending side heard waiting [] at)
+      → IsTurning fed start output octets [] at.calls recv sending side heard waiting at.port at.readings
   all_due waiting at none behind stands = record { round = at.round; stands = stands; behind = behind; turned = tt; not_yet = none_yet at.round at.calls none }
 
-  pub all_had : (calls : List Served) (waiting : List Waiting) (port : PortView) (readings : List ℕ) → IsTurning start output octets calls [] recv sending heard waiting port readings
-      → HasRested start output octets recv sending heard waiting port calls readings
+  pub all_had : (calls : List Served) (waiting : List Waiting) (port : PortView) (readings : List ℕ) → IsTurning fed start output octets calls [] recv sending side heard waiting port readings
+      → HasRested fed start output octets recv sending side heard waiting port calls readings
   all_had calls waiting port readings t = record {
     round = t.round;
     rests = record {
-      stands = subst (λ (cs : List Served). Stands start output octets (place_of recv sending heard waiting [] (standing_of port cs readings t.round))) (append-nil calls) t.stands;
+      stands = subst (λ (cs : List Served). Stands fed start output octets (place_of recv sending side heard waiting [] (standing_of port cs readings t.round))) (append-nil calls) t.stands;
       rest = record { none_owed = refl; behind = t.behind; turned = t.turned };
     };
   }
 
-  pub turning_starved : (done due : List Served) (waiting : List Waiting) (port : PortView) (readings : List ℕ) → IsTurning start output octets done due recv sending heard waiting port readings
-      → HasEnded hows.NoMemory start octets output sending port readings
-  turning_starved done due waiting port readings t = starved start output octets recv sending sending heard waiting [] (standing_of port (done ++ due) readings t.round) (inl refl) t.stands
+  pub turning_starved : (done due : List Served) (waiting : List Waiting) (port : PortView) (readings : List ℕ) → IsTurning fed start output octets done due recv sending side heard waiting port readings
+      → HasEnded hows.NoMemory fed start octets output sending side port readings
+  turning_starved done due waiting port readings t = starved fed start output octets side recv sending sending heard waiting [] (standing_of port (done ++ due) readings t.round) (inl refl) t.stands
 
-  pub none_behind : (none waiting : List Waiting) (at : Standing) → none ≡ [] → Stands start output octets (place_of recv sending heard waiting [] at) → Stands start output octets (place_of recv sending heard (none ++ waiting) [] at)
-  none_behind none waiting at is stands = subst (λ (n : List Waiting). Stands start output octets (place_of recv sending heard (n ++ waiting) [] at)) (sym is) stands
+  pub none_behind : (none waiting : List Waiting) (at : Standing) → none ≡ [] → Stands fed start output octets (place_of recv sending side heard waiting [] at) → Stands fed start output octets (place_of recv sending side heard (none ++ waiting) [] at)
+  none_behind none waiting at is stands = subst (λ (n : List Waiting). Stands fed start output octets (place_of recv sending side heard (n ++ waiting) [] at)) (sym is) stands
 
   pub rested_if : {T E : Type 0} (result : Result T E) (waits : T → List Waiting) (calls : T → List Served) (Q : E → Type 0) (port : PortView) (readings : List ℕ)
-      → MatchResult result (λ kept. IsTurning start output octets (calls kept) [] recv sending heard (waits kept) port readings) Q
-      → MatchResult result (λ kept. HasRested start output octets recv sending heard (waits kept) port (calls kept) readings) Q
+      → MatchResult result (λ kept. IsTurning fed start output octets (calls kept) [] recv sending side heard (waits kept) port readings) Q
+      → MatchResult result (λ kept. HasRested fed start output octets recv sending side heard (waits kept) port (calls kept) readings) Q
   rested_if (Ok kept) waits calls Q port readings is = all_had (calls kept) (waits kept) port readings is
   rested_if (Err fault) waits calls Q port readings is = is
 

@@ -5,10 +5,9 @@ use Rattle.edge_traits.specs.Output.{Output, Wrote, FailedWithin}
 use Rattle.h2_windows.specs.Written.{octets_of}
 use Rattle.h2_events.specs.declared.event.RecvEvent.{RecvEvent}
 use Rattle.h2_events.specs.declared.said.Said.{Said}
-use Rattle.h2_events.specs.declared.said.Said.TheVariants.{Message, Finish, Status}
 use Rattle.h2_events.specs.declared.port.Took.{Took}
 use Rattle.h2_events.specs.declared.port.Took.TheVariants as took
-use Rattle.h2_events.specs.declared.port.Ready.TheVariants.{Free, Busy, Gone}
+use Rattle.h2_events.specs.declared.port.Ready.TheVariants.{Busy, Gone}
 use Rattle.h2_events.specs.Items.{is_last}
 use Rattle.h2_calls.specs.Calls.{Moment, ended}
 use Rattle.h2_recv.specs.declared.reader.Reader.{Reader}
@@ -16,11 +15,10 @@ use Rattle.h2_recv.specs.Receiving.{State, ReadsWithEnds, new_reader, reader_end
 use Rattle.h2_recv.proofs.PieceLemmas.{end_told}
 use Rattle.h2_send.specs.Inputs.{Input, Speech}
 use Rattle.h2_send.specs.Accepting.{AreAccepted, IsAccepted}
-use Rattle.h2_send.specs.Lines.{Line, first_line}
+use Rattle.h2_send.specs.Lines.{first_line}
 use Rattle.h2_send.specs.Outputs.{frames_of}
 use Rattle.h2_send.specs.Offers.{ready_on}
 use Rattle.h2_send.specs.Acting.{handled}
-use Rattle.h2_send.specs.Orders.{line_after}
 use Rattle.h2_send.specs.Conditions.{IsClosed, answer_of, took_of}
 use Rattle.h2_send.specs.Port.{Progress, Takes, line_of}
 use Rattle.h2_send.specs.declared.condition.Condition.{Condition}
@@ -33,14 +31,16 @@ use Rattle.session_calls.specs.declared.request.Request.{Request}
 use Rattle.session_core.specs.declared.how.How.TheVariants as hows
 use Rattle.session_core.specs.declared.waiting.Waiting.{Waiting}
 use Rattle.session_core.specs.Saying.{AreBehind}
-use Rattle.session_core.specs.Serving.{Start, Standing, IsServed}
+use Rattle.session_core.specs.Serving.{Start, Standing}
 use Rattle.session_core.specs.Writing.{IsBroken}
 use Rattle.session_core.specs.inner.Ends.{how_of}
+use Rattle.session_core.specs.inner.Feeders.{IsServedBeside, FeederState}
 use Rattle.session_core.specs.inner.Places.{HasStarved, IsWriting, Stands, HasEnded, course_of, place_of}
 use Rattle.session_core.specs.inner.Sending.{DoesWhereOpen, Says, Starves, TellsFault, TellsTook}
 use Rattle.session_core.specs.inner.Steps.{Speaks, done_of, told_of}
 use Rattle.session_core.proofs.Behind.{free_says, gone_says, still_behind, behind_more, none_waits_there}
 use Rattle.session_core.proofs.Found.{nothing_found}
+use Rattle.session_core.proofs.Others.{free_accepted}
 use Rattle.session_core.proofs.Reading.{wholly_read}
 use Rattle.session_core.proofs.Serving.{ends_with, events_at_end, speech_served, gone_served}
 
@@ -82,11 +82,6 @@ unsaid stream said others at = record {
 
 -- ---- an open sending half
 
-pub is_free : (stream : ℕ) (said : Said) (line : Line) → IsAccepted (Speech stream said) line → ready_on stream line.streams ≡ Free
-is_free stream (Message octets) line is = is.0
-is_free stream (Finish refusal) line is = is
-is_free stream (Status status) line is = is.0
-
 pub writes_on : (output : Output) (found new : Progress) (input : Input) → IsWriting output found → IsAccepted input (line_of found) → Takes took.Taken input found new → IsWriting output new
 writes_on output found new input writing accepts takes = record {
   is_open = takes.2;
@@ -123,21 +118,21 @@ told_so false stream recv reader is = is
 
 -- ---- the loop over what waits: `items` were not tried yet
 
-module _ (start : Start) (output : Output) (octets : List ℕ) where
-  split_first : (recv : State) (sending : Progress) (heard : List RecvEvent) (still items rest : List Waiting) (w : Waiting) (owed : List Request) (at : Standing)
-      → items ≡ w ∷ rest → Stands start output octets (place_of recv sending heard (still ++ items) owed at)
-      → Stands start output octets (place_of recv sending heard (still ++ w ∷ rest) owed at)
+module _ (fed : List ℕ) (start : Start) (output : Output) (octets : List ℕ) (side : FeederState) where
+  pub split_first : (recv : State) (sending : Progress) (heard : List RecvEvent) (still items rest : List Waiting) (w : Waiting) (owed : List Request) (at : Standing)
+      → items ≡ w ∷ rest → Stands fed start output octets (place_of recv sending side heard (still ++ items) owed at)
+      → Stands fed start output octets (place_of recv sending side heard (still ++ w ∷ rest) owed at)
   split_first recv sending heard still items rest w owed at first stands =
-      subst (λ (ws : List Waiting). Stands start output octets (place_of recv sending heard (still ++ ws) owed at)) first stands
+      subst (λ (ws : List Waiting). Stands fed start output octets (place_of recv sending side heard (still ++ ws) owed at)) first stands
 
   word_said : (recv next : State) (found new : Progress) (heard : List RecvEvent) (still rest : List Waiting) (w : Waiting) (owed : List Request) (at : Standing)
       → AreBehind found.inputs still → Speaks w.stream w.said (Ok tt) found new → next ≡ told_of w.stream w.said recv
-      → Stands start output octets (place_of recv found heard (still ++ w ∷ rest) owed at)
-      → Stands start output octets (place_of next new heard (still ++ rest) owed at)
+      → Stands fed start output octets (place_of recv found side heard (still ++ w ∷ rest) owed at)
+      → Stands fed start output octets (place_of next new side heard (still ++ rest) owed at)
   word_said recv next found new heard still rest w owed at behind speaks told stands =
       let input = Speech w.stream w.said in
-      let free = is_free w.stream w.said (line_of found) speaks.0 in
-      let served = speech_served start stands.moments found.inputs still rest w owed at (none_waits_there w.stream found.inputs still free behind) (free_says w.stream found.inputs free) stands.served in
+      let free = free_accepted w.stream w.said (line_of found) speaks.0 in
+      let served = speech_served fed start side stands.moments found.inputs still rest w owed at (none_waits_there w.stream found.inputs still free behind) (free_says w.stream found.inputs free) stands.served in
       record {
         moments = stands.moments ++ ends_with w.stream w.said;
         reader = reader_after (is_last w.said) w.stream stands.reader;
@@ -145,20 +140,20 @@ module _ (start : Start) (output : Output) (octets : List ℕ) where
         frames = frames_after (is_last w.said) w.stream octets stands.moments stands.reader stands.frames;
         writing = writes_on output found new input stands.writing speaks.0 speaks.1;
         heard_is = stands.heard_is ∙ sym (events_at_end stands.moments w.stream w.said);
-        served = subst (λ (is : List Input). IsServed start (course_of (stands.moments ++ ends_with w.stream w.said) is (still ++ rest) owed at)) (sym speaks.1.1) served;
+        served = subst (λ (is : List Input). IsServedBeside fed start side (course_of (stands.moments ++ ends_with w.stream w.said) is (still ++ rest) owed at)) (sym speaks.1.1) served;
       }
 
   pub word_taken : (recv next : State) (found new : Progress) (heard : List RecvEvent) (still items rest : List Waiting) (w : Waiting) (owed : List Request) (at : Standing)
       → items ≡ w ∷ rest → AreBehind found.inputs still → Speaks w.stream w.said (Ok tt) found new → next ≡ told_of w.stream w.said recv
-      → Stands start output octets (place_of recv found heard (still ++ items) owed at)
-      → Stands start output octets (place_of next new heard (still ++ rest) owed at)
+      → Stands fed start output octets (place_of recv found side heard (still ++ items) owed at)
+      → Stands fed start output octets (place_of next new side heard (still ++ rest) owed at)
   word_taken recv next found new heard still items rest w owed at first behind speaks told stands =
       word_said recv next found new heard still rest w owed at behind speaks told (split_first recv found heard still items rest w owed at first stands)
 
   pub word_gone : (recv : State) (sending : Progress) (heard : List RecvEvent) (still items rest : List Waiting) (w : Waiting) (owed : List Request) (at : Standing)
       → items ≡ w ∷ rest → ready_on w.stream (line_of sending).streams ≡ Gone
-      → Stands start output octets (place_of recv sending heard (still ++ items) owed at)
-      → Stands start output octets (place_of recv sending heard (still ++ rest) owed at)
+      → Stands fed start output octets (place_of recv sending side heard (still ++ items) owed at)
+      → Stands fed start output octets (place_of recv sending side heard (still ++ rest) owed at)
   word_gone recv sending heard still items rest w owed at first gone stands =
       let s = split_first recv sending heard still items rest w owed at first stands in
       record {
@@ -168,16 +163,16 @@ module _ (start : Start) (output : Output) (octets : List ℕ) where
         frames = s.frames;
         writing = s.writing;
         heard_is = s.heard_is;
-        served = gone_served start s.moments sending.inputs still rest w owed at (gone_says w.stream sending.inputs gone) s.served;
+        served = gone_served fed start side s.moments sending.inputs still rest w owed at (gone_says w.stream sending.inputs gone) s.served;
       }
 
   pub word_kept : (recv : State) (sending : Progress) (heard : List RecvEvent) (still more items rest : List Waiting) (w : Waiting) (owed : List Request) (at : Standing)
       → items ≡ w ∷ rest → more ≡ still ++ w ∷ []
-      → Stands start output octets (place_of recv sending heard (still ++ items) owed at)
-      → Stands start output octets (place_of recv sending heard (more ++ rest) owed at)
+      → Stands fed start output octets (place_of recv sending side heard (still ++ items) owed at)
+      → Stands fed start output octets (place_of recv sending side heard (more ++ rest) owed at)
   word_kept recv sending heard still more items rest w owed at first grown stands =
       let s = split_first recv sending heard still items rest w owed at first stands in
-      subst (λ (ws : List Waiting). Stands start output octets (place_of recv sending heard ws owed at))
+      subst (λ (ws : List Waiting). Stands fed start output octets (place_of recv sending side heard ws owed at))
       (sym (ap (λ (m : List Waiting). m ++ rest) grown ∙ append_assoc still (w ∷ []) rest)) s
 
   -- ---- exits
@@ -185,8 +180,8 @@ module _ (start : Start) (output : Output) (octets : List ℕ) where
   -- memory is wanting: what was served so far stands
   pub starved : (recv : State) (found new : Progress) (heard : List RecvEvent) (waiting : List Waiting) (owed : List Request) (at : Standing)
       → (new ≡ found) ⊎ Starves found new
-      → Stands start output octets (place_of recv found heard waiting owed at)
-      → HasEnded hows.NoMemory start octets output new at.port at.readings
+      → Stands fed start output octets (place_of recv found side heard waiting owed at)
+      → HasEnded hows.NoMemory fed start octets output new side at.port at.readings
   starved recv found new heard waiting owed at either stands = record {
     moments = stands.moments;
     inputs = found.inputs;
@@ -205,14 +200,14 @@ module _ (start : Start) (output : Output) (octets : List ℕ) where
     left_so found new (inl same) writing =
         subst (λ (p : Progress). HasStarved found.inputs output p) (sym same) (inl (record { condition_is = writing.is_open; inputs_are = refl }), writing.wrote)
     left_so found new (inr starves) writing =
-        (inr starves.1, subst (λ (o : Output). Wrote (octets_of (frames_of found.inputs)) output o) (sym starves.0) writing.wrote)
+        (inr (starves.1, starves.2), subst (λ (o : Output). Wrote (octets_of (frames_of found.inputs)) output o) (sym starves.0) writing.wrote)
 
   word_breaks : (recv : State) (found new : Progress) (heard : List RecvEvent) (still rest : List Waiting) (w : Waiting) (owed : List Request) (at : Standing)
       → AreBehind found.inputs still → Speaks w.stream w.said (Err faults.WriteFault) found new
-      → Stands start output octets (place_of recv found heard (still ++ w ∷ rest) owed at)
-      → HasEnded hows.WriteFault start octets output new at.port at.readings
+      → Stands fed start output octets (place_of recv found side heard (still ++ w ∷ rest) owed at)
+      → HasEnded hows.WriteFault fed start octets output new side at.port at.readings
   word_breaks recv found new heard still rest w owed at behind speaks stands =
-      let free = is_free w.stream w.said (line_of found) speaks.0 in
+      let free = free_accepted w.stream w.said (line_of found) speaks.0 in
       let frames = frames_after (is_last w.said) w.stream octets stands.moments stands.reader stands.frames in
       record {
         moments = stands.moments ++ ends_with w.stream w.said;
@@ -223,16 +218,16 @@ module _ (start : Start) (output : Output) (octets : List ℕ) where
         round = at.round;
         partly = wholly_read octets (stands.moments ++ ends_with w.stream w.said) (reader_after (is_last w.said) w.stream stands.reader) frames;
         made = wholly_read octets (stands.moments ++ ends_with w.stream w.said) (reader_after (is_last w.said) w.stream stands.reader) frames;
-        served = speech_served start stands.moments found.inputs still rest w owed at (none_waits_there w.stream found.inputs still free behind) (free_says w.stream found.inputs free) stands.served;
+        served = speech_served fed start side stands.moments found.inputs still rest w owed at (none_waits_there w.stream found.inputs still free behind) (free_says w.stream found.inputs free) stands.served;
         settled = tt;
         accepted = accepted_more first_line found.inputs (Speech w.stream w.said) stands.writing.accepted speaks.0;
-        left = (speaks.1.2, breaks_off octets (stands.moments ++ ends_with w.stream w.said) output found new (Speech w.stream w.said) stands.writing speaks.1.0);
+        left = (speaks.1.2, speaks.1.1, breaks_off octets (stands.moments ++ ends_with w.stream w.said) output found new (Speech w.stream w.said) stands.writing speaks.1.0);
       }
 
   pub word_fails : (fault : WireFaultOut) (recv : State) (found new : Progress) (heard : List RecvEvent) (still items rest : List Waiting) (w : Waiting) (owed : List Request) (at : Standing)
       → items ≡ w ∷ rest → AreBehind found.inputs still → Speaks w.stream w.said (Err fault) found new
-      → Stands start output octets (place_of recv found heard (still ++ items) owed at)
-      → HasEnded (how_of fault) start octets output new at.port at.readings
+      → Stands fed start output octets (place_of recv found side heard (still ++ items) owed at)
+      → HasEnded (how_of fault) fed start octets output new side at.port at.readings
   word_fails faults.WriteFault recv found new heard still items rest w owed at first behind speaks stands =
       word_breaks recv found new heard still rest w owed at behind speaks (split_first recv found heard still items rest w owed at first stands)
   word_fails faults.NoMemory recv found new heard still items rest w owed at first behind speaks stands =
@@ -244,7 +239,7 @@ module _ (start : Start) (output : Output) (octets : List ℕ) where
 pub behind_taken : (found new : Progress) (still : List Waiting) (w : Waiting) → Speaks w.stream w.said (Ok tt) found new → AreBehind found.inputs still → AreBehind new.inputs still
 behind_taken found new still w speaks behind =
     subst (λ (is : List Input). AreBehind is still) (sym speaks.1.1)
-    (still_behind w.stream w.said found.inputs still (is_free w.stream w.said (line_of found) speaks.0) behind)
+    (still_behind w.stream w.said found.inputs still (free_accepted w.stream w.said (line_of found) speaks.0) behind)
 
 pub behind_kept : (sending : Progress) (still more : List Waiting) (w : Waiting) → more ≡ still ++ w ∷ [] → ready_on w.stream (line_of sending).streams ≡ Busy → AreBehind sending.inputs still → AreBehind sending.inputs more
 behind_kept sending still more w grown busy behind =

@@ -1,4 +1,5 @@
--- What a session does, one deed after the other: it answers what is asked, or takes a turn of a Subscribe call that it serves.
+-- What a session does, one deed after the other: it answers what is asked, hands a call of mode STREAM to a feeder, or takes a turn
+-- of a Subscribe call that it serves.
 use Rattle.std.specs.Prelude.{◌≡◌, ◌⊎◌, ℕ, zero, suc, ◌+◌, ◌==◌, nat_lt, List, [], ◌∷◌, ◌++◌, Bool, true, false, Option, Some, None, Result, Ok, Err, map, if◌then◌else◌}
 use Rattle.std.specs.List.{AllByRecursion}
 use Rattle.base_kinds.specs.declared.refusal.Refusal.{Refusal}
@@ -66,10 +67,11 @@ pub record Service : Type 0 where
 
 -- ---- deeds
 
--- Something that was asked is answered, a call that is served takes a turn, or such a call is served no more, since nothing can be
--- said on its stream.
+-- Something that was asked is answered; a call that this first message begins is handed to a feeder; a call that is served takes a
+-- turn; or such a call is served no more, since nothing can be said on its stream.
 pub data Doing : Type 0 where
   Answering : Asked → Doing
+  Handing : List ℕ → Doing
   Turning : Doing
   Dropping : Doing
 
@@ -280,9 +282,16 @@ pub record IsHeard (what : Later) (deed : Deed) (old new : Service) : Type 0 whe
   pub among : IsAmong deed.stream served others later old.calls
   pub next : IsHeardBy what served others later deed old new
 
--- Behind the end of the call nothing is looked at.
+-- Where the call has ended, or was handed to a feeder, the message isn't looked at, and nothing is said of it.
 pub record IsUnheard (deed : Deed) (old new : Service) : Type 0 where
   pub elsewhere : AreElsewhere deed.stream old.calls
+  pub plain : IsPlain [] old.calls deed old new
+
+-- A call of mode STREAM is handed to a feeder. The session itself says nothing on its stream, and doesn't serve it.
+pub record IsHanded (body : List ℕ) (deed : Deed) (old new : Service) : Type 0 where
+  pub plan : Plan
+  pub begins : subscribe_step None body ≡ Ok (Begin plan)
+  pub streams : plan.mode ≡ modes.Stream
   pub plain : IsPlain [] old.calls deed old new
 
 -- ---- any deed
@@ -301,6 +310,7 @@ IsAnswer schema (asks.Refused refusal) deed old new =
 
 abbrev pub IsDone : List SchemaNode → Doing → Deed → Service → Service → Type 0
 IsDone schema (Answering asked) deed old new = IsAnswer schema asked deed old new
+IsDone schema (Handing body) deed old new = IsHanded body deed old new
 IsDone schema Turning deed old new = IsCallTurn schema deed old new
 IsDone schema Dropping deed old new = IsDropped deed old new
 
@@ -315,9 +325,10 @@ AreDone schema old (deed ∷ deeds) new =
 
 -- ---- what is read off deeds
 
--- the requests that were answered
+-- the requests that were answered, or handed on
 abbrev pub asked_in : ℕ → Doing → List Request
 asked_in stream (Answering asked) = record { stream = stream; asked = asked } ∷ []
+asked_in stream (Handing body) = record { stream = stream; asked = asks.Subscribe body } ∷ []
 asked_in stream Turning = []
 asked_in stream Dropping = []
 
@@ -353,3 +364,12 @@ said_to stream [] = []
 said_to stream (deed ∷ deeds) =
     if deed.stream == stream then deed.said ++ said_to stream deeds
     else said_to stream deeds
+
+-- the streams of the calls that were handed to feeders
+abbrev pub handed_by : ℕ → Doing → List ℕ
+handed_by stream (Handing body) = stream ∷ []
+handed_by stream doing = []
+
+abbrev pub handed_in : List Deed → List ℕ
+handed_in [] = []
+handed_in (deed ∷ deeds) = handed_by deed.stream deed.doing ++ handed_in deeds

@@ -12,6 +12,7 @@ use Rattle.h2_send.specs.Lines.{first_line}
 use Rattle.h2_send.specs.Offers.{ready_on}
 use Rattle.h2_send.specs.Orders.{line_after, order_of}
 use Rattle.session_calls.specs.Requests.{requests}
+use Rattle.session_feeders.specs.Feeders.{is_fed}
 use Rattle.session_core.specs.declared.served.Served.{Served}
 use Rattle.session_core.specs.declared.waiting.Waiting.{Waiting}
 use Rattle.session_core.specs.Deeds.{Deed, Doing, Turning, Service, AreDone, requests_in, said_to}
@@ -59,11 +60,12 @@ pub record IsTimely (before : List Deed) (deed : Deed) : Type 0 where
   pub answered : requests_in before ≡ requests (heard (order_of deed.given))
   pub said : said_on deed.stream (order_of deed.given) ≡ said_to deed.stream before
 
--- so it is for each turn of these deeds, behind those
-abbrev pub AreTimely : List Deed → List Deed → Type 0
-AreTimely before [] = Unit {0}
-AreTimely before (deed ∷ deeds) =
-    (is_turn deed.doing ≡ true → IsTimely before deed) × AreTimely (before ++ deed ∷ []) deeds
+-- so it is for each turn of these deeds, behind those, on a stream that no feeder serves
+abbrev pub AreTimely : List ℕ → List Deed → List Deed → Type 0
+AreTimely fed before [] = Unit {0}
+AreTimely fed before (deed ∷ deeds) =
+    (is_turn deed.doing ≡ true → is_fed fed deed.stream ≡ false → IsTimely before deed)
+    × AreTimely fed (before ++ deed ∷ []) deeds
 
 -- how many turns the call on the stream has taken
 abbrev pub turns_on : ℕ → List Deed → ℕ
@@ -86,9 +88,10 @@ pub record HadTurns (deeds : List Deed) (inputs : List Input) (served : Served) 
 -- ---- rounds
 
 -- A round is whole, behind those before it: all requests so far are answered, what the deeds say was said, or waits behind octets
--- that the peer's windows don't let through, and each call that is served has had its turns.
-pub record IsWhole (schema : List SchemaNode) (start : Service) (before : List Round) (round : Round)
-    : Type 0 where
+-- that the peer's windows don't let through, and each call that is served has had its turns. What feeders say comes between the
+-- frames.
+pub record IsWhole (fed : List ℕ) (schema : List SchemaNode) (start : Service)
+    (before : List Round) (round : Round) : Type 0 where
   pub end : Service
   pub done : AreDone schema start (deeds_of before ++ round.deeds) end
   pub asked : requests_in (deeds_of before ++ round.deeds)
@@ -96,13 +99,15 @@ pub record IsWhole (schema : List SchemaNode) (start : Service) (before : List R
   pub frame : IsOfOneFrame before round.inputs
   pub recent : AllByRecursion (IsRecent (inputs_of before ++ round.inputs)) round.deeds
   pub waiting : List Waiting
-  pub said : (stream : ℕ) → IsSaid stream waiting (order_of (inputs_of before ++ round.inputs))
+  pub said : (stream : ℕ) → is_fed fed stream ≡ false
+      → IsSaid stream waiting (order_of (inputs_of before ++ round.inputs))
       (deeds_of before ++ round.deeds)
   pub behind : AreBehind (inputs_of before ++ round.inputs) waiting
   pub turned : AllByRecursion (HadTurns round.deeds (inputs_of before ++ round.inputs)) end.calls
 
 -- each of these rounds, behind those
-abbrev pub AreWhole : List SchemaNode → Service → List Round → List Round → Type 0
-AreWhole schema start before [] = Unit {0}
-AreWhole schema start before (round ∷ rounds) =
-    IsWhole schema start before round × AreWhole schema start (before ++ round ∷ []) rounds
+abbrev pub AreWhole : List ℕ → List SchemaNode → Service → List Round → List Round → Type 0
+AreWhole fed schema start before [] = Unit {0}
+AreWhole fed schema start before (round ∷ rounds) =
+    IsWhole fed schema start before round
+    × AreWhole fed schema start (before ++ round ∷ []) rounds

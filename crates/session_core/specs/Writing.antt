@@ -1,5 +1,5 @@
 -- What a session has written to its peer, by how it ended (RFC 9113 sections 3.4 and 5.4.1).
-use Rattle.std.specs.Prelude.{◌≡◌, ◌⊎◌, ℕ, List, [], ◌∷◌, ◌++◌}
+use Rattle.std.specs.Prelude.{◌≡◌, ◌⊎◌, ℕ, ◌≤◌, List, [], ◌∷◌, ◌++◌, length}
 use Rattle.edge_traits.specs.Output.{Output, Wrote, FailedWithin}
 use Rattle.h2_calls.specs.Calls.{Moment}
 use Rattle.h2_windows.specs.Control.{greeting}
@@ -13,6 +13,13 @@ use Rattle.h2_send.specs.Outputs.{frames_of, frames_until}
 use Rattle.session_core.specs.Reading.{IsConnectionError}
 use Rattle.session_core.specs.declared.how.How.{How}
 use Rattle.session_core.specs.declared.how.How.TheVariants as hows
+
+-- What the sending half was given last is lost where memory was wanting for it.
+pub record IsLostLast (how : How) (inputs given : List Input) : Type 0 where
+  pub lost : List Input
+  pub whole : given ≡ inputs ++ lost
+  pub one : length lost ≤ 1
+  pub none : (how ≡ hows.NoMemory → ⊥) → lost ≡ []
 
 -- The greeting couldn't be written whole, and nothing was served.
 pub record BreaksGreeting (inputs : List Input) (old new : Output) : Type 0 where

@@ -1,4 +1,5 @@
 pub mod Ends
+pub mod Feeders
 pub mod Places
 pub mod Sending
 pub mod Steps

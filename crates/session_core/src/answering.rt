@@ -9,11 +9,14 @@ ghost use Rattle.rpc_desk.specs.declared.subscribe_steps.SubscribeStep.TheVarian
 ghost use Rattle.session_calls.specs.declared.request.Asked.TheVariants as asks;
 ghost use Rattle.session_core.specs.declared.served.Served.{Served as Serving};
 ghost use Rattle.session_core.specs.Deeds.{others_than, told_all};
-ghost use Rattle.session_core.specs.inner.Steps.{IsReplied, said_in, service};
+ghost use Rattle.session_core.specs.inner.Feeders.{AreOfSession, book_of};
+ghost use Rattle.session_core.specs.inner.Steps.{IsReplied, IsRepliedBeside, said_in, service};
 ghost use Rattle.session_core.specs.inner.Words.{words};
 
+use crate::handing::Handing;
 use crate::later::answer_later;
 use crate::reply::{Answered, Reply};
+use crate::sending::Sending;
 use crate::served::{Served, ServedCalls};
 use crate::waiting::{Waiting, Waitings};
 use base_kinds::{ListMode, Refusal};
@@ -40,7 +43,7 @@ fn answer_once<P: BookPort, C: Clock>(
         → IsReplied desk.now stream (asks.Subscribe body) result
         (service (P.port book.old) calls) (service (P.port book.new) calls)
         (C.readings clock.old) (C.readings clock.new) }
-    ensures opened { (P.port book.new).opened ≡ (P.port book.old).opened }
+    ensures book { book_of (P.port book.new) ≡ book_of (P.port book.old) }
 {
     let mut call = match SubscribeCall::of(alloc, plan) {
         Ok(call) => call,
@@ -97,30 +100,44 @@ fn begin(alloc: Global, calls: ServedCalls, stream: u32, plan: Plan) -> Result<A
 }
 
 /// The answer to a Subscribe call that begins with this plan.
-fn answer_plan<P: BookPort, C: Clock>(
+fn answer_plan<P: BookPort, C: Clock, W: Sending, H: Handing<P, W, C>>(
     alloc: Global,
     desk: &Desk,
     book: &mut P,
     clock: &mut C,
+    wire: &mut W,
+    feeders: &mut H,
     calls: ServedCalls,
     stream: u32,
     plan: Plan,
 ) -> Result<Answered, NoMemory>
     ensures replied { (body : List ℕ) → subscribe_step None body ≡ Ok (Begin plan)
         → MatchResult result
-        (λ done. IsReplied desk.now stream (asks.Subscribe body) done.reply
-        (service (P.port book.old) calls) (service (P.port book.new) done.calls)
-        (C.readings clock.old) (C.readings clock.new))
+        (λ done. IsRepliedBeside (W.history wire.old).name desk.now stream (asks.Subscribe body)
+        done.reply (service (P.port book.old) calls) (service (P.port book.new) done.calls)
+        (C.readings clock.old) (C.readings clock.new)
+        (H.feeding feeders.old).started (H.feeding feeders.new).started)
         (λ _. (P.port book.new ≡ P.port book.old)
-        × (C.readings clock.new ≡ C.readings clock.old)) }
-    ensures opened { (P.port book.new).opened ≡ (P.port book.old).opened }
+        × (C.readings clock.new ≡ C.readings clock.old)
+        × ((H.feeding feeders.new).started ≡ (H.feeding feeders.old).started)) }
+    ensures book { book_of (P.port book.new) ≡ book_of (P.port book.old) }
+    ensures wire { W.progress wire.new ≡ W.progress wire.old }
+    ensures history { W.history wire.new ≡ W.history wire.old }
+    ensures ours { AreOfSession (P.port book.old) (W.history wire.old) (H.feeding feeders.old)
+        → AreOfSession (P.port book.new) (W.history wire.new) (H.feeding feeders.new) }
 {
     match plan.mode {
         ListMode::Once => Ok(Answered {
             reply: answer_once(alloc, desk, book, clock, plan),
             calls,
         }),
-        ListMode::Stream => begin(alloc, calls, stream, plan),
+        ListMode::Stream => match feeders.hand(alloc, book, wire, clock, stream, plan) {
+            Ok(()) => Ok(Answered {
+                reply: Reply::Nothing,
+                calls,
+            }),
+            Err(plan) => begin(alloc, calls, stream, plan),
+        },
         ListMode::Poll => begin(alloc, calls, stream, plan),
         ListMode::Other => Ok(Answered {
             reply: Reply::Of(Err(Refusal::Unsupported)),
@@ -130,26 +147,35 @@ fn answer_plan<P: BookPort, C: Clock>(
 }
 
 /// The answer to the first message of a Subscribe call.
-fn answer_subscribe<P: BookPort, C: Clock>(
+fn answer_subscribe<P: BookPort, C: Clock, W: Sending, H: Handing<P, W, C>>(
     alloc: Global,
     desk: &Desk,
     book: &mut P,
     clock: &mut C,
+    wire: &mut W,
+    feeders: &mut H,
     calls: ServedCalls,
     stream: u32,
     body: &[u8],
 ) -> Result<Answered, NoMemory>
     ensures replied { MatchResult result
-        (λ done. IsReplied desk.now stream (asks.Subscribe body.now) done.reply
+        (λ done. IsRepliedBeside (W.history wire.old).name desk.now stream
+        (asks.Subscribe body.now) done.reply
         (service (P.port book.old) calls) (service (P.port book.new) done.calls)
-        (C.readings clock.old) (C.readings clock.new))
+        (C.readings clock.old) (C.readings clock.new)
+        (H.feeding feeders.old).started (H.feeding feeders.new).started)
         (λ _. (P.port book.new ≡ P.port book.old)
-        × (C.readings clock.new ≡ C.readings clock.old)) }
-    ensures opened { (P.port book.new).opened ≡ (P.port book.old).opened }
+        × (C.readings clock.new ≡ C.readings clock.old)
+        × ((H.feeding feeders.new).started ≡ (H.feeding feeders.old).started)) }
+    ensures book { book_of (P.port book.new) ≡ book_of (P.port book.old) }
+    ensures wire { W.progress wire.new ≡ W.progress wire.old }
+    ensures history { W.history wire.new ≡ W.history wire.old }
+    ensures ours { AreOfSession (P.port book.old) (W.history wire.old) (H.feeding feeders.old)
+        → AreOfSession (P.port book.new) (W.history wire.new) (H.feeding feeders.new) }
 {
     match desk.subscribe(alloc, body, None) {
         Ok(SubscribeStep::Begin(plan)) => {
-            answer_plan(alloc, desk, book, clock, calls, stream, plan)
+            answer_plan(alloc, desk, book, clock, wire, feeders, calls, stream, plan)
         }
         Ok(SubscribeStep::Poll) => Ok(Answered {
             reply: Reply::Of(Err(Refusal::BadSubscribe)),
@@ -163,24 +189,33 @@ fn answer_subscribe<P: BookPort, C: Clock>(
 }
 
 /// The answer to what was asked on a stream. A message of a unary call, and the turn of a ONCE call, is answered at a reading of
-/// the clock of its own. Want of memory is told where nothing was done.
-pub(crate) fn answer_of<P: BookPort, C: Clock>(
+/// the clock of its own. A call of mode STREAM is handed over, where somebody takes it. Want of memory is told where nothing was
+/// done.
+pub(crate) fn answer_of<P: BookPort, C: Clock, W: Sending, H: Handing<P, W, C>>(
     alloc: Global,
     desk: &Desk,
     book: &mut P,
     clock: &mut C,
+    wire: &mut W,
+    feeders: &mut H,
     calls: ServedCalls,
     stream: u32,
     asked: Asked,
 ) -> Result<Answered, NoMemory>
     requires { (P.port book.old).opened.schema ≡ desk.now }
     ensures replied { MatchResult result
-        (λ done. IsReplied desk.now stream asked done.reply
+        (λ done. IsRepliedBeside (W.history wire.old).name desk.now stream asked done.reply
         (service (P.port book.old) calls) (service (P.port book.new) done.calls)
-        (C.readings clock.old) (C.readings clock.new))
+        (C.readings clock.old) (C.readings clock.new)
+        (H.feeding feeders.old).started (H.feeding feeders.new).started)
         (λ _. (P.port book.new ≡ P.port book.old)
-        × (C.readings clock.new ≡ C.readings clock.old)) }
-    ensures opened { (P.port book.new).opened ≡ (P.port book.old).opened }
+        × (C.readings clock.new ≡ C.readings clock.old)
+        × ((H.feeding feeders.new).started ≡ (H.feeding feeders.old).started)) }
+    ensures book { book_of (P.port book.new) ≡ book_of (P.port book.old) }
+    ensures wire { W.progress wire.new ≡ W.progress wire.old }
+    ensures history { W.history wire.new ≡ W.history wire.old }
+    ensures ours { AreOfSession (P.port book.old) (W.history wire.old) (H.feeding feeders.old)
+        → AreOfSession (P.port book.new) (W.history wire.new) (H.feeding feeders.new) }
 {
     match asked {
         Asked::Call(method, body) => {
@@ -191,7 +226,17 @@ pub(crate) fn answer_of<P: BookPort, C: Clock>(
             })
         }
         Asked::Subscribe(body) => {
-            answer_subscribe(alloc, desk, book, clock, calls, stream, body.items())
+            answer_subscribe(
+                alloc,
+                desk,
+                book,
+                clock,
+                wire,
+                feeders,
+                calls,
+                stream,
+                body.items(),
+            )
         }
         Asked::Later(what) => answer_later(alloc, desk, calls, stream, what),
         Asked::Http(status) => Ok(Answered {

@@ -1,7 +1,7 @@
-//! Laws of the definitions, which hold for every caller.
+//! Laws of the definitions, which hold for every caller: those of a connection hold whichever calls feeders serve.
 ghost use Rattle.session_core.specs.laws.RunLaws.{TurnsAreTaken, TurnsFollow, TurnsFollowAlone, HistoriesAreAllowed, OwnEntriesStand, EarlierEntriesStand, FindsAreKept, FaultsAreMarked, StreamsAreAnswered, DataAreAFront, OnceCallsSayStates};
 ghost use Rattle.session_core.specs.laws.StreamLaws.{StreamCallsSayRuns};
-ghost use Rattle.session_core.specs.laws.FeederLaws.{AloneIsApart, AnswersAtOwnPort, ApartIsAlone, EarlierEntriesStandApart, HistoriesAreAllowedApart, OthersRest, OthersServe, OwnEntriesStandApart, TurnsAreTakenApart, TurnsAtOwnPort, TurnsFollowApart};
+ghost use Rattle.session_core.specs.laws.FeederLaws.{AnswersAtOwnPort, FedStreamsSayRuns, FeedersBeginAtTheSession, FeedersFindEarlierEntries, FeedersSayNothingOlder, FeedersSayRuns, OthersRest, OthersServe, OwnEntriesStandBeside, TurnsAtOwnPort, TurnsFollowBeside};
 
 /// The answers of a connection are those of one history.
 pub fn answers_are_of_one_history()
@@ -34,7 +34,8 @@ pub fn once_calls_say_states()
     ensures { OnceCallsSayStates }
 {}
 
-/// What the turns of a Subscribe call of mode STREAM say is a run of its stream, at states of that history that don't fall.
+/// What the turns of a Subscribe call of mode STREAM say, which the connection serves itself, is a run of its stream, at states of
+/// that history that don't fall.
 pub fn stream_calls_say_runs()
     ensures { StreamCallsSayRuns }
 {}
@@ -45,24 +46,29 @@ pub fn own_ports_stand_alone()
     ensures turns { TurnsAtOwnPort }
 {}
 
-/// Without feeders a connection that is served beside them is one that is served alone.
-pub fn alone_without_feeders()
-    ensures apart { AloneIsApart }
-    ensures alone { ApartIsAlone }
-{}
-
-/// Beside feeders too the answers of a connection are those of one history, which has the entries of its own turns, each once, in
-/// order, and so has the one that a later turn finds.
-pub fn answers_beside_feeders_are_of_one_history()
-    ensures taken { TurnsAreTakenApart }
-    ensures follow { TurnsFollowApart }
-    ensures allowed { HistoriesAreAllowedApart }
-    ensures last { OwnEntriesStandApart }
-    ensures earlier { EarlierEntriesStandApart }
-{}
-
 /// What feeders say between two steps of a session takes nothing from what was done before.
 pub fn what_feeders_say_stands_apart()
     ensures serves { OthersServe }
     ensures rests { OthersRest }
+{}
+
+/// What a feeder beside a connection says is a run of the stream of its call, at states of the history that the connection's port
+/// has seen at the end, and what is said on the stream of its call is a front of that.
+pub fn feeders_say_runs()
+    ensures messages { FeedersSayRuns }
+    ensures streams { FedStreamsSayRuns }
+{}
+
+/// Beside feeders, too, that history has the entries of the connection's own turns, each once, in order.
+pub fn own_entries_stand_beside()
+    ensures follow { TurnsFollowBeside }
+    ensures last { OwnEntriesStandBeside }
+{}
+
+/// A feeder finds no older state than the one that the connection's turns had left before the call was handed over, and so all
+/// entries that they had added.
+pub fn feeders_begin_at_the_session()
+    ensures begin { FeedersBeginAtTheSession }
+    ensures say { FeedersSayNothingOlder }
+    ensures earlier { FeedersFindEarlierEntries }
 {}

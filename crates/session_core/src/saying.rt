@@ -4,12 +4,14 @@ ghost use Rattle.edge_traits.specs.Output.{Output};
 ghost use Rattle.h2_events.specs.declared.event.RecvEvent.{RecvEvent as Heard};
 ghost use Rattle.h2_events.specs.Items.{is_last};
 ghost use Rattle.session_calls.specs.declared.request.Request.{Request as Asking};
+ghost use Rattle.session_feeders.specs.Feeders.{Started};
 ghost use Rattle.session_core.specs.declared.waiting.Waiting.{Waiting as Unsaid};
 ghost use Rattle.session_core.specs.Serving.{Start, Standing};
 ghost use Rattle.session_core.specs.Saying.{AreBehind};
 ghost use Rattle.session_core.specs.inner.Ends.{IsOwn};
 ghost use Rattle.session_core.specs.inner.Places.{HasEnded, IsWriting, Stands, place_of};
-ghost use Rattle.session_core.specs.inner.Sending.{DoesWhereOpen, HasGrown, TellsFault};
+ghost use Rattle.session_core.specs.inner.Feeders.{AreOfFeeders, feeder_state};
+ghost use Rattle.session_core.specs.inner.Sending.{DoesWhereOpen, HasGrown, SaysThere, TellsFault};
 ghost use Rattle.session_core.specs.inner.Steps.{Speaks, done_of, told_of};
 
 use crate::how::{How, how_of};
@@ -44,10 +46,11 @@ fn speak<W: Sending>(
     stream: u32,
     said: Said,
 ) -> Result<(), WireFaultOut>
-    ensures speaks { DoesWhereOpen (W.others wire.old) (W.others wire.new)
+    ensures speaks { DoesWhereOpen (W.history wire.old).others (W.history wire.new).others
         (W.progress wire.old) (W.progress wire.new)
         (Speaks stream said result) (TellsFault (W.progress wire.old) result) }
-    ensures grown { HasGrown (W.others wire.old) (W.others wire.new) }
+    ensures grown { HasGrown (W.history wire.old) (W.history wire.new) }
+    ensures silent { SaysThere stream (W.history wire.old) (W.history wire.new) }
 {
     match said {
         Said::Message(octets) => {
@@ -83,10 +86,11 @@ fn say<W: Sending>(
     wire: &mut W,
     waiting: Waiting,
 ) -> Result<(), WireFaultOut>
-    ensures speaks { DoesWhereOpen (W.others wire.old) (W.others wire.new)
+    ensures speaks { DoesWhereOpen (W.history wire.old).others (W.history wire.new).others
         (W.progress wire.old) (W.progress wire.new)
         (Speaks waiting.stream waiting.said result) (TellsFault (W.progress wire.old) result) }
-    ensures grown { HasGrown (W.others wire.old) (W.others wire.new) }
+    ensures grown { HasGrown (W.history wire.old) (W.history wire.new) }
+    ensures silent { SaysThere waiting.stream (W.history wire.old) (W.history wire.new) }
     ensures told { OnOk result (recv.new ≡ told_of waiting.stream waiting.said recv.old) }
 {
     let Waiting { stream, said } = waiting;
@@ -110,25 +114,30 @@ pub(crate) fn say_all<W: Sending>(
     behind: Waitings,
     waiting: Waitings,
 ) -> Result<Waitings, How>
-    ensures says { (start : Start) (output : Output) (octets : List ℕ) (heard : List Heard)
-        (owed : List Asking) (at : Standing) → W.others wire.new ≡ []
+    ensures says { (fed : List ℕ) (start : Start) (output : Output) (octets : List ℕ)
+        (started : List Started) (heard : List Heard) (owed : List Asking) (at : Standing)
+        → AreOfFeeders fed (W.history wire.new)
         → AreBehind (W.progress wire.old).inputs behind
-        → Stands start output octets
-        (place_of recv.old (W.progress wire.old) heard (behind ++ waiting) owed at)
+        → Stands fed start output octets
+        (place_of recv.old (W.progress wire.old) (feeder_state (W.history wire.old) started)
+        heard (behind ++ waiting) owed at)
         → MatchResult result
-        (λ rest. Stands start output octets
-        (place_of recv.new (W.progress wire.new) heard rest owed at))
-        (λ how. HasEnded how start octets output (W.progress wire.new) at.port at.readings) }
-    ensures behind { (output : Output) → W.others wire.new ≡ []
+        (λ rest. Stands fed start output octets
+        (place_of recv.new (W.progress wire.new) (feeder_state (W.history wire.new) started)
+        heard rest owed at))
+        (λ how. HasEnded how fed start octets output
+        (W.progress wire.new) (feeder_state (W.history wire.new) started) at.port at.readings) }
+    ensures behind { (fed : List ℕ) (output : Output) → AreOfFeeders fed (W.history wire.new)
         → IsWriting output (W.progress wire.old)
         → AreBehind (W.progress wire.old).inputs behind
         → IfOk result (λ rest. AreBehind (W.progress wire.new).inputs rest) }
-    ensures keeps { (output : Output) (others : List Unsaid) → W.others wire.new ≡ []
+    ensures keeps { (fed : List ℕ) (output : Output) (others : List Unsaid)
+        → AreOfFeeders fed (W.history wire.new)
         → IsWriting output (W.progress wire.old)
         → AreBehind (W.progress wire.old).inputs others
         → IfOk result (λ _. AreBehind (W.progress wire.new).inputs others) }
     ensures own { IfErr result (λ how. IsOwn how) }
-    ensures grown { HasGrown (W.others wire.old) (W.others wire.new) }
+    ensures grown { HasGrown (W.history wire.old) (W.history wire.new) }
 {
     let mut still = behind;
     for w in waiting.into_vec() {

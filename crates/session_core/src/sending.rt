@@ -6,7 +6,7 @@ ghost use Rattle.h2_events.specs.declared.said.Said.TheVariants as says;
 ghost use Rattle.h2_send.specs.Offers.{IsStatus};
 ghost use Rattle.h2_send.specs.Lines.{overflows};
 ghost use Rattle.h2_send.specs.Wires.{IsFolded, progress_of};
-ghost use Rattle.session_core.specs.inner.Sending.{Acts, Closes, DoesWhereOpen, HasGrown, Reads, Says, TellsDone, TellsFault, TellsTook};
+ghost use Rattle.session_core.specs.inner.Sending.{Acts, Closes, DoesWhereOpen, HasGrown, Reads, Says, SaysNothing, SaysThere, TellsDone, TellsFault, TellsTook};
 
 use edge_traits::Sink;
 use h2_events::{Piece, Ready, RecvEvent, Took};
@@ -17,52 +17,56 @@ use std::alloc::Global;
 /// The sending half of a connection. Others may have ports to it, so that a call finds what they did since the last one. What closed
 /// it is told by the first call that finds it closed.
 pub(crate) trait Sending {
-    ghost use Rattle.std.specs.Prelude.{List, Option};
-    ghost use Rattle.h2_send.specs.Inputs.{Input};
     ghost use Rattle.h2_send.specs.Port.{Progress};
+    ghost use Rattle.session_core.specs.inner.Sending.{WireHistory};
 
     /// How far it had come when the session saw it last.
     ghost progress: { Self → Progress };
 
-    /// What others did so far, in order: what each gave it, and None for any other thing.
-    ghost others: { Self → List (Option Input) };
+    /// What others did so far, and what the session did.
+    ghost history: { Self → WireHistory };
 
     /// Whether something can be said on the stream.
     fn readiness(&mut self, stream: u32) -> Result<Ready, WireFaultOut>
-        ensures reads { DoesWhereOpen (others self.old) (others self.new)
+        ensures reads { DoesWhereOpen (history self.old).others (history self.new).others
             (progress self.old) (progress self.new)
             (Reads stream result) (TellsFault (progress self.old) result) }
-        ensures grown { HasGrown (others self.old) (others self.new) };
+        ensures grown { HasGrown (history self.old) (history self.new) }
+        ensures silent { SaysNothing (history self.old) (history self.new) };
 
     /// Acts on an event. `Overflow`: it would have taken a window too far, and the connection is ended for it.
     fn act(&mut self, alloc: Global, event: &RecvEvent) -> Result<(), WireFaultOut>
-        ensures acts { DoesWhereOpen (others self.old) (others self.new)
+        ensures acts { DoesWhereOpen (history self.old).others (history self.new).others
             (progress self.old) (progress self.new)
             (Acts event.now result) (TellsDone result) }
-        ensures grown { HasGrown (others self.old) (others self.new) };
+        ensures grown { HasGrown (history self.old) (history self.new) }
+        ensures silent { SaysNothing (history self.old) (history self.new) };
 
     /// Says a piece on a stream.
     fn say(&mut self, alloc: Global, stream: u32, piece: &Piece) -> Took
         requires size { FitsMessage piece.now }
-        ensures says { DoesWhereOpen (others self.old) (others self.new)
+        ensures says { DoesWhereOpen (history self.old).others (history self.new).others
             (progress self.old) (progress self.new)
             (Says stream (said_by piece.now) result) (TellsTook (progress self.old) result) }
-        ensures grown { HasGrown (others self.old) (others self.new) };
+        ensures grown { HasGrown (history self.old) (history self.new) }
+        ensures silent { SaysThere stream (history self.old) (history self.new) };
 
     /// Answers a call with a status of HTTP in place of an answer of gRPC.
     fn http(&mut self, alloc: Global, stream: u32, status: u16) -> Took
         requires status { IsStatus status }
-        ensures says { DoesWhereOpen (others self.old) (others self.new)
+        ensures says { DoesWhereOpen (history self.old).others (history self.new).others
             (progress self.old) (progress self.new)
             (Says stream (says.Status status) result) (TellsTook (progress self.old) result) }
-        ensures grown { HasGrown (others self.old) (others self.new) };
+        ensures grown { HasGrown (history self.old) (history self.new) }
+        ensures silent { SaysThere stream (history self.old) (history self.new) };
 
     /// Ends the connection, with GOAWAY where the code isn't 0.
     fn close(&mut self, code: u32) -> Result<(), WireFaultOut>
-        ensures closes { DoesWhereOpen (others self.old) (others self.new)
+        ensures closes { DoesWhereOpen (history self.old).others (history self.new).others
             (progress self.old) (progress self.new)
             (Closes code result) (TellsDone result) }
-        ensures grown { HasGrown (others self.old) (others self.new) };
+        ensures grown { HasGrown (history self.old) (history self.new) }
+        ensures silent { SaysNothing (history self.old) (history self.new) };
 }
 
 /// A wire that nobody else has a port to.
@@ -72,7 +76,7 @@ impl<S: Sink> Sending for Wire<S> {
 
     ghost progress = { λ w. progress_of S.seen w };
 
-    ghost others = { λ w. [] };
+    ghost history = { λ w. record { name = []; others = []; own = [] } };
 
     fn readiness(&mut self, stream: u32) -> Result<Ready, WireFaultOut> {
         Ok(Wire::readiness(self, stream))

@@ -8,16 +8,19 @@ ghost use Rattle.h2_send.specs.Inputs.{Input};
 ghost use Rattle.session_calls.specs.declared.request.Request.{Request as Asking};
 ghost use Rattle.session_calls.specs.Requests.{requests};
 ghost use Rattle.book_port.specs.Ports.{PortView};
+ghost use Rattle.session_feeders.specs.Feeders.{Started};
 ghost use Rattle.h2_events.specs.declared.event.RecvEvent.{RecvEvent as Heard};
 ghost use Rattle.session_core.specs.Runs.{Outside, SessionRun, outside_of, start_of};
 ghost use Rattle.session_core.specs.Deeds.{Deed};
 ghost use Rattle.session_core.specs.Rounds.{turns_on};
 ghost use Rattle.session_core.specs.Serving.{standing_of};
 ghost use Rattle.session_core.specs.inner.Ends.{IsOwn, code_of};
-ghost use Rattle.session_core.specs.inner.Places.{HasCome, HasEnded, HasRested, HasStopped, IsServedAt, IsServedPartly, IsServing, Stands, place_of};
+ghost use Rattle.session_core.specs.inner.Feeders.{AreOfSession, AreOfFeeders, feeder_state, book_of};
+ghost use Rattle.session_core.specs.inner.Places.{HasCome, HasEnded, HasFinished, HasRested, HasStopped, IsServedAt, IsServedPartly, IsServing, Stands, place_of};
 ghost use Rattle.session_core.specs.inner.Sending.{HasGrown};
 
 use crate::answering::{answer_of, put_reply};
+use crate::handing::{Handing, Nobody};
 use crate::how::{How, how_of};
 use crate::incoming::{Incoming, Next};
 use crate::reply::Answered;
@@ -49,36 +52,49 @@ pub struct SessionEnd<I, O, P, C> {
 
 /// The calls of a connection: those whose messages are heard, and where they are answered.
 #[derive(Drop)]
-struct Calls<P, C> {
-    table: CallTable,
-    book: P,
-    clock: C,
+pub(crate) struct Calls<P, C, H> {
+    pub(crate) table: CallTable,
+    pub(crate) book: P,
+    pub(crate) clock: C,
+    pub(crate) feeders: H,
 }
 
 /// Answers a request: what is to be said waits behind the rest.
-fn answer<P: BookPort, C: Clock>(
+fn answer<P: BookPort, C: Clock, W: Sending, H: Handing<P, W, C>>(
     alloc: Global,
     desk: &Desk,
     book: &mut P,
     clock: &mut C,
+    wire: &mut W,
+    feeders: &mut H,
     kept: Kept,
     request: Request,
 ) -> Result<Kept, NoMemory>
     requires { (P.port book.old).opened.schema ≡ desk.now }
-    ensures opened { (P.port book.new).opened ≡ (P.port book.old).opened }
-    ensures answers { (before : Outside) (moments : List Moment) (inputs : List Input)
-        (owed : List Asking)
-        → IsServedAt (start_of desk.now before) moments inputs kept.waiting (request ∷ owed)
+    ensures book { book_of (P.port book.new) ≡ book_of (P.port book.old) }
+    ensures answers { (fed : List ℕ) (before : Outside) (moments : List Moment)
+        (inputs : List Input) (owed : List Asking)
+        → IsServedAt fed (start_of desk.now before) moments inputs
+        (feeder_state (W.history wire.old) (H.feeding feeders.old).started) kept.waiting
+        (request ∷ owed)
         (P.port book.old) kept.calls (C.readings clock.old)
         → MatchResult result
-        (λ kept. IsServedAt (start_of desk.now before) moments inputs kept.waiting owed
+        (λ kept. IsServedAt fed (start_of desk.now before) moments inputs
+        (feeder_state (W.history wire.new) (H.feeding feeders.new).started) kept.waiting owed
         (P.port book.new) kept.calls (C.readings clock.new))
-        (λ _. IsServedPartly (start_of desk.now before) moments inputs
+        (λ _. IsServedPartly fed (start_of desk.now before) moments inputs
+        (feeder_state (W.history wire.new) (H.feeding feeders.new).started)
         (P.port book.new) (C.readings clock.new)) }
+    ensures wire { W.progress wire.new ≡ W.progress wire.old }
+    ensures history { W.history wire.new ≡ W.history wire.old }
+    ensures ours { AreOfSession (P.port book.old) (W.history wire.old) (H.feeding feeders.old)
+        → AreOfSession (P.port book.new) (W.history wire.new) (H.feeding feeders.new) }
 {
     let Request { stream, asked } = request;
     let Kept { mut waiting, calls } = kept;
-    match answer_of(alloc, desk, book, clock, calls, stream, asked) {
+    match answer_of(
+        alloc, desk, book, clock, wire, feeders, calls, stream, asked,
+    ) {
         Ok(Answered { reply, calls }) => match put_reply(&mut waiting, stream, reply) {
             Ok(()) => Ok(Kept { waiting, calls }),
             Err(NoMemory) => Err(NoMemory),
@@ -88,28 +104,38 @@ fn answer<P: BookPort, C: Clock>(
 }
 
 /// Answers requests, one after the other.
-fn answer_all<P: BookPort, C: Clock>(
+fn answer_all<P: BookPort, C: Clock, W: Sending, H: Handing<P, W, C>>(
     alloc: Global,
     desk: &Desk,
     book: &mut P,
     clock: &mut C,
+    wire: &mut W,
+    feeders: &mut H,
     kept: Kept,
     requests: Requests,
 ) -> Result<Kept, NoMemory>
     requires { (P.port book.old).opened.schema ≡ desk.now }
-    ensures opened { (P.port book.new).opened ≡ (P.port book.old).opened }
-    ensures answers { (before : Outside) (moments : List Moment) (inputs : List Input)
-        → IsServedAt (start_of desk.now before) moments inputs kept.waiting requests
+    ensures book { book_of (P.port book.new) ≡ book_of (P.port book.old) }
+    ensures answers { (fed : List ℕ) (before : Outside) (moments : List Moment)
+        (inputs : List Input)
+        → IsServedAt fed (start_of desk.now before) moments inputs
+        (feeder_state (W.history wire.old) (H.feeding feeders.old).started) kept.waiting requests
         (P.port book.old) kept.calls (C.readings clock.old)
         → MatchResult result
-        (λ kept. IsServedAt (start_of desk.now before) moments inputs kept.waiting []
+        (λ kept. IsServedAt fed (start_of desk.now before) moments inputs
+        (feeder_state (W.history wire.new) (H.feeding feeders.new).started) kept.waiting []
         (P.port book.new) kept.calls (C.readings clock.new))
-        (λ _. IsServedPartly (start_of desk.now before) moments inputs
+        (λ _. IsServedPartly fed (start_of desk.now before) moments inputs
+        (feeder_state (W.history wire.new) (H.feeding feeders.new).started)
         (P.port book.new) (C.readings clock.new)) }
+    ensures wire { W.progress wire.new ≡ W.progress wire.old }
+    ensures history { W.history wire.new ≡ W.history wire.old }
+    ensures ours { AreOfSession (P.port book.old) (W.history wire.old) (H.feeding feeders.old)
+        → AreOfSession (P.port book.new) (W.history wire.new) (H.feeding feeders.new) }
 {
     let mut kept = kept;
     for request in requests.into_vec() {
-        match answer(alloc, desk, book, clock, kept, request) {
+        match answer(alloc, desk, book, clock, wire, feeders, kept, request) {
             Ok(rest) => kept = rest,
             Err(NoMemory) => return Err(NoMemory),
         }
@@ -118,58 +144,81 @@ fn answer_all<P: BookPort, C: Clock>(
 }
 
 /// Hears an event, and answers the requests that are whole with it.
-fn hear<P: BookPort, C: Clock>(
+fn hear<P: BookPort, C: Clock, W: Sending, H: Handing<P, W, C>>(
     alloc: Global,
     desk: &Desk,
-    calls: &mut Calls<P, C>,
+    wire: &mut W,
+    calls: &mut Calls<P, C, H>,
     kept: Kept,
     event: &RecvEvent,
 ) -> Result<Kept, NoMemory>
     requires { (P.port calls.old.book).opened.schema ≡ desk.now }
-    ensures opened { (P.port calls.new.book).opened ≡ (P.port calls.old.book).opened }
-    ensures hears { (before : Outside) (moments : List Moment) (inputs : List Input)
+    ensures book { book_of (P.port calls.new.book) ≡ book_of (P.port calls.old.book) }
+    ensures hears { (fed : List ℕ) (before : Outside) (moments : List Moment)
+        (inputs : List Input)
         → ((owed : List Asking)
         → requests (calls.old.table ++ event.now ∷ []) ≡ requests calls.old.table ++ owed
-        → IsServedAt (start_of desk.now before) moments inputs kept.waiting owed
+        → IsServedAt fed (start_of desk.now before) moments inputs
+        (feeder_state (W.history wire.old) (H.feeding calls.old.feeders).started) kept.waiting owed
         (P.port calls.old.book) kept.calls (C.readings calls.old.clock))
         → MatchResult result
-        (λ kept. IsServedAt (start_of desk.now before) moments inputs kept.waiting []
+        (λ kept. IsServedAt fed (start_of desk.now before) moments inputs
+        (feeder_state (W.history wire.new) (H.feeding calls.new.feeders).started) kept.waiting []
         (P.port calls.new.book) kept.calls (C.readings calls.new.clock))
-        (λ _. IsServedPartly (start_of desk.now before) moments inputs
+        (λ _. IsServedPartly fed (start_of desk.now before) moments inputs
+        (feeder_state (W.history wire.new) (H.feeding calls.new.feeders).started)
         (P.port calls.new.book) (C.readings calls.new.clock)) }
     ensures heard { OnOk result (calls.new.table ≡ calls.old.table ++ event.now ∷ []) }
+    ensures wire { W.progress wire.new ≡ W.progress wire.old }
+    ensures history { W.history wire.new ≡ W.history wire.old }
+    ensures ours { AreOfSession (P.port calls.old.book) (W.history wire.old)
+        (H.feeding calls.old.feeders)
+        → AreOfSession (P.port calls.new.book) (W.history wire.new) (H.feeding calls.new.feeders) }
 {
     match calls.table.hear(alloc, event) {
-        Ok(more) => answer_all(alloc, desk, &mut calls.book, &mut calls.clock, kept, more),
+        Ok(more) => answer_all(
+            alloc,
+            desk,
+            &mut calls.book,
+            &mut calls.clock,
+            wire,
+            &mut calls.feeders,
+            kept,
+            more,
+        ),
         Err(NoMemory) => Err(NoMemory),
     }
 }
 
 /// All is said that can be, and then the calls take their turns.
-fn say_and_turn<W: Sending, P: BookPort, C: Clock>(
+fn say_and_turn<W: Sending, P: BookPort, C: Clock, H>(
     alloc: Global,
     recv: &mut Recv,
     wire: &mut W,
     desk: &Desk,
-    calls: &mut Calls<P, C>,
+    calls: &mut Calls<P, C, H>,
     kept: Kept,
 ) -> Result<Kept, How>
-    ensures opened { (P.port calls.new.book).opened ≡ (P.port calls.old.book).opened }
+    ensures book { book_of (P.port calls.new.book) ≡ book_of (P.port calls.old.book) }
     ensures table { calls.new.table ≡ calls.old.table }
-    ensures rests { (before : Outside) (octets : List ℕ) (heard : List Heard) (round : List Deed)
-        → W.others wire.new ≡ [] → ((stream : ℕ) → turns_on stream round ≡ 0)
-        → Stands (start_of desk.now before) before.output octets
-        (place_of recv.old (W.progress wire.old) heard kept.waiting []
+    ensures feeders { calls.new.feeders ≡ calls.old.feeders }
+    ensures rests { (fed : List ℕ) (before : Outside) (octets : List ℕ)
+        (started : List Started) (heard : List Heard) (round : List Deed)
+        → AreOfFeeders fed (W.history wire.new) → ((stream : ℕ) → turns_on stream round ≡ 0)
+        → Stands fed (start_of desk.now before) before.output octets
+        (place_of recv.old (W.progress wire.old) (feeder_state (W.history wire.old) started)
+        heard kept.waiting []
         (standing_of (P.port calls.old.book) kept.calls (C.readings calls.old.clock) round))
         → MatchResult result
-        (λ kept. HasRested (start_of desk.now before) before.output octets
-        recv.new (W.progress wire.new) heard kept.waiting
+        (λ kept. HasRested fed (start_of desk.now before) before.output octets
+        recv.new (W.progress wire.new) (feeder_state (W.history wire.new) started)
+        heard kept.waiting
         (P.port calls.new.book) kept.calls (C.readings calls.new.clock))
-        (λ how. HasEnded how (start_of desk.now before) octets before.output
-        (W.progress wire.new)
+        (λ how. HasEnded how fed (start_of desk.now before) octets before.output
+        (W.progress wire.new) (feeder_state (W.history wire.new) started)
         (P.port calls.new.book) (C.readings calls.new.clock)) }
     ensures own { IfErr result (λ how. IsOwn how) }
-    ensures grown { HasGrown (W.others wire.old) (W.others wire.new) }
+    ensures grown { HasGrown (W.history wire.old) (W.history wire.new) }
 {
     let Kept {
         waiting,
@@ -193,59 +242,74 @@ fn say_and_turn<W: Sending, P: BookPort, C: Clock>(
 
 /// Serves an event: it is acted on, what is asked with it is answered, all is said that can be, and the calls that are served take
 /// their turns.
-fn serve_event<W: Sending, P: BookPort, C: Clock>(
+fn serve_event<W: Sending, P: BookPort, C: Clock, H: Handing<P, W, C>>(
     alloc: Global,
     recv: &mut Recv,
     wire: &mut W,
     desk: &Desk,
-    calls: &mut Calls<P, C>,
+    calls: &mut Calls<P, C, H>,
     kept: Kept,
     event: &RecvEvent,
 ) -> Result<Kept, How>
     requires { (P.port calls.old.book).opened.schema ≡ desk.now }
-    ensures opened { (P.port calls.new.book).opened ≡ (P.port calls.old.book).opened }
-    ensures serves { (before : Outside) (octets : List ℕ) (round : List Deed)
-        → W.others wire.new ≡ []
-        → HasCome (start_of desk.now before) before.output octets event.now
-        (place_of recv.old (W.progress wire.old) calls.old.table kept.waiting []
+    ensures book { book_of (P.port calls.new.book) ≡ book_of (P.port calls.old.book) }
+    ensures serves { (fed : List ℕ) (before : Outside) (octets : List ℕ) (round : List Deed)
+        → AreOfFeeders fed (W.history wire.new)
+        → HasCome fed (start_of desk.now before) before.output octets event.now
+        (place_of recv.old (W.progress wire.old)
+        (feeder_state (W.history wire.old) (H.feeding calls.old.feeders).started)
+        calls.old.table kept.waiting []
         (standing_of (P.port calls.old.book) kept.calls (C.readings calls.old.clock) round))
         → MatchResult result
-        (λ kept. HasRested (start_of desk.now before) before.output octets
-        recv.new (W.progress wire.new) calls.new.table kept.waiting
+        (λ kept. HasRested fed (start_of desk.now before) before.output octets
+        recv.new (W.progress wire.new)
+        (feeder_state (W.history wire.new) (H.feeding calls.new.feeders).started)
+        calls.new.table kept.waiting
         (P.port calls.new.book) kept.calls (C.readings calls.new.clock))
-        (λ how. HasEnded how (start_of desk.now before) octets before.output
+        (λ how. HasEnded how fed (start_of desk.now before) octets before.output
         (W.progress wire.new)
+        (feeder_state (W.history wire.new) (H.feeding calls.new.feeders).started)
         (P.port calls.new.book) (C.readings calls.new.clock)) }
     ensures own { IfErr result (λ how. IsOwn how) }
-    ensures grown { HasGrown (W.others wire.old) (W.others wire.new) }
+    ensures grown { HasGrown (W.history wire.old) (W.history wire.new) }
+    ensures ours { AreOfSession (P.port calls.old.book) (W.history wire.old)
+        (H.feeding calls.old.feeders)
+        → AreOfSession (P.port calls.new.book) (W.history wire.new) (H.feeding calls.new.feeders) }
 {
     match wire.act(alloc, event) {
         Ok(()) => {}
         Err(fault) => return Err(how_of(fault)),
     }
-    match hear(alloc, desk, calls, kept, event) {
+    match hear(alloc, desk, wire, calls, kept, event) {
         Ok(kept) => say_and_turn(alloc, recv, wire, desk, calls, kept),
         Err(NoMemory) => Err(How::NoMemory),
     }
 }
 
 /// Serves frame by frame, to the end.
-fn serve_frames<I: Source, W: Sending, P: BookPort, C: Clock>(
+fn serve_frames<I: Source, W: Sending, P: BookPort, C: Clock, H: Handing<P, W, C>>(
     alloc: Global,
     incoming: &mut Incoming<I>,
     wire: &mut W,
     desk: &Desk,
-    calls: &mut Calls<P, C>,
+    calls: &mut Calls<P, C, H>,
 ) -> How
     requires { (P.port calls.old.book).opened.schema ≡ desk.now }
-    ensures serves { (before : Outside) → W.others wire.new ≡ []
-        → IsServing desk.now before (I.seen incoming.old.source) incoming.old.count
-        (place_of incoming.old.recv (W.progress wire.old) calls.old.table [] []
+    ensures book { book_of (P.port calls.new.book) ≡ book_of (P.port calls.old.book) }
+    ensures serves { (fed : List ℕ) (before : Outside) → AreOfFeeders fed (W.history wire.new)
+        → IsServing fed desk.now before (I.seen incoming.old.source) incoming.old.count
+        (place_of incoming.old.recv (W.progress wire.old)
+        (feeder_state (W.history wire.old) (H.feeding calls.old.feeders).started)
+        calls.old.table [] []
         (standing_of (P.port calls.old.book) [] (C.readings calls.old.clock) []))
-        → HasStopped result desk.now before (I.seen incoming.new.source)
+        → HasStopped result fed desk.now before (I.seen incoming.new.source)
         (W.progress wire.new)
+        (feeder_state (W.history wire.new) (H.feeding calls.new.feeders).started)
         (P.port calls.new.book) (C.readings calls.new.clock) }
-    ensures grown { HasGrown (W.others wire.old) (W.others wire.new) }
+    ensures grown { HasGrown (W.history wire.old) (W.history wire.new) }
+    ensures ours { AreOfSession (P.port calls.old.book) (W.history wire.old)
+        (H.feeding calls.old.feeders)
+        → AreOfSession (P.port calls.new.book) (W.history wire.new) (H.feeding calls.new.feeders) }
 {
     let mut kept = Kept {
         waiting: Waitings::empty(alloc),
@@ -277,12 +341,14 @@ fn code_of(how: How) -> u32
 
 /// Ends the sending half, with a GOAWAY for a connection error of the peer.
 fn finish<W: Sending>(wire: &mut W, how: How) -> How
-    ensures ends { (schema : List SchemaNode) (before : Outside) (source : SourceSeen)
-        (port : PortView) (readings : List ℕ) → W.others wire.new ≡ []
-        → HasStopped how schema before source (W.progress wire.old) port readings
-        → SessionRun schema before result
-        (outside_of source (W.progress wire.new).output port readings) }
-    ensures grown { HasGrown (W.others wire.old) (W.others wire.new) }
+    ensures ends { (fed : List ℕ) (schema : List SchemaNode) (before : Outside)
+        (source : SourceSeen) (started : List Started) (port : PortView) (readings : List ℕ)
+        → AreOfFeeders fed (W.history wire.new)
+        → HasStopped how fed schema before source
+        (W.progress wire.old) (feeder_state (W.history wire.old) started) port readings
+        → HasFinished result fed schema before source
+        (W.progress wire.new) (feeder_state (W.history wire.new) started) port readings }
+    ensures grown { HasGrown (W.history wire.old) (W.history wire.new) }
 {
     match wire.close(code_of(how)) {
         Ok(()) => how,
@@ -291,21 +357,29 @@ fn finish<W: Sending>(wire: &mut W, how: How) -> How
 }
 
 /// Serves to the end, and ends the sending half.
-fn serve_to_end<I: Source, W: Sending, P: BookPort, C: Clock>(
+pub(crate) fn serve_to_end<I: Source, W: Sending, P: BookPort, C: Clock, H: Handing<P, W, C>>(
     alloc: Global,
     incoming: &mut Incoming<I>,
     wire: &mut W,
     desk: &Desk,
-    calls: &mut Calls<P, C>,
+    calls: &mut Calls<P, C, H>,
 ) -> How
     requires { (P.port calls.old.book).opened.schema ≡ desk.now }
-    ensures { (before : Outside) → W.others wire.new ≡ []
-        → IsServing desk.now before (I.seen incoming.old.source) incoming.old.count
-        (place_of incoming.old.recv (W.progress wire.old) calls.old.table [] []
+    ensures book { book_of (P.port calls.new.book) ≡ book_of (P.port calls.old.book) }
+    ensures ends { (fed : List ℕ) (before : Outside) → AreOfFeeders fed (W.history wire.new)
+        → IsServing fed desk.now before (I.seen incoming.old.source) incoming.old.count
+        (place_of incoming.old.recv (W.progress wire.old)
+        (feeder_state (W.history wire.old) (H.feeding calls.old.feeders).started)
+        calls.old.table [] []
         (standing_of (P.port calls.old.book) [] (C.readings calls.old.clock) []))
-        → SessionRun desk.now before result
-        (outside_of (I.seen incoming.new.source) (W.progress wire.new).output
-        (P.port calls.new.book) (C.readings calls.new.clock)) }
+        → HasFinished result fed desk.now before (I.seen incoming.new.source)
+        (W.progress wire.new)
+        (feeder_state (W.history wire.new) (H.feeding calls.new.feeders).started)
+        (P.port calls.new.book) (C.readings calls.new.clock) }
+    ensures grown { HasGrown (W.history wire.old) (W.history wire.new) }
+    ensures ours { AreOfSession (P.port calls.old.book) (W.history wire.old)
+        (H.feeding calls.old.feeders)
+        → AreOfSession (P.port calls.new.book) (W.history wire.new) (H.feeding calls.new.feeders) }
 {
     let how = serve_frames(alloc, incoming, wire, desk, calls);
     finish(wire, how)
@@ -317,7 +391,7 @@ fn serve<I: Source, O: Sink, P: BookPort, C: Clock>(
     incoming: &mut Incoming<I>,
     wire: &mut Wire<O>,
     desk: &Desk,
-    calls: &mut Calls<P, C>,
+    calls: &mut Calls<P, C, Nobody>,
 ) -> How
     requires { (P.port calls.old.book).opened.schema ≡ desk.now }
     ensures { incoming.old.recv ≡ Ok new_reader → incoming.old.count ≡ 0
@@ -361,6 +435,7 @@ pub fn serve_alone<I: Source, O: Sink, P: BookPort, C: Clock>(
         table: CallTable::make(alloc),
         book,
         clock,
+        feeders: Nobody,
     };
     let how = serve(alloc, &mut incoming, &mut wire, desk, &mut calls);
     let Incoming {
@@ -372,6 +447,7 @@ pub fn serve_alone<I: Source, O: Sink, P: BookPort, C: Clock>(
         table: _,
         book,
         clock,
+        feeders: _,
     } = calls;
     SessionEnd {
         how,

@@ -12,7 +12,9 @@ ghost use Rattle.session_core.specs.inner.Words.{words};
 ghost use Rattle.session_core.specs.Runs.{Outside, start_of};
 ghost use Rattle.session_core.specs.inner.Ends.{IsOwn};
 ghost use Rattle.session_core.specs.inner.Places.{HasEnded, IsTurning, IsWriting, Stands, place_of};
+ghost use Rattle.session_core.specs.inner.Feeders.{AreOfFeeders, feeder_state, book_of};
 ghost use Rattle.session_core.specs.inner.Sending.{HasGrown};
+ghost use Rattle.session_feeders.specs.Feeders.{Started};
 ghost use Rattle.session_core.specs.inner.Steps.{IsTurned, list_of, said_in};
 
 use crate::answering::put_reply;
@@ -65,7 +67,7 @@ fn stream_turn<P: BookPort, C: Clock>(
         (P.port book.old) (P.port book.new) (C.readings clock.old) (C.readings clock.new) }
     ensures left { IfSome result.left (λ left. (left.stream ≡ served.stream)
         × (left.call.plan ≡ served.call.plan)) }
-    ensures opened { (P.port book.new).opened ≡ (P.port book.old).opened }
+    ensures book { book_of (P.port book.new) ≡ book_of (P.port book.old) }
 {
     let mut served = served;
     let now = clock.now();
@@ -104,7 +106,7 @@ fn poll_turn<P: BookPort, C: Clock>(
         (P.port book.old) (P.port book.new) (C.readings clock.old) (C.readings clock.new) }
     ensures left { IfSome result.left (λ left. (left.stream ≡ served.stream)
         × (left.call.plan ≡ served.call.plan) × (left.polls + 1 ≡ served.polls)) }
-    ensures opened { (P.port book.new).opened ≡ (P.port book.old).opened }
+    ensures book { book_of (P.port book.new) ≡ book_of (P.port book.old) }
 {
     let mut served = served;
     let left = served.polls - 1;
@@ -140,26 +142,30 @@ fn say_turn<W: Sending>(
     stream: u32,
     reply: Reply,
 ) -> Result<Waitings, How>
-    ensures says { (start : Start) (output : Output) (octets : List ℕ) (heard : List Heard)
-        (owed : List Asking) (at : Standing) → W.others wire.new ≡ []
+    ensures says { (fed : List ℕ) (start : Start) (output : Output) (octets : List ℕ)
+        (started : List Started) (heard : List Heard) (owed : List Asking) (at : Standing)
+        → AreOfFeeders fed (W.history wire.new)
         → AreBehind (W.progress wire.old).inputs waiting
-        → Stands start output octets
-        (place_of recv.old (W.progress wire.old) heard
-        (waiting ++ words stream (said_in reply)) owed at)
+        → Stands fed start output octets
+        (place_of recv.old (W.progress wire.old) (feeder_state (W.history wire.old) started)
+        heard (waiting ++ words stream (said_in reply)) owed at)
         → MatchResult result
-        (λ rest. Stands start output octets
-        (place_of recv.new (W.progress wire.new) heard rest owed at))
-        (λ how. HasEnded how start octets output (W.progress wire.new) at.port at.readings) }
-    ensures behind { (output : Output) → W.others wire.new ≡ []
+        (λ rest. Stands fed start output octets
+        (place_of recv.new (W.progress wire.new) (feeder_state (W.history wire.new) started)
+        heard rest owed at))
+        (λ how. HasEnded how fed start octets output
+        (W.progress wire.new) (feeder_state (W.history wire.new) started) at.port at.readings) }
+    ensures behind { (fed : List ℕ) (output : Output) → AreOfFeeders fed (W.history wire.new)
         → IsWriting output (W.progress wire.old)
         → AreBehind (W.progress wire.old).inputs waiting
         → IfOk result (λ rest. AreBehind (W.progress wire.new).inputs rest) }
-    ensures keeps { (output : Output) (others : List Unsaid) → W.others wire.new ≡ []
+    ensures keeps { (fed : List ℕ) (output : Output) (others : List Unsaid)
+        → AreOfFeeders fed (W.history wire.new)
         → IsWriting output (W.progress wire.old)
         → AreBehind (W.progress wire.old).inputs others
         → IfOk result (λ _. AreBehind (W.progress wire.new).inputs others) }
     ensures own { IfErr result (λ how. IsOwn how) }
-    ensures grown { HasGrown (W.others wire.old) (W.others wire.new) }
+    ensures grown { HasGrown (W.history wire.old) (W.history wire.new) }
 {
     let mut said = Waitings::empty(alloc);
     match put_reply(&mut said, stream, reply) {
@@ -179,19 +185,23 @@ fn turn_stream<W: Sending, P: BookPort, C: Clock>(
     waiting: Waitings,
     served: Served,
 ) -> Result<Turned, How>
-    ensures turned { (before : Outside) (octets : List ℕ) (heard : List Heard)
-        (done later : List Serving) → W.others wire.new ≡ [] → served.call.plan.mode ≡ modes.Stream
-        → IsTurning (start_of desk.now before) before.output octets done (served ∷ later)
-        recv.old (W.progress wire.old) heard waiting (P.port book.old) (C.readings clock.old)
+    ensures turned { (fed : List ℕ) (before : Outside) (octets : List ℕ)
+        (started : List Started) (heard : List Heard) (done later : List Serving)
+        → AreOfFeeders fed (W.history wire.new) → served.call.plan.mode ≡ modes.Stream
+        → IsTurning fed (start_of desk.now before) before.output octets done (served ∷ later)
+        recv.old (W.progress wire.old) (feeder_state (W.history wire.old) started) heard waiting
+        (P.port book.old) (C.readings clock.old)
         → MatchResult result
-        (λ t. IsTurning (start_of desk.now before) before.output octets
+        (λ t. IsTurning fed (start_of desk.now before) before.output octets
         (done ++ list_of t.left) later
-        recv.new (W.progress wire.new) heard t.waiting (P.port book.new) (C.readings clock.new))
-        (λ how. HasEnded how (start_of desk.now before) octets before.output
-        (W.progress wire.new) (P.port book.new) (C.readings clock.new)) }
-    ensures opened { (P.port book.new).opened ≡ (P.port book.old).opened }
+        recv.new (W.progress wire.new) (feeder_state (W.history wire.new) started) heard t.waiting
+        (P.port book.new) (C.readings clock.new))
+        (λ how. HasEnded how fed (start_of desk.now before) octets before.output
+        (W.progress wire.new) (feeder_state (W.history wire.new) started)
+        (P.port book.new) (C.readings clock.new)) }
+    ensures book { book_of (P.port book.new) ≡ book_of (P.port book.old) }
     ensures own { IfErr result (λ how. IsOwn how) }
-    ensures grown { HasGrown (W.others wire.old) (W.others wire.new) }
+    ensures grown { HasGrown (W.history wire.old) (W.history wire.new) }
 {
     match wire.readiness(served.stream) {
         Err(fault) => Err(how_of(fault)),
@@ -226,19 +236,23 @@ fn turn_polls<W: Sending, P: BookPort, C: Clock>(
     waiting: Waitings,
     served: Served,
 ) -> Result<Turned, How>
-    ensures turned { (before : Outside) (octets : List ℕ) (heard : List Heard)
-        (done later : List Serving) → W.others wire.new ≡ [] → served.call.plan.mode ≡ modes.Poll
-        → IsTurning (start_of desk.now before) before.output octets done (served ∷ later)
-        recv.old (W.progress wire.old) heard waiting (P.port book.old) (C.readings clock.old)
+    ensures turned { (fed : List ℕ) (before : Outside) (octets : List ℕ)
+        (started : List Started) (heard : List Heard) (done later : List Serving)
+        → AreOfFeeders fed (W.history wire.new) → served.call.plan.mode ≡ modes.Poll
+        → IsTurning fed (start_of desk.now before) before.output octets done (served ∷ later)
+        recv.old (W.progress wire.old) (feeder_state (W.history wire.old) started) heard waiting
+        (P.port book.old) (C.readings clock.old)
         → MatchResult result
-        (λ t. IsTurning (start_of desk.now before) before.output octets
+        (λ t. IsTurning fed (start_of desk.now before) before.output octets
         (done ++ list_of t.left) later
-        recv.new (W.progress wire.new) heard t.waiting (P.port book.new) (C.readings clock.new))
-        (λ how. HasEnded how (start_of desk.now before) octets before.output
-        (W.progress wire.new) (P.port book.new) (C.readings clock.new)) }
-    ensures opened { (P.port book.new).opened ≡ (P.port book.old).opened }
+        recv.new (W.progress wire.new) (feeder_state (W.history wire.new) started) heard t.waiting
+        (P.port book.new) (C.readings clock.new))
+        (λ how. HasEnded how fed (start_of desk.now before) octets before.output
+        (W.progress wire.new) (feeder_state (W.history wire.new) started)
+        (P.port book.new) (C.readings clock.new)) }
+    ensures book { book_of (P.port book.new) ≡ book_of (P.port book.old) }
     ensures own { IfErr result (λ how. IsOwn how) }
-    ensures grown { HasGrown (W.others wire.old) (W.others wire.new) }
+    ensures grown { HasGrown (W.history wire.old) (W.history wire.new) }
 {
     let mut waiting = waiting;
     let mut served = served;
@@ -294,19 +308,23 @@ fn turn_call<W: Sending, P: BookPort, C: Clock>(
     waiting: Waitings,
     served: Served,
 ) -> Result<Turned, How>
-    ensures turned { (before : Outside) (octets : List ℕ) (heard : List Heard)
-        (done later : List Serving) → W.others wire.new ≡ []
-        → IsTurning (start_of desk.now before) before.output octets done (served ∷ later)
-        recv.old (W.progress wire.old) heard waiting (P.port book.old) (C.readings clock.old)
+    ensures turned { (fed : List ℕ) (before : Outside) (octets : List ℕ)
+        (started : List Started) (heard : List Heard) (done later : List Serving)
+        → AreOfFeeders fed (W.history wire.new)
+        → IsTurning fed (start_of desk.now before) before.output octets done (served ∷ later)
+        recv.old (W.progress wire.old) (feeder_state (W.history wire.old) started) heard waiting
+        (P.port book.old) (C.readings clock.old)
         → MatchResult result
-        (λ t. IsTurning (start_of desk.now before) before.output octets
+        (λ t. IsTurning fed (start_of desk.now before) before.output octets
         (done ++ list_of t.left) later
-        recv.new (W.progress wire.new) heard t.waiting (P.port book.new) (C.readings clock.new))
-        (λ how. HasEnded how (start_of desk.now before) octets before.output
-        (W.progress wire.new) (P.port book.new) (C.readings clock.new)) }
-    ensures opened { (P.port book.new).opened ≡ (P.port book.old).opened }
+        recv.new (W.progress wire.new) (feeder_state (W.history wire.new) started) heard t.waiting
+        (P.port book.new) (C.readings clock.new))
+        (λ how. HasEnded how fed (start_of desk.now before) octets before.output
+        (W.progress wire.new) (feeder_state (W.history wire.new) started)
+        (P.port book.new) (C.readings clock.new)) }
+    ensures book { book_of (P.port book.new) ≡ book_of (P.port book.old) }
     ensures own { IfErr result (λ how. IsOwn how) }
-    ensures grown { HasGrown (W.others wire.old) (W.others wire.new) }
+    ensures grown { HasGrown (W.history wire.old) (W.history wire.new) }
 {
     match served.call.plan().mode {
         ListMode::Stream => turn_stream(alloc, recv, wire, desk, book, clock, waiting, served),
@@ -333,18 +351,22 @@ pub(crate) fn take_turns<W: Sending, P: BookPort, C: Clock>(
     waiting: Waitings,
     calls: ServedCalls,
 ) -> Result<Kept, How>
-    ensures turned { (before : Outside) (octets : List ℕ) (heard : List Heard)
-        → W.others wire.new ≡ []
-        → IsTurning (start_of desk.now before) before.output octets [] calls
-        recv.old (W.progress wire.old) heard waiting (P.port book.old) (C.readings clock.old)
+    ensures turned { (fed : List ℕ) (before : Outside) (octets : List ℕ)
+        (started : List Started) (heard : List Heard) → AreOfFeeders fed (W.history wire.new)
+        → IsTurning fed (start_of desk.now before) before.output octets [] calls
+        recv.old (W.progress wire.old) (feeder_state (W.history wire.old) started) heard waiting
+        (P.port book.old) (C.readings clock.old)
         → MatchResult result
-        (λ kept. IsTurning (start_of desk.now before) before.output octets kept.calls []
-        recv.new (W.progress wire.new) heard kept.waiting (P.port book.new) (C.readings clock.new))
-        (λ how. HasEnded how (start_of desk.now before) octets before.output
-        (W.progress wire.new) (P.port book.new) (C.readings clock.new)) }
-    ensures opened { (P.port book.new).opened ≡ (P.port book.old).opened }
+        (λ kept. IsTurning fed (start_of desk.now before) before.output octets kept.calls []
+        recv.new (W.progress wire.new)
+        (feeder_state (W.history wire.new) started) heard kept.waiting
+        (P.port book.new) (C.readings clock.new))
+        (λ how. HasEnded how fed (start_of desk.now before) octets before.output
+        (W.progress wire.new) (feeder_state (W.history wire.new) started)
+        (P.port book.new) (C.readings clock.new)) }
+    ensures book { book_of (P.port book.new) ≡ book_of (P.port book.old) }
     ensures own { IfErr result (λ how. IsOwn how) }
-    ensures grown { HasGrown (W.others wire.old) (W.others wire.new) }
+    ensures grown { HasGrown (W.history wire.old) (W.history wire.new) }
 {
     let mut waiting = waiting;
     let mut still = ServedCalls::empty(alloc);

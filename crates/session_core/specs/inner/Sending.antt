@@ -1,5 +1,5 @@
 -- The sending half of a connection as a session uses it, and what others who have ports to it do between two of its calls.
-use Rattle.std.specs.Prelude.{◌≡◌, ◌⊎◌, ℕ, true, List, [], ◌∷◌, ◌++◌, map, Option, Some, Result, Ok, Err, IfErr}
+use Rattle.std.specs.Prelude.{◌≡◌, ◌⊎◌, ℕ, ◌==◌, ◌≤◌, length, true, false, if◌then◌else◌, List, [], ◌∷◌, ◌++◌, map, Option, Some, Result, Ok, Err, IfErr}
 use Rattle.edge_traits.specs.Output.{Wrote, FailedWithin}
 use Rattle.h2_frame.specs.ErrorCodes.{flow_control_error}
 use Rattle.h2_windows.specs.Written.{octets_of}
@@ -27,9 +27,34 @@ Gives (input ∷ inputs) old new =
     (old.condition ≡ condition.Open) × IsAccepted input (line_of old)
     × (answer : Took) × (next : Progress) × Takes answer input old next × Gives inputs next new
 
--- no less was done by others
-abbrev pub HasGrown : List (Option Input) → List (Option Input) → Type 0
-HasGrown before after = (did : List (Option Input)) × (after ≡ before ++ did)
+-- What contracts see of the ports of a sending half: which sending half it is, what others did so far, in order, and what the session
+-- did. Some of what was given, None for any other thing.
+pub record WireHistory : Type 0 where
+  pub name : List ℕ
+  pub others : List (Option Input)
+  pub own : List (Option Input)
+
+-- no less was done by others, at the same sending half
+pub record HasGrown (before after : WireHistory) : Type 0 where
+  pub name : after.name ≡ before.name
+  pub did : List (Option Input)
+  pub told : after.others ≡ before.others ++ did
+
+-- what these say on a stream
+abbrev pub spoken : ℕ → List (Option Input) → List Said
+spoken stream [] = []
+spoken stream (Some (Speech other said) ∷ done) =
+    if other == stream then said ∷ spoken stream done else spoken stream done
+spoken stream (other ∷ done) = spoken stream done
+
+-- the session itself said nothing
+abbrev pub SaysNothing : WireHistory → WireHistory → Type 0
+SaysNothing before after = (stream : ℕ) → spoken stream after.own ≡ spoken stream before.own
+
+-- nothing but on this stream
+abbrev pub SaysThere : ℕ → WireHistory → WireHistory → Type 0
+SaysThere on before after =
+    (stream : ℕ) → (on == stream) ≡ false → spoken stream after.own ≡ spoken stream before.own
 
 -- A call finds the sending half as others left it: where all that they did was to give it inputs, as these leave it.
 pub record Finds (before after : List (Option Input)) (old found : Progress) : Type 0 where
@@ -52,9 +77,15 @@ pub record DoesWhereOpen (before after : List (Option Input)) (old new : Progres
 abbrev pub Reads : ℕ → Result Ready WireFaultOut → Progress → Progress → Type 0
 Reads stream answer found new = (answer ≡ Ok (ready_in stream found)) × (new ≡ found)
 
--- memory is wanting, and nothing more goes out
+-- it was given these inputs, and perhaps one more
+abbrev pub IsOneMore : List Input → Progress → Type 0
+IsOneMore inputs at = (lost : List Input) × (at.inputs ≡ inputs ++ lost) × (length lost ≤ 1)
+
+-- Memory is wanting, and nothing more goes out. One thing more may have been given, which is lost.
 abbrev pub Starves : Progress → Progress → Type 0
-Starves found new = (new.output ≡ found.output) × (new.condition ≡ condition.NoMemory)
+Starves found new =
+    (new.output ≡ found.output) × (new.condition ≡ condition.NoMemory)
+    × IsOneMore found.inputs new
 
 -- the connection ends
 abbrev pub Closes : ℕ → Result (Unit {0}) WireFaultOut → Progress → Progress → Type 0
@@ -94,6 +125,11 @@ Says stream said _ found new =
     (IsAccepted (Speech stream said) (line_of found) → ⊥) × (new ≡ found)
 
 -- ---- what is told by a call that finds it closed
+
+-- what became of a piece, where the fault that closed the sending half before is told in its place
+abbrev pub told_by : Result Took WireFaultOut → Took
+told_by (Ok took) = took
+told_by (Err fault) = took_of (Err fault)
 
 abbrev pub TellsDone : Result (Unit {0}) WireFaultOut → Result (Unit {0}) WireFaultOut → Type 0
 TellsDone answer done = answer ≡ done

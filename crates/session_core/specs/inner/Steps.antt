@@ -34,7 +34,9 @@ use Rattle.h2_events.specs.declared.port.Ready.TheVariants.{Free}
 use Rattle.h2_send.specs.Offers.{ready_on}
 use Rattle.h2_send.specs.Orders.{line_after}
 use Rattle.book_port.specs.Follows.{Turn}
+use Rattle.session_feeders.specs.Feeders.{Started}
 use Rattle.session_core.specs.Reading.{IsGiven, IsMadeOf}
+use Rattle.session_core.specs.inner.Feeders.{IsStartedFor, book_of}
 use Rattle.session_core.specs.inner.Sending.{Starves}
 
 -- ---- reading
@@ -143,6 +145,25 @@ pub record IsReplied (schema : List SchemaNode) (stream : ℕ) (asked : Asked) (
   pub clock : after ≡ before ++ readings
   pub deed : (given : List Input) → IsAnswer schema asked
       (deed_with stream (Answering asked) given readings turn failed (said_in reply)) old new
+
+-- What was asked is the first message of a call of mode STREAM, which was handed over. Nothing else is done.
+pub record IsHandedOver (name : List ℕ) (stream : ℕ) (asked : Asked) (reply : Reply)
+    (old new : Service) (before after : List ℕ) (started later : List Started) : Type 0 where
+  pub body : List ℕ
+  pub asked_is : asked ≡ asks.Subscribe body
+  pub nothing : reply ≡ replies.Nothing
+  pub same : new ≡ old
+  pub unread : after ≡ before
+  pub one : Started
+  pub more : later ≡ started ++ one ∷ []
+  pub for_it : IsStartedFor name stream body (book_of old.port) old.port.seen one
+
+-- it was answered, or handed over
+abbrev pub IsRepliedBeside : List ℕ → List SchemaNode → ℕ → Asked → Reply → Service → Service
+    → List ℕ → List ℕ → List Started → List Started → Type 0
+IsRepliedBeside name schema stream asked reply old new before after started later =
+    (IsReplied schema stream asked reply old new before after × (later ≡ started))
+    ⊎ IsHandedOver name stream asked reply old new before after started later
 
 -- the call is still served, or isn't
 abbrev pub list_of : Option Served → List Served

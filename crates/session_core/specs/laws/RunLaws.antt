@@ -1,4 +1,5 @@
--- What follows of every connection: what it answers is of one history, which has its accepted Sets, each once, in order.
+-- What follows of every connection, whichever calls feeders serve: what it answers is of one history, which has its accepted Sets,
+-- each once, in order.
 use Rattle.std.specs.Prelude.{◌≡◌, ◌⊎◌, ℕ, ◌+◌, List, [], ◌∷◌, ◌++◌, length, map, IsTrue, true, Some, None, Ok, Err}
 use Rattle.std.specs.List.{AllByRecursion}
 use Rattle.base_kinds.specs.declared.entry.Entry.{Entry}
@@ -23,13 +24,13 @@ use Rattle.h2_send.specs.Orders.{order_of}
 use Rattle.h2_send.specs.StreamFrames.{IsAnswer, frames_on}
 use Rattle.session_core.specs.declared.how.How.{How}
 use Rattle.session_core.specs.Deeds.{Deed, Answering, told, told_all, turns_in, faults_in}
-use Rattle.session_core.specs.Runs.{Outside, SessionRun}
+use Rattle.session_core.specs.Runs.{Outside, RunBeside}
 use Rattle.session_core.specs.Serving.{deeds_in}
 
--- something that holds of the turns of every run
+-- something that holds of the turns of every run, with feeders on whichever streams
 abbrev pub OfEachRun : (Outside → Outside → List Turn → Type 0) → Type 0
-OfEachRun P = (schema : List SchemaNode) (old new : Outside) (how : How)
-    → (run : SessionRun schema old how new) → P old new (turns_in (deeds_in run.served))
+OfEachRun P = (fed : List ℕ) (schema : List SchemaNode) (old new : Outside) (how : How)
+    → (run : RunBeside fed schema old how new) → P old new (turns_in (deeds_in run.served))
 
 -- the turns that its deeds took are those of its port
 abbrev pub TurnsAreTaken : Type 0
@@ -72,19 +73,20 @@ FindsAreKept = OfEachRun (λ old new turns.
     new.port.finds ≡ old.port.finds ++ map (λ turn. turn.found) turns)
 
 abbrev pub FaultsAreMarked : Type 0
-FaultsAreMarked = (schema : List SchemaNode) (old new : Outside) (how : How)
-    → (run : SessionRun schema old how new)
+FaultsAreMarked = (fed : List ℕ) (schema : List SchemaNode) (old new : Outside) (how : How)
+    → (run : RunBeside fed schema old how new)
     → new.port.marks ≡ old.port.marks + faults_in (deeds_in run.served)
 
 -- The HEADERS and DATA on each stream answer what was said on it, and what they have of its messages is a front of their octets.
 abbrev pub StreamsAreAnswered : Type 0
-StreamsAreAnswered = (schema : List SchemaNode) (old new : Outside) (how : How)
-    → (run : SessionRun schema old how new) (stream : ℕ)
-    → IsAnswer stream (said_on stream (order_of run.inputs)) (frames_on stream (written (order_of run.inputs)))
+StreamsAreAnswered = (fed : List ℕ) (schema : List SchemaNode) (old new : Outside) (how : How)
+    → (run : RunBeside fed schema old how new) (stream : ℕ)
+    → IsAnswer stream (said_on stream (order_of run.inputs))
+    (frames_on stream (written (order_of run.inputs)))
 
 abbrev pub DataAreAFront : Type 0
-DataAreAFront = (schema : List SchemaNode) (old new : Outside) (how : How)
-    → (run : SessionRun schema old how new) (stream : ℕ)
+DataAreAFront = (fed : List ℕ) (schema : List SchemaNode) (old new : Outside) (how : How)
+    → (run : RunBeside fed schema old how new) (stream : ℕ)
     → (end : List ℕ) × (octets_said (said_on stream (order_of run.inputs))
     ≡ data_on stream (written (order_of run.inputs)) ++ end)
 
@@ -115,7 +117,7 @@ SaysStateOrEnds schema plan h deed =
 
 -- so it is for each of them, over the history that was seen last
 abbrev pub OnceCallsSayStates : Type 0
-OnceCallsSayStates = (schema : List SchemaNode) (old new : Outside) (how : How)
-    → (run : SessionRun schema old how new)
+OnceCallsSayStates = (fed : List ℕ) (schema : List SchemaNode) (old new : Outside) (how : How)
+    → (run : RunBeside fed schema old how new)
     → AllByRecursion (λ deed. (plan : Plan) → AsksOnce plan deed
     → SaysStateOrEnds schema plan new.port.seen deed) (deeds_in run.served)

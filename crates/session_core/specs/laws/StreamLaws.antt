@@ -1,4 +1,4 @@
--- What Subscribe calls of mode STREAM say (gNMI 3.5.1.5.2).
+-- What Subscribe calls of mode STREAM say that a session serves itself, whichever others feeders serve (gNMI 3.5.1.5.2).
 use Rattle.std.specs.Prelude.{◌≡◌, ◌⊎◌, ℕ, ◌==◌, ◌&&◌, List, [], ◌∷◌, ◌++◌, false, Option, None, Ok, Err, map, if◌then◌else◌}
 use Rattle.std.specs.List.{AllByRecursion}
 use Rattle.base_kinds.specs.declared.entry.Entry.{Entry}
@@ -17,7 +17,7 @@ use Rattle.subscribe_calls.specs.Calls.{HaveSaid, replies_octets}
 use Rattle.session_core.specs.declared.how.How.{How}
 use Rattle.session_core.specs.Deeds.{Deed, Doing, Answering, told}
 use Rattle.session_core.specs.Rounds.{is_turn}
-use Rattle.session_core.specs.Runs.{Outside, SessionRun}
+use Rattle.session_core.specs.Runs.{Outside, RunBeside}
 use Rattle.session_core.specs.Serving.{deeds_in}
 
 -- the deed is the answer to a call of mode STREAM with this plan
@@ -56,8 +56,9 @@ pub record SaysRun (schema : List SchemaNode) (plan : Plan) (h : List Entry) (sa
 
 -- so it is for what the turns of each such call say, over the history that was seen last
 abbrev pub StreamCallsSayRuns : Type 0
-StreamCallsSayRuns = (schema : List SchemaNode) (old new : Outside) (how : How)
-    → (run : SessionRun schema old how new) (before after : List Deed) (deed : Deed) (plan : Plan)
+StreamCallsSayRuns = (fed : List ℕ) (schema : List SchemaNode) (old new : Outside) (how : How)
+    → (run : RunBeside fed schema old how new)
+    → (before after : List Deed) (deed : Deed) (plan : Plan)
     → deeds_in run.served ≡ before ++ deed ∷ after → AsksStream plan deed
     → NoneBegins deed.stream before → NoneBegins deed.stream after
     → SaysRun schema plan new.port.seen (said_in_turns deed.stream after)

@@ -5,7 +5,8 @@ use Rattle.base_kinds.specs.declared.request.ListMode.TheVariants as modes
 use Rattle.h2_events.specs.declared.said.Said.TheVariants.{Message, Finish}
 use Rattle.sub_plan.specs.declared.plan.Plan.{Plan}
 use Rattle.session_core.specs.declared.served.Served.{Served}
-use Rattle.session_core.specs.Deeds.{Deed, Turning, new_served, said_once, said_streaming, said_polled, kept_polled}
+use Rattle.session_calls.specs.declared.request.Asked.TheVariants.{Subscribe}
+use Rattle.session_core.specs.Deeds.{Deed, Handing, Turning, handed_in, new_served, requests_in, said_to, said_once, said_streaming, said_polled, kept_polled}
 use Rattle.session_core.specs.Rounds.{had_turns}
 
 abbrev two_polls : Plan → Served
@@ -43,3 +44,16 @@ none_taken_there plan = refl
 
 polls_wait : (plan : Plan) → had_turns modes.Poll (two_polls plan) (turn ∷ []) ≡ false
 polls_wait plan = refl
+
+-- a call on stream 5 whose first message was handed to a feeder: it was asked for, and nothing is said on its stream
+abbrev handing : Deed
+handing = record { stream = 5; doing = Handing (9 ∷ []); given = []; readings = []; turn = None; failed = false; said = [] }
+
+handed_there : handed_in (turn ∷ handing ∷ []) ≡ 5 ∷ []
+handed_there = refl
+
+asked_there : requests_in (turn ∷ handing ∷ []) ≡ record { stream = 5; asked = Subscribe (9 ∷ []) } ∷ []
+asked_there = refl
+
+unsaid_there : said_to 5 (turn ∷ handing ∷ []) ≡ []
+unsaid_there = refl

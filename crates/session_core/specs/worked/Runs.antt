@@ -10,7 +10,8 @@ use Rattle.std.specs.Fmt.{digits}
 use Rattle.h2_frame.specs.Frames.{Frame, frame_of, spelling}
 use Rattle.h2_events.specs.declared.event.RecvEvent.TheVariants as events
 use Rattle.h2_events.specs.declared.said.Said.TheVariants.{Message, Finish, Status}
-use Rattle.h2_events.specs.Items.{as_read}
+use Rattle.h2_events.specs.Items.{Ended, as_read}
+use Rattle.h2_events.specs.Items as item
 use Rattle.h2_calls.specs.Calls.{Moment, read, ended, events_of, reads_of}
 use Rattle.h2_send.specs.Inputs.{Input, Event, Speech}
 use Rattle.h2_send.specs.Orders.{order_of}
@@ -19,6 +20,7 @@ use Rattle.session_calls.specs.declared.request.Asked.TheVariants as asks
 use Rattle.session_calls.specs.Requests.{requests}
 use Rattle.session_core.specs.Deeds.{Deed, Answering, requests_in, said_once}
 use Rattle.session_core.specs.Saying.{IsSaid}
+use Rattle.session_core.specs.Serving.{without_fed}
 
 -- A frame of which nothing is looked at here but what it means.
 abbrev some_frame : Frame
@@ -55,8 +57,14 @@ deeds =
 pub asked : requests_in deeds ++ [] ≡ requests (events_of moments)
 asked = refl
 
-pub one_order : as_read (order_of inputs) ≡ reads_of moments
+pub one_order : without_fed [] (as_read (order_of inputs)) ≡ without_fed [] (reads_of moments)
 one_order = refl
+
+-- the end of a call that a feeder serves isn't told
+pub end_untold : without_fed (3 ∷ []) (as_read (order_of inputs))
+    ≡ item.Event (events.Settings 65535 false) ∷ item.Event (events.Call 1 plain_text true) ∷ Ended 1
+    ∷ item.Event (events.Call 3 set true) ∷ []
+end_untold = refl
 
 pub said_first : IsSaid 1 [] (order_of inputs) deeds
 said_first = inl refl

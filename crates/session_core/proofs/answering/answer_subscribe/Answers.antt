@@ -1,4 +1,4 @@
-use Rattle.std.proofs.Common.{◌≡◌, refl, subst}
+use Rattle.std.proofs.Common.{◌≡◌, inl, refl, subst}
 use Rattle.std.specs.Prelude.{None, Ok}
 use Rattle.rpc_desk.specs.Subscribes.{subscribe_step}
 use Rattle.rpc_desk.specs.declared.subscribe_steps.SubscribeStep.{SubscribeStep}
@@ -20,4 +20,4 @@ returns-in-Ok-Poll-clause-replied g c =
     absurd (no_poll_first c.args.body.now (subst (λ (step : SubscribeStep). subscribe_step None c.args.body.now ≡ Ok step) same c.in-Ok-Poll.ensures))
 
 pub returns-in-Err-clause-replied : goal.returns-in-Err-clause-replied
-returns-in-Err-clause-replied g c = refused c.args.desk.now c.args.stream c.args.body.now (g.P.BookPort.port c.args.book.now) (g.P.BookPort.port c.args.book.now) c.args.calls (g.C.Clock.readings c.args.clock.now) (g.C.Clock.readings c.args.clock.now) c.in-Err.refusal refl refl c.in-Err.ensures
+returns-in-Err-clause-replied g c = inl (refused c.args.desk.now c.args.stream c.args.body.now (g.P.BookPort.port c.args.book.now) (g.P.BookPort.port c.args.book.now) c.args.calls (g.C.Clock.readings c.args.clock.now) (g.C.Clock.readings c.args.clock.now) c.in-Err.refusal refl refl c.in-Err.ensures, refl)

@@ -1,4 +1,4 @@
-use Rattle.session_core.proofs.Feeding.{answered_apart, turned_apart}
+use Rattle.session_core.proofs.AtOwnPorts.{answered_apart, turned_apart}
 use Rattle.session_core.proofs.laws.own_ports_stand_alone.Goals as goal
 
 pub returns-clause-answers : goal.returns-clause-answers

@@ -6,6 +6,6 @@ use Rattle.session_core.proofs.StreamRuns.{from_there}
 use Rattle.session_core.proofs.laws.stream_calls_say_runs.Goals as goal
 
 pub returns : goal.returns
-returns c = λ schema old new how run before after deed plan cut asks_stream first later.
+returns c = λ fed schema old new how run before after deed plan cut asks_stream first later.
     from_there schema plan deed asks_stream (first_service (start_of schema old)) before after (service_of (standing_of new.port run.calls new.readings run.round))
     (subst (λ (deeds : List Deed). AreDone schema (first_service (start_of schema old)) deeds (service_of (standing_of new.port run.calls new.readings run.round))) cut run.served.done) first later refl

@@ -1,14 +1,12 @@
-use Rattle.std.proofs.Common.{◌≡◌, ◌++◌, [], Result, sym, refl, ap, inl, ◌∙◌, subst, Ok, Err}
+use Rattle.std.proofs.Common.{◌≡◌, ◌++◌, [], sym, refl, ap, inl, ◌∙◌, subst, Ok}
 use Rattle.h2_events.specs.declared.port.Ready.TheVariants.{Gone, Busy, Free}
-use Rattle.h2_send.specs.declared.condition.Condition.TheVariants as condition
-use Rattle.h2_send.specs.declared.fault.WireFaultOut.{WireFaultOut}
 use Rattle.session_core.specs.declared.how.How.{How}
+use Rattle.session_core.specs.inner.Feeders.{feeder_state}
 use Rattle.session_core.specs.inner.Places.{HasEnded}
-use Rattle.session_core.specs.inner.Sending.{TellsFault}
-use Rattle.session_core.specs.inner.Steps.{Speaks}
-use Rattle.session_core.proofs.Found.{does_so, earlier, grown_more, no_fault, ready_so}
-use Rattle.session_core.proofs.Looking.{behind_looked, stands_looked, writing_looked}
-use Rattle.session_core.proofs.Words.{word_taken, word_gone, word_kept, word_fails, starved, behind_kept, behind_taken, writing_taken}
+use Rattle.session_core.proofs.Found.{earlier, grown_more}
+use Rattle.session_core.proofs.Looking.{ready_looked, stands_ends, stands_looked, writing_looked}
+use Rattle.session_core.proofs.Speaking.{word_ends, word_goes, writing_says}
+use Rattle.session_core.proofs.Words.{behind_kept, starved, word_gone, word_kept}
 use Rattle.session_core.proofs.saying.say_all.Goals as goal
 
 pub loop-w-preserved-in-Ok-Gone : goal.loop-w-preserved-in-Ok-Gone
@@ -17,15 +15,16 @@ loop-w-preserved-in-Ok-Gone g c =
     let same : c.in-Ok-Gone.field-0 ≡ Gone = cc in
     let looked = c.in-Ok-Gone.is ∙ ap Ok same in
     record {
-      says = λ start output octets heard owed at none first stands.
-          let s = c.loop-w.invariant.says start output octets heard owed at (earlier (g.W.Sending.others c.loop-w.wire) (g.W.Sending.others c.readiness.new.self) c.readiness.ensures.grown none) first stands in
-          word_gone start output octets c.loop-w.recv (g.W.Sending.progress c.readiness.new.self) heard c.loop-w.still c.loop-w.w-iterator.rest.items c.next.new.self.rest.items c.in-Some.w owed at c.in-Some.ensures.steps.0
-          (ready_so (g.W.Sending.others c.loop-w.wire) (g.W.Sending.others c.readiness.new.self) (g.W.Sending.progress c.loop-w.wire) (g.W.Sending.progress c.readiness.new.self) c.in-Some.w.stream c.readiness.result (TellsFault (g.W.Sending.progress c.loop-w.wire) c.readiness.result) c.readiness.ensures.reads none s.writing.is_open Gone looked)
-          (stands_looked (g.W.Sending.others c.loop-w.wire) (g.W.Sending.others c.readiness.new.self) (g.W.Sending.progress c.loop-w.wire) (g.W.Sending.progress c.readiness.new.self) c.in-Some.w.stream c.readiness.result (TellsFault (g.W.Sending.progress c.loop-w.wire) c.readiness.result) c.readiness.ensures.reads none start output octets c.loop-w.recv heard (c.loop-w.still ++ c.loop-w.w-iterator.rest.items) owed at s);
-      writing = λ output none writing. writing_looked (g.W.Sending.others c.loop-w.wire) (g.W.Sending.others c.readiness.new.self) (g.W.Sending.progress c.loop-w.wire) (g.W.Sending.progress c.readiness.new.self) c.in-Some.w.stream c.readiness.result (TellsFault (g.W.Sending.progress c.loop-w.wire) c.readiness.result) c.readiness.ensures.reads none output (c.loop-w.invariant.writing output (earlier (g.W.Sending.others c.loop-w.wire) (g.W.Sending.others c.readiness.new.self) c.readiness.ensures.grown none) writing);
-      behind = λ output none writing first. behind_looked (g.W.Sending.others c.loop-w.wire) (g.W.Sending.others c.readiness.new.self) (g.W.Sending.progress c.loop-w.wire) (g.W.Sending.progress c.readiness.new.self) c.in-Some.w.stream c.readiness.result (TellsFault (g.W.Sending.progress c.loop-w.wire) c.readiness.result) c.readiness.ensures.reads none output c.loop-w.still (c.loop-w.invariant.writing output (earlier (g.W.Sending.others c.loop-w.wire) (g.W.Sending.others c.readiness.new.self) c.readiness.ensures.grown none) writing) (c.loop-w.invariant.behind output (earlier (g.W.Sending.others c.loop-w.wire) (g.W.Sending.others c.readiness.new.self) c.readiness.ensures.grown none) writing first);
-      keeps = λ output others none writing are. behind_looked (g.W.Sending.others c.loop-w.wire) (g.W.Sending.others c.readiness.new.self) (g.W.Sending.progress c.loop-w.wire) (g.W.Sending.progress c.readiness.new.self) c.in-Some.w.stream c.readiness.result (TellsFault (g.W.Sending.progress c.loop-w.wire) c.readiness.result) c.readiness.ensures.reads none output others (c.loop-w.invariant.writing output (earlier (g.W.Sending.others c.loop-w.wire) (g.W.Sending.others c.readiness.new.self) c.readiness.ensures.grown none) writing) (c.loop-w.invariant.keeps output others (earlier (g.W.Sending.others c.loop-w.wire) (g.W.Sending.others c.readiness.new.self) c.readiness.ensures.grown none) writing are);
-      grown = grown_more (g.W.Sending.others c.args.wire.now) (g.W.Sending.others c.loop-w.wire) (g.W.Sending.others c.readiness.new.self) c.loop-w.invariant.grown c.readiness.ensures.grown;
+      says = λ fed start output octets started heard owed at theirs first stands.
+          let l = stands_looked fed (g.W.Sending.history c.loop-w.wire) (g.W.Sending.history c.readiness.new.self) (g.W.Sending.progress c.loop-w.wire) (g.W.Sending.progress c.readiness.new.self) c.in-Some.w.stream c.readiness.result c.readiness.ensures.reads theirs start output octets started c.readiness.ensures.grown c.readiness.ensures.silent c.loop-w.recv heard (c.loop-w.still ++ c.loop-w.w-iterator.rest.items) owed at [] Gone looked (c.loop-w.invariant.says fed start output octets started heard owed at (earlier fed (g.W.Sending.history c.loop-w.wire) (g.W.Sending.history c.readiness.new.self) c.readiness.ensures.grown theirs) first stands) tt in
+          word_gone fed start output octets (feeder_state (g.W.Sending.history c.readiness.new.self) started) c.loop-w.recv (g.W.Sending.progress c.readiness.new.self) heard c.loop-w.still c.loop-w.w-iterator.rest.items c.next.new.self.rest.items c.in-Some.w owed at c.in-Some.ensures.steps.0 l.2 l.0;
+      goes = λ fed output others theirs writing are.
+          let before = (c.loop-w.invariant.goes fed output others (earlier fed (g.W.Sending.history c.loop-w.wire) (g.W.Sending.history c.readiness.new.self) c.readiness.ensures.grown theirs) writing are) in
+          writing_looked fed (g.W.Sending.history c.loop-w.wire) (g.W.Sending.history c.readiness.new.self) (g.W.Sending.progress c.loop-w.wire) (g.W.Sending.progress c.readiness.new.self) c.in-Some.w.stream c.readiness.result c.readiness.ensures.reads theirs output others Gone looked before.0 before.1;
+      behind = λ fed output theirs writing first.
+          let before = (c.loop-w.invariant.goes fed output [] (earlier fed (g.W.Sending.history c.loop-w.wire) (g.W.Sending.history c.readiness.new.self) c.readiness.ensures.grown theirs) writing tt) in
+          (writing_looked fed (g.W.Sending.history c.loop-w.wire) (g.W.Sending.history c.readiness.new.self) (g.W.Sending.progress c.loop-w.wire) (g.W.Sending.progress c.readiness.new.self) c.in-Some.w.stream c.readiness.result c.readiness.ensures.reads theirs output c.loop-w.still Gone looked before.0 (c.loop-w.invariant.behind fed output (earlier fed (g.W.Sending.history c.loop-w.wire) (g.W.Sending.history c.readiness.new.self) c.readiness.ensures.grown theirs) writing first)).1;
+      grown = grown_more (g.W.Sending.history c.args.wire.now) (g.W.Sending.history c.loop-w.wire) (g.W.Sending.history c.readiness.new.self) c.loop-w.invariant.grown c.readiness.ensures.grown;
     }
 
 pub loop-w-preserved-in-Ok-Gone-2 : goal.loop-w-preserved-in-Ok-Gone-2
@@ -34,15 +33,16 @@ loop-w-preserved-in-Ok-Gone-2 g c =
     let same : c.in-Ok-Gone.field-0 ≡ Gone = cc in
     let looked = c.in-Ok-Gone.is ∙ ap Ok same in
     record {
-      says = λ start output octets heard owed at none first stands.
-          let s = c.loop-w.invariant.says start output octets heard owed at (earlier (g.W.Sending.others c.loop-w.wire) (g.W.Sending.others c.readiness.new.self) c.readiness.ensures.grown none) first stands in
-          word_gone start output octets c.loop-w.recv (g.W.Sending.progress c.readiness.new.self) heard c.loop-w.still c.loop-w.w-iterator.rest.items c.next.new.self.rest.items c.in-Some.w owed at c.in-Some.ensures.steps.0
-          (ready_so (g.W.Sending.others c.loop-w.wire) (g.W.Sending.others c.readiness.new.self) (g.W.Sending.progress c.loop-w.wire) (g.W.Sending.progress c.readiness.new.self) c.in-Some.w.stream c.readiness.result (TellsFault (g.W.Sending.progress c.loop-w.wire) c.readiness.result) c.readiness.ensures.reads none s.writing.is_open Gone looked)
-          (stands_looked (g.W.Sending.others c.loop-w.wire) (g.W.Sending.others c.readiness.new.self) (g.W.Sending.progress c.loop-w.wire) (g.W.Sending.progress c.readiness.new.self) c.in-Some.w.stream c.readiness.result (TellsFault (g.W.Sending.progress c.loop-w.wire) c.readiness.result) c.readiness.ensures.reads none start output octets c.loop-w.recv heard (c.loop-w.still ++ c.loop-w.w-iterator.rest.items) owed at s);
-      writing = λ output none writing. writing_looked (g.W.Sending.others c.loop-w.wire) (g.W.Sending.others c.readiness.new.self) (g.W.Sending.progress c.loop-w.wire) (g.W.Sending.progress c.readiness.new.self) c.in-Some.w.stream c.readiness.result (TellsFault (g.W.Sending.progress c.loop-w.wire) c.readiness.result) c.readiness.ensures.reads none output (c.loop-w.invariant.writing output (earlier (g.W.Sending.others c.loop-w.wire) (g.W.Sending.others c.readiness.new.self) c.readiness.ensures.grown none) writing);
-      behind = λ output none writing first. behind_looked (g.W.Sending.others c.loop-w.wire) (g.W.Sending.others c.readiness.new.self) (g.W.Sending.progress c.loop-w.wire) (g.W.Sending.progress c.readiness.new.self) c.in-Some.w.stream c.readiness.result (TellsFault (g.W.Sending.progress c.loop-w.wire) c.readiness.result) c.readiness.ensures.reads none output c.loop-w.still (c.loop-w.invariant.writing output (earlier (g.W.Sending.others c.loop-w.wire) (g.W.Sending.others c.readiness.new.self) c.readiness.ensures.grown none) writing) (c.loop-w.invariant.behind output (earlier (g.W.Sending.others c.loop-w.wire) (g.W.Sending.others c.readiness.new.self) c.readiness.ensures.grown none) writing first);
-      keeps = λ output others none writing are. behind_looked (g.W.Sending.others c.loop-w.wire) (g.W.Sending.others c.readiness.new.self) (g.W.Sending.progress c.loop-w.wire) (g.W.Sending.progress c.readiness.new.self) c.in-Some.w.stream c.readiness.result (TellsFault (g.W.Sending.progress c.loop-w.wire) c.readiness.result) c.readiness.ensures.reads none output others (c.loop-w.invariant.writing output (earlier (g.W.Sending.others c.loop-w.wire) (g.W.Sending.others c.readiness.new.self) c.readiness.ensures.grown none) writing) (c.loop-w.invariant.keeps output others (earlier (g.W.Sending.others c.loop-w.wire) (g.W.Sending.others c.readiness.new.self) c.readiness.ensures.grown none) writing are);
-      grown = grown_more (g.W.Sending.others c.args.wire.now) (g.W.Sending.others c.loop-w.wire) (g.W.Sending.others c.readiness.new.self) c.loop-w.invariant.grown c.readiness.ensures.grown;
+      says = λ fed start output octets started heard owed at theirs first stands.
+          let l = stands_looked fed (g.W.Sending.history c.loop-w.wire) (g.W.Sending.history c.readiness.new.self) (g.W.Sending.progress c.loop-w.wire) (g.W.Sending.progress c.readiness.new.self) c.in-Some.w.stream c.readiness.result c.readiness.ensures.reads theirs start output octets started c.readiness.ensures.grown c.readiness.ensures.silent c.loop-w.recv heard (c.loop-w.still ++ c.loop-w.w-iterator.rest.items) owed at [] Gone looked (c.loop-w.invariant.says fed start output octets started heard owed at (earlier fed (g.W.Sending.history c.loop-w.wire) (g.W.Sending.history c.readiness.new.self) c.readiness.ensures.grown theirs) first stands) tt in
+          word_gone fed start output octets (feeder_state (g.W.Sending.history c.readiness.new.self) started) c.loop-w.recv (g.W.Sending.progress c.readiness.new.self) heard c.loop-w.still c.loop-w.w-iterator.rest.items c.next.new.self.rest.items c.in-Some.w owed at c.in-Some.ensures.steps.0 l.2 l.0;
+      goes = λ fed output others theirs writing are.
+          let before = (c.loop-w.invariant.goes fed output others (earlier fed (g.W.Sending.history c.loop-w.wire) (g.W.Sending.history c.readiness.new.self) c.readiness.ensures.grown theirs) writing are) in
+          writing_looked fed (g.W.Sending.history c.loop-w.wire) (g.W.Sending.history c.readiness.new.self) (g.W.Sending.progress c.loop-w.wire) (g.W.Sending.progress c.readiness.new.self) c.in-Some.w.stream c.readiness.result c.readiness.ensures.reads theirs output others Gone looked before.0 before.1;
+      behind = λ fed output theirs writing first.
+          let before = (c.loop-w.invariant.goes fed output [] (earlier fed (g.W.Sending.history c.loop-w.wire) (g.W.Sending.history c.readiness.new.self) c.readiness.ensures.grown theirs) writing tt) in
+          (writing_looked fed (g.W.Sending.history c.loop-w.wire) (g.W.Sending.history c.readiness.new.self) (g.W.Sending.progress c.loop-w.wire) (g.W.Sending.progress c.readiness.new.self) c.in-Some.w.stream c.readiness.result c.readiness.ensures.reads theirs output c.loop-w.still Gone looked before.0 (c.loop-w.invariant.behind fed output (earlier fed (g.W.Sending.history c.loop-w.wire) (g.W.Sending.history c.readiness.new.self) c.readiness.ensures.grown theirs) writing first)).1;
+      grown = grown_more (g.W.Sending.history c.args.wire.now) (g.W.Sending.history c.loop-w.wire) (g.W.Sending.history c.readiness.new.self) c.loop-w.invariant.grown c.readiness.ensures.grown;
     }
 
 pub loop-w-preserved-in-Ok : goal.loop-w-preserved-in-Ok
@@ -51,64 +51,64 @@ loop-w-preserved-in-Ok g c =
     let same : c.in-Ok-Busy.field-0 ≡ Busy = cc in
     let looked = c.in-Ok-Busy.is ∙ ap Ok same in
     record {
-      says = λ start output octets heard owed at none first stands.
-          let s = c.loop-w.invariant.says start output octets heard owed at (earlier (g.W.Sending.others c.loop-w.wire) (g.W.Sending.others c.readiness.new.self) c.readiness.ensures.grown none) first stands in
-          word_kept start output octets c.loop-w.recv (g.W.Sending.progress c.readiness.new.self) heard c.loop-w.still c.push.new.self c.loop-w.w-iterator.rest.items c.next.new.self.rest.items c.in-Some.w owed at c.in-Some.ensures.steps.0 c.in-Ok.ensures.ok
-          (stands_looked (g.W.Sending.others c.loop-w.wire) (g.W.Sending.others c.readiness.new.self) (g.W.Sending.progress c.loop-w.wire) (g.W.Sending.progress c.readiness.new.self) c.in-Some.w.stream c.readiness.result (TellsFault (g.W.Sending.progress c.loop-w.wire) c.readiness.result) c.readiness.ensures.reads none start output octets c.loop-w.recv heard (c.loop-w.still ++ c.loop-w.w-iterator.rest.items) owed at s);
-      writing = λ output none writing. writing_looked (g.W.Sending.others c.loop-w.wire) (g.W.Sending.others c.readiness.new.self) (g.W.Sending.progress c.loop-w.wire) (g.W.Sending.progress c.readiness.new.self) c.in-Some.w.stream c.readiness.result (TellsFault (g.W.Sending.progress c.loop-w.wire) c.readiness.result) c.readiness.ensures.reads none output (c.loop-w.invariant.writing output (earlier (g.W.Sending.others c.loop-w.wire) (g.W.Sending.others c.readiness.new.self) c.readiness.ensures.grown none) writing);
-      behind = λ output none writing first.
-          let w = c.loop-w.invariant.writing output (earlier (g.W.Sending.others c.loop-w.wire) (g.W.Sending.others c.readiness.new.self) c.readiness.ensures.grown none) writing in
-          behind_kept (g.W.Sending.progress c.readiness.new.self) c.loop-w.still c.push.new.self c.in-Some.w c.in-Ok.ensures.ok (ready_so (g.W.Sending.others c.loop-w.wire) (g.W.Sending.others c.readiness.new.self) (g.W.Sending.progress c.loop-w.wire) (g.W.Sending.progress c.readiness.new.self) c.in-Some.w.stream c.readiness.result (TellsFault (g.W.Sending.progress c.loop-w.wire) c.readiness.result) c.readiness.ensures.reads none w.is_open Busy looked)
-          (behind_looked (g.W.Sending.others c.loop-w.wire) (g.W.Sending.others c.readiness.new.self) (g.W.Sending.progress c.loop-w.wire) (g.W.Sending.progress c.readiness.new.self) c.in-Some.w.stream c.readiness.result (TellsFault (g.W.Sending.progress c.loop-w.wire) c.readiness.result) c.readiness.ensures.reads none output c.loop-w.still w (c.loop-w.invariant.behind output (earlier (g.W.Sending.others c.loop-w.wire) (g.W.Sending.others c.readiness.new.self) c.readiness.ensures.grown none) writing first));
-      keeps = λ output others none writing are. behind_looked (g.W.Sending.others c.loop-w.wire) (g.W.Sending.others c.readiness.new.self) (g.W.Sending.progress c.loop-w.wire) (g.W.Sending.progress c.readiness.new.self) c.in-Some.w.stream c.readiness.result (TellsFault (g.W.Sending.progress c.loop-w.wire) c.readiness.result) c.readiness.ensures.reads none output others (c.loop-w.invariant.writing output (earlier (g.W.Sending.others c.loop-w.wire) (g.W.Sending.others c.readiness.new.self) c.readiness.ensures.grown none) writing) (c.loop-w.invariant.keeps output others (earlier (g.W.Sending.others c.loop-w.wire) (g.W.Sending.others c.readiness.new.self) c.readiness.ensures.grown none) writing are);
-      grown = grown_more (g.W.Sending.others c.args.wire.now) (g.W.Sending.others c.loop-w.wire) (g.W.Sending.others c.readiness.new.self) c.loop-w.invariant.grown c.readiness.ensures.grown;
+      says = λ fed start output octets started heard owed at theirs first stands.
+          let l = stands_looked fed (g.W.Sending.history c.loop-w.wire) (g.W.Sending.history c.readiness.new.self) (g.W.Sending.progress c.loop-w.wire) (g.W.Sending.progress c.readiness.new.self) c.in-Some.w.stream c.readiness.result c.readiness.ensures.reads theirs start output octets started c.readiness.ensures.grown c.readiness.ensures.silent c.loop-w.recv heard (c.loop-w.still ++ c.loop-w.w-iterator.rest.items) owed at [] Busy looked (c.loop-w.invariant.says fed start output octets started heard owed at (earlier fed (g.W.Sending.history c.loop-w.wire) (g.W.Sending.history c.readiness.new.self) c.readiness.ensures.grown theirs) first stands) tt in
+          word_kept fed start output octets (feeder_state (g.W.Sending.history c.readiness.new.self) started) c.loop-w.recv (g.W.Sending.progress c.readiness.new.self) heard c.loop-w.still c.push.new.self c.loop-w.w-iterator.rest.items c.next.new.self.rest.items c.in-Some.w owed at c.in-Some.ensures.steps.0 c.in-Ok.ensures.ok l.0;
+      goes = λ fed output others theirs writing are.
+          let before = (c.loop-w.invariant.goes fed output others (earlier fed (g.W.Sending.history c.loop-w.wire) (g.W.Sending.history c.readiness.new.self) c.readiness.ensures.grown theirs) writing are) in
+          writing_looked fed (g.W.Sending.history c.loop-w.wire) (g.W.Sending.history c.readiness.new.self) (g.W.Sending.progress c.loop-w.wire) (g.W.Sending.progress c.readiness.new.self) c.in-Some.w.stream c.readiness.result c.readiness.ensures.reads theirs output others Busy looked before.0 before.1;
+      behind = λ fed output theirs writing first.
+          let before = (c.loop-w.invariant.goes fed output [] (earlier fed (g.W.Sending.history c.loop-w.wire) (g.W.Sending.history c.readiness.new.self) c.readiness.ensures.grown theirs) writing tt) in
+          let l = writing_looked fed (g.W.Sending.history c.loop-w.wire) (g.W.Sending.history c.readiness.new.self) (g.W.Sending.progress c.loop-w.wire) (g.W.Sending.progress c.readiness.new.self) c.in-Some.w.stream c.readiness.result c.readiness.ensures.reads theirs output c.loop-w.still Busy looked before.0 (c.loop-w.invariant.behind fed output (earlier fed (g.W.Sending.history c.loop-w.wire) (g.W.Sending.history c.readiness.new.self) c.readiness.ensures.grown theirs) writing first) in
+          behind_kept (g.W.Sending.progress c.readiness.new.self) c.loop-w.still c.push.new.self c.in-Some.w c.in-Ok.ensures.ok (ready_looked fed (g.W.Sending.history c.loop-w.wire) (g.W.Sending.history c.readiness.new.self) (g.W.Sending.progress c.loop-w.wire) (g.W.Sending.progress c.readiness.new.self) c.in-Some.w.stream c.readiness.result c.readiness.ensures.reads theirs output [] Busy looked before.0 tt) l.1;
+      grown = grown_more (g.W.Sending.history c.args.wire.now) (g.W.Sending.history c.loop-w.wire) (g.W.Sending.history c.readiness.new.self) c.loop-w.invariant.grown c.readiness.ensures.grown;
     }
 
 pub loop-w-preserved : goal.loop-w-preserved
 loop-w-preserved g c =
-    let spoke = λ (none : (g.W.Sending.others c.say.new.wire) ≡ []) (is_open : (g.W.Sending.progress c.readiness.new.self).condition ≡ condition.Open).
-    subst (λ (r : Result (Unit {0}) WireFaultOut). Speaks c.in-Some.w.stream c.in-Some.w.said r (g.W.Sending.progress c.readiness.new.self) (g.W.Sending.progress c.say.new.wire)) c.in-Ok-say.is (does_so (g.W.Sending.others c.readiness.new.self) (g.W.Sending.others c.say.new.wire) (g.W.Sending.progress c.readiness.new.self) (g.W.Sending.progress c.say.new.wire) (Speaks c.in-Some.w.stream c.in-Some.w.said c.say.result) (TellsFault (g.W.Sending.progress c.readiness.new.self) c.say.result) c.say.ensures.speaks none is_open) in
+    let is = c.in-Ok-Free.field-0-is in
+    let same : c.in-Ok-Free.field-0 ≡ Free = cc in
+    let looked = c.in-Ok-Free.is ∙ ap Ok same in
     record {
-      says = λ start output octets heard owed at none first stands.
-          let then = earlier (g.W.Sending.others c.readiness.new.self) (g.W.Sending.others c.say.new.wire) c.say.ensures.grown none in
-          let s = c.loop-w.invariant.says start output octets heard owed at (earlier (g.W.Sending.others c.loop-w.wire) (g.W.Sending.others c.readiness.new.self) c.readiness.ensures.grown then) first stands in
-          let looks = stands_looked (g.W.Sending.others c.loop-w.wire) (g.W.Sending.others c.readiness.new.self) (g.W.Sending.progress c.loop-w.wire) (g.W.Sending.progress c.readiness.new.self) c.in-Some.w.stream c.readiness.result (TellsFault (g.W.Sending.progress c.loop-w.wire) c.readiness.result) c.readiness.ensures.reads then start output octets c.loop-w.recv heard (c.loop-w.still ++ c.loop-w.w-iterator.rest.items) owed at s in
-          word_taken start output octets c.loop-w.recv c.say.new.recv (g.W.Sending.progress c.readiness.new.self) (g.W.Sending.progress c.say.new.wire) heard c.loop-w.still c.loop-w.w-iterator.rest.items c.next.new.self.rest.items c.in-Some.w owed at c.in-Some.ensures.steps.0
-          (behind_looked (g.W.Sending.others c.loop-w.wire) (g.W.Sending.others c.readiness.new.self) (g.W.Sending.progress c.loop-w.wire) (g.W.Sending.progress c.readiness.new.self) c.in-Some.w.stream c.readiness.result (TellsFault (g.W.Sending.progress c.loop-w.wire) c.readiness.result) c.readiness.ensures.reads then output c.loop-w.still s.writing (c.loop-w.invariant.behind output (earlier (g.W.Sending.others c.loop-w.wire) (g.W.Sending.others c.readiness.new.self) c.readiness.ensures.grown then) stands.writing first)) (spoke none looks.writing.is_open) c.in-Ok-say.ensures.told looks;
-      writing = λ output none writing.
-          let then = earlier (g.W.Sending.others c.readiness.new.self) (g.W.Sending.others c.say.new.wire) c.say.ensures.grown none in
-          let w = writing_looked (g.W.Sending.others c.loop-w.wire) (g.W.Sending.others c.readiness.new.self) (g.W.Sending.progress c.loop-w.wire) (g.W.Sending.progress c.readiness.new.self) c.in-Some.w.stream c.readiness.result (TellsFault (g.W.Sending.progress c.loop-w.wire) c.readiness.result) c.readiness.ensures.reads then output (c.loop-w.invariant.writing output (earlier (g.W.Sending.others c.loop-w.wire) (g.W.Sending.others c.readiness.new.self) c.readiness.ensures.grown then) writing) in
-          writing_taken output (g.W.Sending.progress c.readiness.new.self) (g.W.Sending.progress c.say.new.wire) c.in-Some.w w (spoke none w.is_open);
-      behind = λ output none writing first.
-          let then = earlier (g.W.Sending.others c.readiness.new.self) (g.W.Sending.others c.say.new.wire) c.say.ensures.grown none in
-          let old = c.loop-w.invariant.writing output (earlier (g.W.Sending.others c.loop-w.wire) (g.W.Sending.others c.readiness.new.self) c.readiness.ensures.grown then) writing in
-          let w = writing_looked (g.W.Sending.others c.loop-w.wire) (g.W.Sending.others c.readiness.new.self) (g.W.Sending.progress c.loop-w.wire) (g.W.Sending.progress c.readiness.new.self) c.in-Some.w.stream c.readiness.result (TellsFault (g.W.Sending.progress c.loop-w.wire) c.readiness.result) c.readiness.ensures.reads then output old in
-          behind_taken (g.W.Sending.progress c.readiness.new.self) (g.W.Sending.progress c.say.new.wire) c.loop-w.still c.in-Some.w (spoke none w.is_open) (behind_looked (g.W.Sending.others c.loop-w.wire) (g.W.Sending.others c.readiness.new.self) (g.W.Sending.progress c.loop-w.wire) (g.W.Sending.progress c.readiness.new.self) c.in-Some.w.stream c.readiness.result (TellsFault (g.W.Sending.progress c.loop-w.wire) c.readiness.result) c.readiness.ensures.reads then output c.loop-w.still old (c.loop-w.invariant.behind output (earlier (g.W.Sending.others c.loop-w.wire) (g.W.Sending.others c.readiness.new.self) c.readiness.ensures.grown then) writing first));
-      keeps = λ output others none writing are.
-          let then = earlier (g.W.Sending.others c.readiness.new.self) (g.W.Sending.others c.say.new.wire) c.say.ensures.grown none in
-          let old = c.loop-w.invariant.writing output (earlier (g.W.Sending.others c.loop-w.wire) (g.W.Sending.others c.readiness.new.self) c.readiness.ensures.grown then) writing in
-          let w = writing_looked (g.W.Sending.others c.loop-w.wire) (g.W.Sending.others c.readiness.new.self) (g.W.Sending.progress c.loop-w.wire) (g.W.Sending.progress c.readiness.new.self) c.in-Some.w.stream c.readiness.result (TellsFault (g.W.Sending.progress c.loop-w.wire) c.readiness.result) c.readiness.ensures.reads then output old in
-          behind_taken (g.W.Sending.progress c.readiness.new.self) (g.W.Sending.progress c.say.new.wire) others c.in-Some.w (spoke none w.is_open) (behind_looked (g.W.Sending.others c.loop-w.wire) (g.W.Sending.others c.readiness.new.self) (g.W.Sending.progress c.loop-w.wire) (g.W.Sending.progress c.readiness.new.self) c.in-Some.w.stream c.readiness.result (TellsFault (g.W.Sending.progress c.loop-w.wire) c.readiness.result) c.readiness.ensures.reads then output others old (c.loop-w.invariant.keeps output others (earlier (g.W.Sending.others c.loop-w.wire) (g.W.Sending.others c.readiness.new.self) c.readiness.ensures.grown then) writing are));
-      grown = grown_more (g.W.Sending.others c.args.wire.now) (g.W.Sending.others c.loop-w.wire) (g.W.Sending.others c.say.new.wire) c.loop-w.invariant.grown (grown_more (g.W.Sending.others c.loop-w.wire) (g.W.Sending.others c.readiness.new.self) (g.W.Sending.others c.say.new.wire) c.readiness.ensures.grown c.say.ensures.grown);
+      says = λ fed start output octets started heard owed at theirs first stands.
+          let then = earlier fed (g.W.Sending.history c.readiness.new.self) (g.W.Sending.history c.say.new.wire) c.say.ensures.grown theirs in
+          let before = c.loop-w.invariant.goes fed output [] (earlier fed (g.W.Sending.history c.loop-w.wire) (g.W.Sending.history c.readiness.new.self) c.readiness.ensures.grown then) stands.writing tt in
+          let l = stands_looked fed (g.W.Sending.history c.loop-w.wire) (g.W.Sending.history c.readiness.new.self) (g.W.Sending.progress c.loop-w.wire) (g.W.Sending.progress c.readiness.new.self) c.in-Some.w.stream c.readiness.result c.readiness.ensures.reads then start output octets started c.readiness.ensures.grown c.readiness.ensures.silent c.loop-w.recv heard (c.loop-w.still ++ c.loop-w.w-iterator.rest.items) owed at c.loop-w.still Free looked (c.loop-w.invariant.says fed start output octets started heard owed at (earlier fed (g.W.Sending.history c.loop-w.wire) (g.W.Sending.history c.readiness.new.self) c.readiness.ensures.grown then) first stands) (c.loop-w.invariant.behind fed output (earlier fed (g.W.Sending.history c.loop-w.wire) (g.W.Sending.history c.readiness.new.self) c.readiness.ensures.grown then) stands.writing first) in
+          word_goes fed (g.W.Sending.history c.readiness.new.self) (g.W.Sending.history c.say.new.wire) (g.W.Sending.progress c.readiness.new.self) (g.W.Sending.progress c.say.new.wire) c.in-Some.w c.say.result c.say.ensures.speaks theirs start output octets started c.say.ensures.grown c.say.ensures.silent c.loop-w.recv heard c.loop-w.still c.loop-w.w-iterator.rest.items c.next.new.self.rest.items owed at c.in-Some.ensures.steps.0 l.1 l.0 c.say.new.recv c.in-Ok-say.is c.in-Ok-say.ensures.told;
+      goes = λ fed output others theirs writing are.
+          let then = earlier fed (g.W.Sending.history c.readiness.new.self) (g.W.Sending.history c.say.new.wire) c.say.ensures.grown theirs in
+          let before = (c.loop-w.invariant.goes fed output others (earlier fed (g.W.Sending.history c.loop-w.wire) (g.W.Sending.history c.readiness.new.self) c.readiness.ensures.grown then) writing are) in
+          let l = writing_looked fed (g.W.Sending.history c.loop-w.wire) (g.W.Sending.history c.readiness.new.self) (g.W.Sending.progress c.loop-w.wire) (g.W.Sending.progress c.readiness.new.self) c.in-Some.w.stream c.readiness.result c.readiness.ensures.reads then output others Free looked before.0 before.1 in
+          writing_says fed (g.W.Sending.history c.readiness.new.self) (g.W.Sending.history c.say.new.wire) (g.W.Sending.progress c.readiness.new.self) (g.W.Sending.progress c.say.new.wire) c.in-Some.w c.say.result c.say.ensures.speaks theirs output others c.in-Ok-say.is l.0 l.1;
+      behind = λ fed output theirs writing first.
+          let then = earlier fed (g.W.Sending.history c.readiness.new.self) (g.W.Sending.history c.say.new.wire) c.say.ensures.grown theirs in
+          let before = (c.loop-w.invariant.goes fed output [] (earlier fed (g.W.Sending.history c.loop-w.wire) (g.W.Sending.history c.readiness.new.self) c.readiness.ensures.grown then) writing tt) in
+          let l = writing_looked fed (g.W.Sending.history c.loop-w.wire) (g.W.Sending.history c.readiness.new.self) (g.W.Sending.progress c.loop-w.wire) (g.W.Sending.progress c.readiness.new.self) c.in-Some.w.stream c.readiness.result c.readiness.ensures.reads then output c.loop-w.still Free looked before.0 (c.loop-w.invariant.behind fed output (earlier fed (g.W.Sending.history c.loop-w.wire) (g.W.Sending.history c.readiness.new.self) c.readiness.ensures.grown then) writing first) in
+          (writing_says fed (g.W.Sending.history c.readiness.new.self) (g.W.Sending.history c.say.new.wire) (g.W.Sending.progress c.readiness.new.self) (g.W.Sending.progress c.say.new.wire) c.in-Some.w c.say.result c.say.ensures.speaks theirs output c.loop-w.still c.in-Ok-say.is l.0 l.1).1;
+      grown = grown_more (g.W.Sending.history c.args.wire.now) (g.W.Sending.history c.loop-w.wire) (g.W.Sending.history c.say.new.wire) c.loop-w.invariant.grown (grown_more (g.W.Sending.history c.loop-w.wire) (g.W.Sending.history c.readiness.new.self) (g.W.Sending.history c.say.new.wire) c.readiness.ensures.grown c.say.ensures.grown);
     }
 
 pub returns-in-Err-clause-says : goal.returns-in-Err-clause-says
-returns-in-Err-clause-says g c = λ start output octets heard owed at none first stands.
-    let s = c.loop-w.invariant.says start output octets heard owed at (earlier (g.W.Sending.others c.loop-w.wire) (g.W.Sending.others c.readiness.new.self) c.readiness.ensures.grown none) first stands in
-    absurd (no_fault (g.W.Sending.others c.loop-w.wire) (g.W.Sending.others c.readiness.new.self) (g.W.Sending.progress c.loop-w.wire) (g.W.Sending.progress c.readiness.new.self) c.in-Some.w.stream c.readiness.result (TellsFault (g.W.Sending.progress c.loop-w.wire) c.readiness.result) c.readiness.ensures.reads none s.writing.is_open c.in-Err.fault c.in-Err.is)
+returns-in-Err-clause-says g c = λ fed start output octets started heard owed at theirs first stands.
+    subst (λ (how : How). HasEnded how fed start octets output (g.W.Sending.progress c.readiness.new.self) (feeder_state (g.W.Sending.history c.readiness.new.self) started) at.port at.readings) (sym c.how_of.ensures.is)
+    (stands_ends fed (g.W.Sending.history c.loop-w.wire) (g.W.Sending.history c.readiness.new.self) (g.W.Sending.progress c.loop-w.wire) (g.W.Sending.progress c.readiness.new.self) c.in-Some.w.stream c.readiness.result c.readiness.ensures.reads theirs start output octets started c.readiness.ensures.grown c.readiness.ensures.silent c.loop-w.recv heard (c.loop-w.still ++ c.loop-w.w-iterator.rest.items) owed at c.in-Err.fault c.in-Err.is (c.loop-w.invariant.says fed start output octets started heard owed at (earlier fed (g.W.Sending.history c.loop-w.wire) (g.W.Sending.history c.readiness.new.self) c.readiness.ensures.grown theirs) first stands))
 
 pub returns-in-Err-push-clause-says : goal.returns-in-Err-push-clause-says
-returns-in-Err-push-clause-says g c = λ start output octets heard owed at none first stands.
-    let s = c.loop-w.invariant.says start output octets heard owed at (earlier (g.W.Sending.others c.loop-w.wire) (g.W.Sending.others c.readiness.new.self) c.readiness.ensures.grown none) first stands in
-    starved start output octets c.loop-w.recv (g.W.Sending.progress c.readiness.new.self) (g.W.Sending.progress c.readiness.new.self) heard (c.loop-w.still ++ c.loop-w.w-iterator.rest.items) owed at (inl refl)
-    (stands_looked (g.W.Sending.others c.loop-w.wire) (g.W.Sending.others c.readiness.new.self) (g.W.Sending.progress c.loop-w.wire) (g.W.Sending.progress c.readiness.new.self) c.in-Some.w.stream c.readiness.result (TellsFault (g.W.Sending.progress c.loop-w.wire) c.readiness.result) c.readiness.ensures.reads none start output octets c.loop-w.recv heard (c.loop-w.still ++ c.loop-w.w-iterator.rest.items) owed at s)
+returns-in-Err-push-clause-says g c = λ fed start output octets started heard owed at theirs first stands.
+    let is = c.in-Ok-Busy.field-0-is in
+    let same : c.in-Ok-Busy.field-0 ≡ Busy = cc in
+    let l = stands_looked fed (g.W.Sending.history c.loop-w.wire) (g.W.Sending.history c.readiness.new.self) (g.W.Sending.progress c.loop-w.wire) (g.W.Sending.progress c.readiness.new.self) c.in-Some.w.stream c.readiness.result c.readiness.ensures.reads theirs start output octets started c.readiness.ensures.grown c.readiness.ensures.silent c.loop-w.recv heard (c.loop-w.still ++ c.loop-w.w-iterator.rest.items) owed at [] Busy (c.in-Ok-Busy.is ∙ ap Ok same) (c.loop-w.invariant.says fed start output octets started heard owed at (earlier fed (g.W.Sending.history c.loop-w.wire) (g.W.Sending.history c.readiness.new.self) c.readiness.ensures.grown theirs) first stands) tt in
+    starved fed start output octets (feeder_state (g.W.Sending.history c.readiness.new.self) started) c.loop-w.recv (g.W.Sending.progress c.readiness.new.self) (g.W.Sending.progress c.readiness.new.self) heard (c.loop-w.still ++ c.loop-w.w-iterator.rest.items) owed at (inl refl) l.0
 
 pub returns-in-Err-say-clause-says : goal.returns-in-Err-say-clause-says
-returns-in-Err-say-clause-says g c = λ start output octets heard owed at none first stands.
-    let then = earlier (g.W.Sending.others c.readiness.new.self) (g.W.Sending.others c.say.new.wire) c.say.ensures.grown none in
-    let s = c.loop-w.invariant.says start output octets heard owed at (earlier (g.W.Sending.others c.loop-w.wire) (g.W.Sending.others c.readiness.new.self) c.readiness.ensures.grown then) first stands in
-    let looks = stands_looked (g.W.Sending.others c.loop-w.wire) (g.W.Sending.others c.readiness.new.self) (g.W.Sending.progress c.loop-w.wire) (g.W.Sending.progress c.readiness.new.self) c.in-Some.w.stream c.readiness.result (TellsFault (g.W.Sending.progress c.loop-w.wire) c.readiness.result) c.readiness.ensures.reads then start output octets c.loop-w.recv heard (c.loop-w.still ++ c.loop-w.w-iterator.rest.items) owed at s in
-    let spoke = subst (λ (r : Result (Unit {0}) WireFaultOut). Speaks c.in-Some.w.stream c.in-Some.w.said r (g.W.Sending.progress c.readiness.new.self) (g.W.Sending.progress c.say.new.wire)) c.in-Err-say.is (does_so (g.W.Sending.others c.readiness.new.self) (g.W.Sending.others c.say.new.wire) (g.W.Sending.progress c.readiness.new.self) (g.W.Sending.progress c.say.new.wire) (Speaks c.in-Some.w.stream c.in-Some.w.said c.say.result) (TellsFault (g.W.Sending.progress c.readiness.new.self) c.say.result) c.say.ensures.speaks none looks.writing.is_open) in
-    subst (λ (how : How). HasEnded how start octets output (g.W.Sending.progress c.say.new.wire) at.port at.readings) (sym c.how_of-in-Err-say.ensures.is)
-    (word_fails start output octets c.in-Err-say.fault c.loop-w.recv (g.W.Sending.progress c.readiness.new.self) (g.W.Sending.progress c.say.new.wire) heard c.loop-w.still c.loop-w.w-iterator.rest.items c.next.new.self.rest.items c.in-Some.w owed at c.in-Some.ensures.steps.0
-    (behind_looked (g.W.Sending.others c.loop-w.wire) (g.W.Sending.others c.readiness.new.self) (g.W.Sending.progress c.loop-w.wire) (g.W.Sending.progress c.readiness.new.self) c.in-Some.w.stream c.readiness.result (TellsFault (g.W.Sending.progress c.loop-w.wire) c.readiness.result) c.readiness.ensures.reads then output c.loop-w.still s.writing (c.loop-w.invariant.behind output (earlier (g.W.Sending.others c.loop-w.wire) (g.W.Sending.others c.readiness.new.self) c.readiness.ensures.grown then) stands.writing first)) spoke looks)
+returns-in-Err-say-clause-says g c = λ fed start output octets started heard owed at theirs first stands.
+    let is = c.in-Ok-Free.field-0-is in
+    let same : c.in-Ok-Free.field-0 ≡ Free = cc in
+    let looked = c.in-Ok-Free.is ∙ ap Ok same in
+    let then = earlier fed (g.W.Sending.history c.readiness.new.self) (g.W.Sending.history c.say.new.wire) c.say.ensures.grown theirs in
+    let l = stands_looked fed (g.W.Sending.history c.loop-w.wire) (g.W.Sending.history c.readiness.new.self) (g.W.Sending.progress c.loop-w.wire) (g.W.Sending.progress c.readiness.new.self) c.in-Some.w.stream c.readiness.result c.readiness.ensures.reads then start output octets started c.readiness.ensures.grown c.readiness.ensures.silent c.loop-w.recv heard (c.loop-w.still ++ c.loop-w.w-iterator.rest.items) owed at c.loop-w.still Free looked (c.loop-w.invariant.says fed start output octets started heard owed at (earlier fed (g.W.Sending.history c.loop-w.wire) (g.W.Sending.history c.readiness.new.self) c.readiness.ensures.grown then) first stands) (c.loop-w.invariant.behind fed output (earlier fed (g.W.Sending.history c.loop-w.wire) (g.W.Sending.history c.readiness.new.self) c.readiness.ensures.grown then) stands.writing first) in
+    subst (λ (how : How). HasEnded how fed start octets output (g.W.Sending.progress c.say.new.wire) (feeder_state (g.W.Sending.history c.say.new.wire) started) at.port at.readings) (sym c.how_of-in-Err-say.ensures.is)
+    (word_ends fed (g.W.Sending.history c.readiness.new.self) (g.W.Sending.history c.say.new.wire) (g.W.Sending.progress c.readiness.new.self) (g.W.Sending.progress c.say.new.wire) c.in-Some.w c.say.result c.say.ensures.speaks theirs start output octets started c.say.ensures.grown c.say.ensures.silent c.loop-w.recv heard c.loop-w.still c.loop-w.w-iterator.rest.items c.next.new.self.rest.items owed at c.in-Some.ensures.steps.0 l.1 l.0 c.in-Err-say.fault c.in-Err-say.is)
+
+pub returns-clause-keeps : goal.returns-clause-keeps
+returns-clause-keeps g c = λ fed output others theirs writing are. (c.loop-w.invariant.goes fed output others theirs writing are).1

@@ -1,30 +1,25 @@
-use Rattle.std.proofs.Common.{List, [], subst, sym, ap, ◌∙◌}
-use Rattle.std.specs.Prelude.{ℕ, Result}
-use Rattle.h2_send.specs.Conditions.{IsClosed, answer_of}
-use Rattle.h2_send.specs.declared.condition.Condition.TheVariants as condition
+use Rattle.std.proofs.Common.{ℕ, Result, subst, sym}
+use Rattle.std.specs.Prelude.{MatchResult}
+use Rattle.h2_send.specs.declared.fault.WireFaultOut.{WireFaultOut}
 use Rattle.session_core.specs.declared.how.How.{How}
-use Rattle.session_core.specs.Runs.{SessionRun, outside_of}
-use Rattle.session_core.specs.inner.Ends.{code_of}
-use Rattle.session_core.specs.inner.Sending.{Closes, TellsDone}
-use Rattle.session_core.proofs.Ends.{ends_badly, ends_well}
-use Rattle.session_core.proofs.Found.{does_so, tells_so}
+use Rattle.session_core.specs.inner.Ends.{how_of}
+use Rattle.session_core.specs.inner.Feeders.{feeder_state}
+use Rattle.session_core.specs.inner.Places.{HasFinished}
+use Rattle.session_core.specs.inner.Sending.{Closes, DoesWhereOpen, TellsDone}
+use Rattle.session_core.proofs.Ends.{ends_so, finished_kept}
 use Rattle.session_core.proofs.session.finish.Goals as goal
 
 pub returns-in-Ok-clause-ends : goal.returns-in-Ok-clause-ends
-returns-in-Ok-clause-ends g c = λ schema before source port readings none stopped.
-    let others = g.W.Sending.others in
-    let at = g.W.Sending.progress in
-    ends_well schema before source port readings c.close.result (at c.args.wire.now) (at c.close.new.self) c.args.how c.in-Ok.is stopped
-    (λ is_open. subst (λ (code : ℕ). Closes code c.close.result (at c.args.wire.now) (at c.close.new.self)) c.code_of.ensures
-    (does_so (others c.args.wire.now) (others c.close.new.self) (at c.args.wire.now) (at c.close.new.self) (Closes c.code_of.result c.close.result) (TellsDone c.close.result) c.close.ensures.closes none is_open))
-    (λ is_closed. tells_so (others c.args.wire.now) (others c.close.new.self) (at c.args.wire.now) (at c.close.new.self) (Closes c.code_of.result c.close.result) (TellsDone c.close.result) c.close.ensures.closes none is_closed)
+returns-in-Ok-clause-ends g c = λ fed schema before source started port readings theirs stopped.
+    subst (λ (r : Result (Unit {0}) WireFaultOut). MatchResult r (λ ok. HasFinished c.args.how fed schema before source (g.W.Sending.progress c.close.new.self) (feeder_state (g.W.Sending.history c.close.new.self) started) port readings) (λ fault. HasFinished (how_of fault) fed schema before source (g.W.Sending.progress c.close.new.self) (feeder_state (g.W.Sending.history c.close.new.self) started) port readings)) c.in-Ok.is
+    (ends_so fed schema before source (feeder_state (g.W.Sending.history c.close.new.self) started) port readings (g.W.Sending.progress c.args.wire.now) (g.W.Sending.history c.args.wire.now) (g.W.Sending.history c.close.new.self) (g.W.Sending.progress c.close.new.self) c.close.result theirs c.args.how
+    (finished_kept c.args.how fed schema before source (g.W.Sending.progress c.args.wire.now) (g.W.Sending.history c.args.wire.now) (g.W.Sending.history c.close.new.self) started port readings c.close.ensures.grown c.close.ensures.silent stopped)
+    (subst (λ (code : ℕ). DoesWhereOpen (g.W.Sending.history c.args.wire.now).others (g.W.Sending.history c.close.new.self).others (g.W.Sending.progress c.args.wire.now) (g.W.Sending.progress c.close.new.self) (Closes code c.close.result) (TellsDone c.close.result)) c.code_of.ensures c.close.ensures.closes))
 
 pub returns-in-Err-clause-ends : goal.returns-in-Err-clause-ends
-returns-in-Err-clause-ends g c = λ schema before source port readings none stopped.
-    let others = g.W.Sending.others in
-    let at = g.W.Sending.progress in
-    subst (λ (how : How). SessionRun schema before how (outside_of source (at c.close.new.self).output port readings)) (sym c.how_of.ensures.is)
-    (ends_badly schema before source port readings (at c.args.wire.now) (at c.close.new.self) c.args.how c.close.result c.in-Err.fault c.in-Err.is stopped
-    (λ is_open. subst (λ (code : ℕ). Closes code c.close.result (at c.args.wire.now) (at c.close.new.self)) c.code_of.ensures
-    (does_so (others c.args.wire.now) (others c.close.new.self) (at c.args.wire.now) (at c.close.new.self) (Closes c.code_of.result c.close.result) (TellsDone c.close.result) c.close.ensures.closes none is_open))
-    (λ is_closed. tells_so (others c.args.wire.now) (others c.close.new.self) (at c.args.wire.now) (at c.close.new.self) (Closes c.code_of.result c.close.result) (TellsDone c.close.result) c.close.ensures.closes none is_closed))
+returns-in-Err-clause-ends g c = λ fed schema before source started port readings theirs stopped.
+    subst (λ (how : How). HasFinished how fed schema before source (g.W.Sending.progress c.close.new.self) (feeder_state (g.W.Sending.history c.close.new.self) started) port readings) (sym c.how_of.ensures.is)
+    (subst (λ (r : Result (Unit {0}) WireFaultOut). MatchResult r (λ ok. HasFinished c.args.how fed schema before source (g.W.Sending.progress c.close.new.self) (feeder_state (g.W.Sending.history c.close.new.self) started) port readings) (λ fault. HasFinished (how_of fault) fed schema before source (g.W.Sending.progress c.close.new.self) (feeder_state (g.W.Sending.history c.close.new.self) started) port readings)) c.in-Err.is
+    (ends_so fed schema before source (feeder_state (g.W.Sending.history c.close.new.self) started) port readings (g.W.Sending.progress c.args.wire.now) (g.W.Sending.history c.args.wire.now) (g.W.Sending.history c.close.new.self) (g.W.Sending.progress c.close.new.self) c.close.result theirs c.args.how
+    (finished_kept c.args.how fed schema before source (g.W.Sending.progress c.args.wire.now) (g.W.Sending.history c.args.wire.now) (g.W.Sending.history c.close.new.self) started port readings c.close.ensures.grown c.close.ensures.silent stopped)
+    (subst (λ (code : ℕ). DoesWhereOpen (g.W.Sending.history c.args.wire.now).others (g.W.Sending.history c.close.new.self).others (g.W.Sending.progress c.args.wire.now) (g.W.Sending.progress c.close.new.self) (Closes code c.close.result) (TellsDone c.close.result)) c.code_of.ensures c.close.ensures.closes)))

@@ -4,7 +4,7 @@ use Rattle.session_core.proofs.session.hear.Goals as goal
 
 -- where the table wants memory, the requests are owed
 pub returns-in-Err-clause-hears : goal.returns-in-Err-clause-hears
-returns-in-Err-clause-hears g c = λ before moments inputs all. record {
+returns-in-Err-clause-hears g c = λ fed before moments inputs all. record {
   waiting = c.args.kept.waiting;
   owed = requests_with c.args.calls.now.table c.args.event.now;
   calls = c.args.kept.calls;
