@@ -2,4 +2,4 @@ mod Accepted
 mod Begun
 mod Chains
 mod Ended
-mod Keeping
+pub mod Keeping

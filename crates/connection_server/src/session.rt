@@ -11,7 +11,7 @@ use std::alloc::Global;
 /// What serves one connection, once. It has the connection and its port of the book in hand.
 ///
 /// Of what the type parameters of an impl may send to a thread the toolchain knows nothing. A session that starts threads itself
-/// holds a function that does so, and calls that.
+/// has a starter of its own that does so.
 pub trait Session<I, O, P: Twin>: Sized {
     /// How a session ends.
     type How;

@@ -1,0 +1,3 @@
+mod Ports
+mod Runs
+mod Standing

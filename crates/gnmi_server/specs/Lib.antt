@@ -1,0 +1,3 @@
+pub mod laws
+pub mod Serving
+pub mod Sessions
