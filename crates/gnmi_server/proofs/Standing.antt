@@ -1,5 +1,5 @@
 -- What sessions did stands in one history.
-use Rattle.std.proofs.Common.{◌≡◌, ℕ, List, [], ◌∷◌, ◌++◌, length, drop, map, sym, ap, ◌∙◌, subst, append_assoc, append-nil, refl}
+use Rattle.std.proofs.Common.{◌≡◌, ℕ, List, [], ◌∷◌, ◌++◌, length, drop, map, sym, ap, ◌∙◌, subst, append_assoc}
 use Rattle.std.specs.List.{AllByRecursion}
 use Rattle.base_kinds.specs.declared.entry.Entry.{Entry}
 use Rattle.edge_traits.specs.Input.{Input}
@@ -15,6 +15,7 @@ use Rattle.session_feeders.specs.Ports.{own_port}
 use Rattle.session_core.specs.Deeds.{turns_in}
 use Rattle.session_core.specs.Runs.{outside_of}
 use Rattle.session_core.specs.Serving.{deeds_in}
+use Rattle.session_core.proofs.FeederRuns.{books_seen, books_went}
 use Rattle.connection_server.specs.Jobs.{IsSamePort}
 use Rattle.connection_server.specs.Serving.{behind_twins}
 use Rattle.connection_server.specs.Twins.{MeetEach}
@@ -38,27 +39,19 @@ feeders_met old new [] is = record {
   author = ap (λ (p : PortView). p.author) is;
   start = ap (λ (p : PortView). p.start) is;
   made = ap (λ (p : PortView). p.made) is;
-  others = record { others = []; whole = ap (λ (p : PortView). p.seen) is ∙ sym (append-nil old.seen); none = refl };
+  others = books_went old [] new is;
 }
 feeders_met old new (feeder ∷ feeders) is =
     let first = is.1.new_is in
     let later = feeders_met is.0 new feeders is.2 in
-    let author : is.0.author ≡ old.author = ap (λ (p : PortView). p.author) first in
     record {
-      author = later.author ∙ author;
+      author = later.author ∙ ap (λ (p : PortView). p.author) first;
       start = later.start ∙ ap (λ (p : PortView). p.start) first;
       made = later.made ∙ ap (λ (p : PortView). p.made) first;
-      others = others_again old.author old.seen is.0.seen new.seen is.1.has_own (subst (λ n. OthersWentOn n is.0.seen new.seen) author later.others);
+      others = books_went old (feeder ∷ feeders) new is;
     }
 
--- what each of these has seen is a front of what is seen then
-fronts : (old new : PortView) (feeders : List Feeder) → MeetsEach old feeders new → AllByRecursion (λ feeder. HasFront new.seen feeder.to.book.seen) feeders
-fronts old new [] is = tt
-fronts old new (feeder ∷ feeders) is =
-    let first = is.1.has_other in
-    let later = (feeders_met is.0 new feeders is.2).others in
-    ((first.others ++ later.others, later.whole ∙ ap (λ l. l ++ later.others) first.whole ∙ append_assoc feeder.to.book.seen first.others later.others), fronts is.0 new feeders is.2)
-
+-- what each of these has seen is a front of what is seen then, and of what goes on from that
 fronts_on : (seen h others : List Entry) (feeders : List Feeder) → h ≡ seen ++ others → AllByRecursion (λ feeder. HasFront seen feeder.to.book.seen) feeders → AllByRecursion (λ feeder. HasFront h feeder.to.book.seen) feeders
 fronts_on seen h others [] whole all = tt
 fronts_on seen h others (feeder ∷ feeders) whole all =
@@ -137,7 +130,7 @@ module _ {I O : Type 0} (reads : I → Input) (writes : O → Output) (one : Ser
   stand : StandsIn reads writes h one run
   stand = record {
     own = own_stand;
-    fed = fronts_on one.left.port.seen h on.others run.run.feeders on.whole (fronts port one.left.port run.run.feeders run.run.met);
+    fed = fronts_on one.left.port.seen h on.others run.run.feeders on.whole (books_seen port run.run.feeders one.left.port run.run.met);
   }
 
 -- ---- all of them
