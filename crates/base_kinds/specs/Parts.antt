@@ -20,5 +20,5 @@ is_in_group (line ∷ lines) group path =
     if covers line.0 path then line.1 == group else is_in_group lines group path
 
 -- the rows of a group: each row belongs to the first line that covers it
-abbrev pub own : List (List Elem × ℕ) → ℕ → List Row → List Row
-own lines group rows = filter (λ row. is_in_group lines group row.path) rows
+abbrev pub rows_of_group : List (List Elem × ℕ) → ℕ → List Row → List Row
+rows_of_group lines group rows = filter (λ row. is_in_group lines group row.path) rows

@@ -8,9 +8,9 @@
 //! `Single` (single.rt) is a book that one author alone reaches, as a port.
 #![tactic(auto)]
 
-mod arming;
 mod book;
 mod chronicle;
+mod disk_faults;
 mod laws;
 mod opening;
 mod single;

@@ -7,7 +7,7 @@
 //! which order.
 #![tactic(auto)]
 
-mod arming;
+mod disk_faults;
 mod faults;
 mod laws;
 mod ledger;

@@ -59,12 +59,16 @@ IsSession words schema journal = words ≡ codes "session" ∷ schema ∷ journa
 abbrev pub IsNoSession : List (List ℕ) → Type 0
 IsNoSession words = (schema journal : List ℕ) → IsSession words schema journal → ⊥
 
+-- `load` generates at most so many Sets
+abbrev pub most_sets : ℕ
+most_sets = 65536
+
 -- `load`, a seed of 64 bits, and from 1 to 65,536 Sets
 pub record IsLoad (words : List (List ℕ)) (seed count : ℕ) : Type 0 where
   pub words_are : words ≡ codes "load" ∷ decimal seed ∷ decimal count ∷ []
   pub seed_fits : seed < 2 ^ 64
   pub some : 1 ≤ count
-  pub few : count ≤ 65536
+  pub few : count ≤ most_sets
 
 -- the words are no load's
 abbrev pub IsNoLoad : List (List ℕ) → Type 0

@@ -1,7 +1,7 @@
 ghost use Rattle.std.specs.Prelude.{◌≡◌, ◌<◌, ◌≤◌, ◌^◌, ◌↔◌, ◌∷◌, [], IsTrue, List, ℕ, IfSome, IfNone};
 ghost use Rattle.std.specs.Fmt.{decimal};
 ghost use Rattle.base_kinds.specs.declared.entry.Limits.{Limits as LogLimits};
-ghost use Rattle.target_top.specs.Commands.{AreLimits, IsLoad, IsName, IsNameWithLimits, octets_of_words};
+ghost use Rattle.target_top.specs.Commands.{AreLimits, IsLoad, IsName, IsNameWithLimits, most_sets, octets_of_words};
 
 use base_kinds::{Limits, default_limits};
 use plain_texts::natural_of;
@@ -104,18 +104,21 @@ fn limits_of(entries: &str, octets: &str) -> Option<Limits>
     None
 }
 
+/// `load` generates at most so many Sets.
+const MOST_SETS: u32 = 65_536;
+
 /// A number of Sets in decimal.
 fn count_of(word: &str) -> Option<u32>
     ensures some { IfSome result (λ count. word.now ≡ decimal count) }
-    ensures in_range { IfSome result (λ count. (1 ≤ count) × (count ≤ 65536)) }
-    ensures none { IfNone result ((count : ℕ) → 1 ≤ count → count ≤ 65536
+    ensures in_range { IfSome result (λ count. (1 ≤ count) × (count ≤ most_sets)) }
+    ensures none { IfNone result ((count : ℕ) → 1 ≤ count → count ≤ most_sets
         → word.now ≡ decimal count → ⊥) }
 {
     let count = limit_of(word)?;
     if count < 1 {
         return None;
     }
-    if count > 65_536 {
+    if count > MOST_SETS {
         return None;
     }
     Some(count)

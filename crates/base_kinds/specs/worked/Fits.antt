@@ -9,7 +9,7 @@ use Rattle.base_kinds.specs.declared.entry.Ask.TheVariants as asks
 use Rattle.base_kinds.specs.declared.entry.Entry.{Entry}
 use Rattle.base_kinds.specs.declared.entry.Kind.TheVariants as kinds
 use Rattle.base_kinds.specs.Legal.{is_fit_elem, is_fit_path, is_fit_scalar, is_fit_value, is_fit_op, is_fit_id, is_fit_duration, IsLegal, Gives}
-use Rattle.base_kinds.specs.Parts.{part, own}
+use Rattle.base_kinds.specs.Parts.{part, rows_of_group}
 use Rattle.base_kinds.specs.worked.Samples.{plain, hostname, motd, text_row, text_update, hostname_entry, system_rules}
 
 -- ---- fit and unfit
@@ -109,13 +109,13 @@ lines = (hostname, 1) ∷ (plain (codes "system") ∷ [], 2) ∷ (motd, 3) ∷ [
 abbrev two_rows : List Row
 two_rows = text_row hostname (codes "r1") ∷ text_row motd (codes "m") ∷ []
 
-first_group : own lines 1 two_rows ≡ text_row hostname (codes "r1") ∷ []
+first_group : rows_of_group lines 1 two_rows ≡ text_row hostname (codes "r1") ∷ []
 first_group = refl
 
-second_group : own lines 2 two_rows ≡ text_row motd (codes "m") ∷ []
+second_group : rows_of_group lines 2 two_rows ≡ text_row motd (codes "m") ∷ []
 second_group = refl
 
-third_group : own lines 3 two_rows ≡ []
+third_group : rows_of_group lines 3 two_rows ≡ []
 third_group = refl
 
 part_of_both : part (hostname ∷ motd ∷ []) two_rows ≡ two_rows
