@@ -1,1 +1,2 @@
+pub mod HeldStarters
 pub mod Starters

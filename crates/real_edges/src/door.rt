@@ -2,30 +2,30 @@
 ghost use Rattle.std.specs.Prelude.{◌≡◌, [], None, IfOk};
 ghost use Rattle.thread_traits.specs.Doors.{IsFresh};
 
-use crate::streams::{StreamSink, StreamSource};
+use crate::bell::{Bell, TcpSource};
+use crate::streams::StreamSink;
 use base_lists::{Remembered, Tally};
 use edge_traits::Failed;
 use std::io::{self, ErrorKind};
 use std::marker::Model;
 use std::net::{SocketAddr, TcpListener, TcpStream};
+use std::sync::Wait;
 use thread_traits::{Door, Next};
-
-/// Where the octets of a connection come in. At its end the peer has sent all that it will.
-pub type TcpSource = StreamSource<TcpStream>;
 
 /// Where the octets of a connection go out, each piece at once, without waiting for more (TCP_NODELAY).
 pub type TcpSink = StreamSink<TcpStream>;
 
 /// A door at which TCP connections come in. Which ones will come it can't tell, and it is never at its end.
 #[derive(Drop)]
-pub struct TcpDoor {
+pub struct TcpDoor<R> {
     rt: HostRuntime,
+    bell: Bell<R>,
     listener: Option<TcpListener>,
-    given: Remembered<(TcpSource, TcpSink)>,
+    given: Remembered<(TcpSource<R>, TcpSink)>,
     faults: Tally,
 }
 
-impl Model for TcpDoor {
+impl<R> Model for TcpDoor<R> {
     ghost use Rattle.std.specs.Prelude.{None};
     ghost use Rattle.edge_traits.specs.Input.{Input};
     ghost use Rattle.edge_traits.specs.Output.{Output};
@@ -36,13 +36,14 @@ impl Model for TcpDoor {
     ghost view = { λ d. record { given = d.given; left = None; faults = d.faults } };
 }
 
-impl TcpDoor {
-    /// A door that isn't open yet.
-    pub fn of(rt: &HostRuntime) -> TcpDoor
+impl<R> TcpDoor<R> {
+    /// A door that isn't open yet. Its connections ring this bell.
+    pub fn of(rt: &HostRuntime, bell: Bell<R>) -> TcpDoor<R>
         ensures { result ≡ record { given = []; left = None; faults = 0 } }
     {
         TcpDoor {
             rt: *rt,
+            bell,
             listener: None,
             given: Remembered::nothing(),
             faults: Tally::zero(),
@@ -58,8 +59,8 @@ impl TcpDoor {
     }
 }
 
-impl Door for TcpDoor {
-    type Reader = TcpSource;
+impl<R: Wait + Clone + Drop> Door for TcpDoor<R> {
+    type Reader = TcpSource<R>;
 
     type Writer = TcpSink;
 
@@ -81,8 +82,8 @@ impl Door for TcpDoor {
     }
 
     /// At a door that isn't open that is a fault.
-    fn next(&mut self) -> Next<TcpSource, TcpSink> {
-        match next_link(&self.listener) {
+    fn next(&mut self) -> Next<TcpSource<R>, TcpSink> {
+        match next_link(&self.bell, &self.listener) {
             Ok(link) => {
                 self.given.remember(&link);
                 let (reader, writer) = link;
@@ -97,13 +98,20 @@ impl Door for TcpDoor {
 }
 
 /// The next connection that comes in.
-fn next_link(listener: &Option<TcpListener>) -> Result<(TcpSource, TcpSink), Failed>
+fn next_link<R: Wait + Clone + Drop>(
+    bell: &Bell<R>,
+    listener: &Option<TcpListener>,
+) -> Result<(TcpSource<R>, TcpSink), Failed>
     ensures { IfOk result (λ link. IsFresh (λ s. s) (λ s. s) link) }
 {
     let Some(listener) = listener else {
         return Err(Failed);
     };
-    match link_of(accepted(listener)?) {
+    let stream = accepted(listener)?;
+    let Ok(bell) = bell.twin() else {
+        return Err(Failed);
+    };
+    match link_of(bell, stream) {
         Ok(link) => Ok(link),
         Err(_) => Err(Failed),
     }
@@ -122,10 +130,10 @@ fn accepted(listener: &TcpListener) -> Result<TcpStream, Failed> {
 }
 
 /// The two halves of a stream.
-fn link_of(stream: TcpStream) -> io::Result<(TcpSource, TcpSink)>
+fn link_of<R: Drop>(bell: Bell<R>, stream: TcpStream) -> io::Result<(TcpSource<R>, TcpSink)>
     ensures { IfOk result (λ link. IsFresh (λ s. s) (λ s. s) link) }
 {
     stream.set_nodelay(true)?;
     let writer = stream.try_clone()?;
-    Ok((StreamSource::of(stream), StreamSink::of(writer)))
+    Ok((TcpSource::of(bell, stream), StreamSink::of(writer)))
 }

@@ -4,12 +4,16 @@
 //! trusted. Start at `TcpDoor` (door.rt).
 #![tactic(auto)]
 
+mod bell;
 mod door;
+mod held_starter;
 mod pacer;
 mod starters;
 mod streams;
 
-pub use door::{TcpDoor, TcpSink, TcpSource};
+pub use bell::{Bell, BellPacer, TcpSource};
+pub use door::{TcpDoor, TcpSink};
+pub use held_starter::{HeldStarter, ReadyStarter, Started, Starting};
 pub use pacer::SleepingPacer;
 pub use starters::ThreadStarter;
 pub use streams::{StreamSink, StreamSource};

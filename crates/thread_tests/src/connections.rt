@@ -1,21 +1,22 @@
 //! TCP connections on loopback.
 use base_lists::Bytes;
 use edge_traits::{Source, read_to_limit, write_whole};
-use real_edges::{StreamSink, StreamSource, TcpDoor, TcpSink, TcpSource, ThreadStarter};
+use real_edges::{Bell, StreamSink, StreamSource, TcpDoor, TcpSink, TcpSource, ThreadStarter};
 use std::alloc::Global;
 use std::net::{Shutdown, TcpStream};
+use std::sync::Wait;
 use std::test::Fail;
 use std::thread::Threads;
 use thread_traits::{Door, Job, Next, Running};
 
 /// Sends back what comes on a connection, until its peer has sent all.
 #[derive(Drop)]
-struct Echo {
-    reader: TcpSource,
+struct Echo<R> {
+    reader: TcpSource<R>,
     writer: TcpSink,
 }
 
-impl Job for Echo {
+impl<R: Wait + Clone + Drop> Job for Echo<R> {
     type Done = bool;
 
     ghost use Rattle.std.specs.Prelude.{⊤};
@@ -40,14 +41,20 @@ impl Job for Echo {
     }
 }
 
+/// A door that isn't open yet.
+fn closed_door<R: Wait + Copy + Drop>(rt: &R, host: &HostRuntime) -> Option<TcpDoor<R>> {
+    let bell = Bell::make(*rt, host.alloc()).ok()?;
+    Some(TcpDoor::of(host, bell))
+}
+
 /// A door that is open on loopback, at a port that the system chose.
-fn open_door(rt: &HostRuntime) -> Option<TcpDoor> {
-    let mut door = TcpDoor::of(rt);
+fn open_door<R: Wait + Copy + Drop>(rt: &R, host: &HostRuntime) -> Option<TcpDoor<R>> {
+    let mut door = closed_door(rt, host)?;
     door.listen("127.0.0.1:0").ok()?;
     Some(door)
 }
 
-fn next_link(door: &mut TcpDoor) -> Option<(TcpSource, TcpSink)> {
+fn next_link<R: Wait + Clone + Drop>(door: &mut TcpDoor<R>) -> Option<(TcpSource<R>, TcpSink)> {
     match door.next() {
         Next::Link(reader, writer) => Some((reader, writer)),
         Next::End => None,
@@ -64,12 +71,16 @@ fn answer_to(alloc: Global, client: TcpStream, octets: &[u8]) -> Option<Bytes> {
 }
 
 /// A connection of a client, with a thread at its other end.
-struct Talk {
+struct Talk<R: Wait + Clone + Drop> {
     client: TcpStream,
-    running: Running<Echo>,
+    running: Running<Echo<R>>,
 }
 
-fn begin<R: Threads + Copy + Drop>(rt: &R, host: &HostRuntime, door: &mut TcpDoor) -> Option<Talk> {
+fn begin<R: Threads + Wait + Copy + Drop + Send + 'static>(
+    rt: &R,
+    host: &HostRuntime,
+    door: &mut TcpDoor<R>,
+) -> Option<Talk<R>> {
     let client = TcpStream::connect(host, door.address()?).ok()?;
     let (reader, writer) = next_link(door)?;
     let mut starter = ThreadStarter::make(*rt, host.alloc());
@@ -85,17 +96,22 @@ fn reads_back(alloc: Global, client: TcpStream, octets: &[u8]) -> bool {
 }
 
 /// Whether the client reads what it sends, and the thread found no fault.
-fn ends_well<R: Threads>(rt: &R, alloc: Global, talk: Talk, octets: &[u8]) -> bool {
+fn ends_well<R: Threads + Wait + Clone + Drop>(
+    rt: &R,
+    alloc: Global,
+    talk: Talk<R>,
+    octets: &[u8],
+) -> bool {
     let Talk { client, running } = talk;
     let same = reads_back(alloc, client, octets);
     running.finish(rt) && same
 }
 
 /// The same of a connection from its beginning.
-fn goes_well<R: Threads + Copy + Drop>(
+fn goes_well<R: Threads + Wait + Copy + Drop + Send + 'static>(
     rt: &R,
     host: &HostRuntime,
-    door: &mut TcpDoor,
+    door: &mut TcpDoor<R>,
     octets: &[u8],
 ) -> bool {
     match begin(rt, host, door) {
@@ -105,7 +121,11 @@ fn goes_well<R: Threads + Copy + Drop>(
 }
 
 /// A connection goes from its beginning to its end while another one waits, which then ends well too.
-fn both_go_well<R: Threads + Copy + Drop>(rt: &R, host: &HostRuntime, door: &mut TcpDoor) -> bool {
+fn both_go_well<R: Threads + Wait + Copy + Drop + Send + 'static>(
+    rt: &R,
+    host: &HostRuntime,
+    door: &mut TcpDoor<R>,
+) -> bool {
     match begin(rt, host, door) {
         Some(first) => {
             let second = goes_well(rt, host, door, b"second");
@@ -117,12 +137,12 @@ fn both_go_well<R: Threads + Copy + Drop>(rt: &R, host: &HostRuntime, door: &mut
 
 #[test]
 fn connections_are_served_beside_one_another(rt: HostRuntime) -> Result<(), Fail> {
-    let mut door = open_door(&rt).ok_or("no door")?;
+    let mut door = open_door(&rt, &rt).ok_or("no door")?;
     assert!(rt; both_go_well(&rt, &rt, &mut door));
     Ok(())
 }
 
-fn is_failed(next: Next<TcpSource, TcpSink>) -> bool {
+fn is_failed<R: Drop>(next: Next<TcpSource<R>, TcpSink>) -> bool {
     match next {
         Next::Link(_reader, _writer) => false,
         Next::End => false,
@@ -132,7 +152,7 @@ fn is_failed(next: Next<TcpSource, TcpSink>) -> bool {
 
 #[test]
 fn a_door_fails_that_cannot_be_opened(rt: HostRuntime) -> Result<(), Fail> {
-    let mut door = TcpDoor::of(&rt);
+    let mut door = closed_door(&rt, &rt).ok_or("no door")?;
     assert!(rt; door.listen("no address").is_err());
     assert!(rt; door.address().is_none());
     assert!(rt; is_failed(door.next()));
@@ -140,8 +160,8 @@ fn a_door_fails_that_cannot_be_opened(rt: HostRuntime) -> Result<(), Fail> {
 }
 
 /// The address of a door that is gone, behind a connection that ended at this side first.
-fn address_left(host: &HostRuntime) -> Option<String> {
-    let mut door = open_door(host)?;
+fn address_left<R: Wait + Copy + Drop>(rt: &R, host: &HostRuntime) -> Option<String> {
+    let mut door = open_door(rt, host)?;
     let address = door.address()?;
     let _client = TcpStream::connect(host, address).ok()?;
     drop(next_link(&mut door)?);
@@ -150,7 +170,8 @@ fn address_left(host: &HostRuntime) -> Option<String> {
 
 #[test]
 fn an_address_is_free_once_its_door_is_gone(rt: HostRuntime) -> Result<(), Fail> {
-    let address = address_left(&rt).ok_or("no door")?;
-    assert!(rt; TcpDoor::of(&rt).listen(&address).is_ok());
+    let address = address_left(&rt, &rt).ok_or("no door")?;
+    let mut door = closed_door(&rt, &rt).ok_or("no door")?;
+    assert!(rt; door.listen(&address).is_ok());
     Ok(())
 }
