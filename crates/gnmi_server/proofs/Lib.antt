@@ -1,3 +1,4 @@
+mod Crossing
 mod Ports
 mod Runs
 mod Standing

@@ -5,11 +5,13 @@
 #![tactic(auto)]
 
 mod desk_port;
+mod feeding;
 mod laws;
 mod serving;
 mod session;
 
 pub use desk_port::{DeskPort, Numbered};
+pub use feeding::{Feeding, start_feeder};
 pub use laws::sessions_stand_in_one_history;
 pub use serving::serve_book;
-pub use session::{Feeding, GnmiSession, GnmiSessions, Tools};
+pub use session::{GnmiSession, GnmiSessions, Tools};

@@ -7,7 +7,8 @@ ghost use Rattle.connection_server.specs.Twins.{RiseAbove};
 ghost use Rattle.gnmi_server.specs.Serving.{ServesBook};
 
 use crate::desk_port::{DeskPort, Numbered};
-use crate::session::{Feeding, GnmiSession, GnmiSessions, twin_tools};
+use crate::feeding::Feeding;
+use crate::session::{GnmiSession, GnmiSessions, twin_tools};
 use connection_server::{Ending, ServedLinks, serve_links};
 use real_edges::ThreadStarter;
 use session_core::How;

@@ -4,21 +4,17 @@ ghost use Rattle.connection_server.specs.Jobs.{IsSamePort};
 ghost use Rattle.gnmi_server.specs.Sessions.{ServesLink};
 
 use crate::desk_port::{DeskPort, Numbered};
+use crate::feeding::Feeding;
 use base_lists::NoMemory;
 use book_port::BookPort;
 use connection_server::{Link, LinkLeft, Session, Sessions};
 use edge_traits::{Sink, Source};
 use session_core::{How, SessionEnd, serve_session};
-use shared_wire::WireVisit;
 use std::alloc::Global;
 use std::sync::Wait;
 use std::thread::Threads;
-use stream_feed::FeedJob;
 use thread_traits::{Job, Starter};
 use time_traits::{Clock, Pacer};
-
-/// The job of a feeder of a session.
-pub type Feeding<P, O, R, C, Q> = FeedJob<P, WireVisit<O, R>, C, Q, R>;
 
 /// What a session needs beside its connection. The starter starts its feeders.
 #[derive(Drop)]

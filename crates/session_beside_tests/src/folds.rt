@@ -8,8 +8,8 @@ fn head_of(octets: &[u8]) -> Option<(usize, u8, u8)> {
     Some((length, *octets.get(3)?, *octets.get(8)?))
 }
 
-/// The payloads of DATA on a stream, one behind the other.
-fn data_on(alloc: Global, octets: &[u8], stream: u8) -> Bytes {
+/// The payloads of the frames on a stream, one behind the other: of all, or of DATA alone.
+pub(crate) fn payloads(alloc: Global, octets: &[u8], stream: u8, data_alone: bool) -> Bytes {
     let mut payloads = Bytes::empty(alloc);
     let mut left = octets;
     for _ in 0..octets.len() {
@@ -17,12 +17,36 @@ fn data_on(alloc: Global, octets: &[u8], stream: u8) -> Bytes {
             break;
         };
         let end = length.saturating_add(9);
-        if on == stream && kind == 0 {
+        if on == stream && (kind == 0 || !data_alone) {
             let _ = payloads.extend_from_slice(left.get(9..end).unwrap_or(&[]));
         }
         left = left.get(end..).unwrap_or(&[]);
     }
     payloads
+}
+
+/// Whether both wrote the same on each stream below this number, however it was cut into frames, and however streams took turns.
+pub(crate) fn same_on_streams(alloc: Global, one: &[u8], other: &[u8], streams: u8) -> bool {
+    for stream in 0..streams {
+        let first = payloads(alloc, one, stream, false);
+        let second = payloads(alloc, other, stream, false);
+        if first.items() != second.items() {
+            return false;
+        }
+    }
+    true
+}
+
+/// Whether what one wrote on each stream is a front of what the other did.
+pub(crate) fn fronts_on_streams(alloc: Global, front: &[u8], whole: &[u8], streams: u8) -> bool {
+    for stream in 0..streams {
+        let first = payloads(alloc, front, stream, false);
+        let second = payloads(alloc, whole, stream, false);
+        if !second.items().starts_with(first.items()) {
+            return false;
+        }
+    }
+    true
 }
 
 /// A variable-length integer of up to two octets, and what stands behind it.
@@ -63,7 +87,7 @@ fn first_field(octets: &[u8]) -> Option<Field<'_>> {
 }
 
 /// Leaves and their values.
-type Leaves<'a> = Vec<(&'a [u8], &'a [u8])>;
+pub(crate) type Leaves<'a> = Vec<(&'a [u8], &'a [u8])>;
 
 /// The leaves but the one at this path.
 fn without<'a>(alloc: Global, leaves: &Leaves<'a>, path: &[u8]) -> Option<Leaves<'a>> {
@@ -106,7 +130,7 @@ fn noted<'a>(alloc: Global, leaves: Leaves<'a>, note: &'a [u8]) -> Option<Leaves
 }
 
 /// What the messages of Subscribe that stand in the DATA of a stream fold to.
-fn folded(alloc: Global, data: &[u8]) -> Option<Leaves<'_>> {
+pub(crate) fn folded(alloc: Global, data: &[u8]) -> Option<Leaves<'_>> {
     let mut leaves = Vec::new(alloc);
     let mut left = data;
     for _ in 0..data.len() {
@@ -138,8 +162,8 @@ fn same_leaves(one: &Leaves<'_>, other: &Leaves<'_>) -> bool {
 
 /// Whether what is said on two streams folds to the same leaves, so many.
 pub(crate) fn fold_alike(alloc: Global, octets: &[u8], one: u8, other: u8, count: usize) -> bool {
-    let first = data_on(alloc, octets, one);
-    let second = data_on(alloc, octets, other);
+    let first = payloads(alloc, octets, one, true);
+    let second = payloads(alloc, octets, other, true);
     match (folded(alloc, first.items()), folded(alloc, second.items())) {
         (Some(first), Some(second)) => first.len() == count && same_leaves(&first, &second),
         _ => false,

@@ -1,9 +1,12 @@
-//! Tests of connections that are served beside feeders, over objects in memory: calls of mode STREAM that a feeder serves, and those
-//! that the session serves since their start is refused.
+//! Tests of connections that are served beside feeders: calls of mode STREAM in threads of their own, or served by the session where
+//! their start is refused.
 //!
-//! Start at `sessions`; `served` runs a connection, `scripts` has what its peer sends, `folds` what is read of its answers.
+//! Start at `sessions`; `served` runs a connection, `edges` has what it runs over, `scripts` what its peer sends, `folds` what is
+//! read of its answers.
 #![tactic(auto)]
 
+#[cfg(test)]
+mod edges;
 #[cfg(test)]
 mod folds;
 #[cfg(test)]

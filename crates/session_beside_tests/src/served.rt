@@ -1,6 +1,12 @@
 //! A connection that is served alone, or beside feeders.
 ghost use Rattle.std.specs.Prelude.{◌≡◌, false};
+ghost use Rattle.std.specs.Thread.{IsSend};
+ghost use Rattle.real_edges.specs.HeldStarters.{StartsJob};
 
+use crate::edges::{
+    Counter, CountingSink, CountingStarter, Goals, TestBook, TestJob, WaitingSource, YieldingPacer,
+    start_in_thread,
+};
 use base_kinds::Limits;
 use base_lists::{Bytes, Copied, Seq, Text, Texts};
 use book_core::{Book, BookOpening};
@@ -8,6 +14,7 @@ use commit_journal::Ledger;
 use edge_traits::{MemSink, MemSource};
 use memory_disks::MemDisk;
 use plain_tree::PlainTree;
+use real_edges::{HeldStarter, ReadyStarter, Starting, ThreadStarter};
 use rpc_desk::Desk;
 use schema_core::Schema;
 use schema_text::read_schema;
@@ -15,10 +22,11 @@ use session_core::{How, SessionEnd, serve_alone, serve_session};
 use shared_book::Visit;
 use std::alloc::Global;
 use std::process::Abort;
-use std::sync::Wait;
+use std::sync::atomic::{AtomicU64, Ordering};
+use std::sync::{Arc, Wait};
 use std::thread::Threads;
-use thread_traits::MemStarter;
-use time_traits::{IdlePacer, StepClock};
+use thread_traits::{Running, Starter};
+use time_traits::StepClock;
 
 const SCHEMA: &[u8] = b"module m\nleaf /a string\nleaf /b string\nleaf /c string\n";
 
@@ -27,36 +35,43 @@ const LIMITS: Limits = Limits {
     octets: 268_435_456,
 };
 
-/// The first port of a book that others reach too.
-type TestBook<R> = Visit<MemDisk, PlainTree, R>;
+/// So often a source lets other threads go on at most.
+const PATIENCE: u32 = 50_000_000;
 
 /// What a connection is served with.
 #[derive(Clone, Copy)]
 pub(crate) struct Given<'a> {
     pub(crate) octets: &'a [u8],
-    /// What the clock reads, and the last of it again and again.
-    pub(crate) readings: &'a [u64],
-    /// So many feeders are started, each of which runs to its end at once.
-    pub(crate) feeders: u64,
-    /// The numbers of the read and of the write that fail; none has the number 0.
+    /// How much has to be taken before each read, and before the end.
+    pub(crate) each: &'a [u64],
+    pub(crate) last: u64,
+    /// What is counted as taken: this text, or octets where it is empty.
+    pub(crate) text: &'static [u8],
+    /// The calls that are refused: of the starter, of the source and of the sink. 0 is none.
+    pub(crate) starts: &'a [u64],
     pub(crate) read: u64,
     pub(crate) write: u64,
 }
 
-/// What a connection came to: how it ended, what was written, and how many entries its book has.
+/// What a connection came to: how it ended, what was written, how many entries its book has, how much was taken before each read,
+/// and how many threads were started.
 #[derive(Drop)]
 pub(crate) struct Outcome {
     pub(crate) how: How,
     pub(crate) written: Bytes,
     pub(crate) entries: u64,
+    pub(crate) found: Seq<u64>,
+    pub(crate) started: u64,
 }
 
-/// The number in decimal.
-fn texts_of(rt: &impl Abort, alloc: Global, number: u64) -> Texts {
+/// The numbers in decimal.
+fn texts_of(rt: &impl Abort, alloc: Global, numbers: &[u64]) -> Texts {
     let mut texts = Texts::empty(alloc);
-    let decimal = format!(in alloc; "{number}").expect(rt, "memory");
-    let text = Text::of(alloc, decimal.as_bytes()).expect(rt, "a text");
-    texts.push(text).expect(rt, "memory");
+    for number in numbers {
+        let decimal = format!(in alloc; "{number}").expect(rt, "memory");
+        let text = Text::of(alloc, decimal.as_bytes()).expect(rt, "a text");
+        texts.push(text).expect(rt, "memory");
+    }
     texts
 }
 
@@ -90,33 +105,61 @@ fn book<R: Wait + Abort + Copy + Drop>(rt: R, alloc: Global, schema: Schema) -> 
     }
 }
 
-fn clock(rt: &impl Abort, alloc: Global, readings: &[u64]) -> StepClock {
-    StepClock::make(Seq::of(alloc, readings).expect(rt, "memory"))
+/// A clock that always reads 1000.
+fn clock(rt: &impl Abort, alloc: Global) -> StepClock {
+    StepClock::make(Seq::of(alloc, &[1000]).expect(rt, "memory"))
 }
 
-/// Where octets come in.
-fn input(rt: &impl Abort, alloc: Global, given: &Given<'_>) -> MemSource {
+/// A counter at 0, twice.
+fn counters(rt: &impl Abort, alloc: Global) -> (Counter, Counter) {
+    let one = Arc::new(alloc, AtomicU64::new(0)).expect(rt, "memory");
+    let other = Arc::try_clone(&one).expect(rt, "memory");
+    (one, other)
+}
+
+/// Where octets come in and go out.
+fn edges(rt: &impl Abort, alloc: Global, given: &Given<'_>) -> (WaitingSource, CountingSink) {
+    let (taken, theirs) = counters(rt, alloc);
     let octets = Bytes::of(alloc, given.octets).expect(rt, "memory");
-    MemSource::make(octets, texts_of(rt, alloc, given.read))
+    let source = WaitingSource {
+        source: MemSource::make(octets, texts_of(rt, alloc, &[given.read])),
+        left: given.octets.len(),
+        taken,
+        goals: Goals {
+            each: Seq::of(alloc, given.each).expect(rt, "memory"),
+            last: given.last,
+        },
+        found: Seq::empty(alloc),
+        patience: PATIENCE,
+    };
+    let sink = CountingSink {
+        sink: MemSink::make(alloc, texts_of(rt, alloc, &[given.write])),
+        text: given.text,
+        taken: theirs,
+    };
+    (source, sink)
 }
 
 /// What is looked at of what a session handed back.
 fn outcome_of<R: Wait + Abort + Copy + Drop>(
     rt: R,
     alloc: Global,
-    end: SessionEnd<MemSource, MemSink, TestBook<R>, StepClock>,
+    end: SessionEnd<WaitingSource, CountingSink, TestBook<R>, StepClock>,
+    started: u64,
 ) -> Outcome {
     let SessionEnd {
         how,
-        input: _,
+        input,
         output,
         book,
         clock: _,
     } = end;
     Outcome {
         how,
-        written: Bytes::of(alloc, output.octets()).expect(&rt, "memory"),
+        written: Bytes::of(alloc, output.sink.octets()).expect(&rt, "memory"),
         entries: book.finish().count(),
+        found: Seq::of(alloc, input.found.items()).expect(&rt, "memory"),
+        started,
     }
 }
 
@@ -126,37 +169,76 @@ pub(crate) fn alone<R: Wait + Abort + Copy + Drop>(
     alloc: Global,
     given: &Given<'_>,
 ) -> Outcome {
+    let (input, output) = edges(&rt, alloc, given);
     let schema = schema(&rt, alloc);
     let desk = Desk::make(schema.copy(alloc).expect(&rt, "memory"));
-    let end = serve_alone(
-        alloc,
-        input(&rt, alloc, given),
-        MemSink::make(alloc, texts_of(&rt, alloc, given.write)),
-        book(rt, alloc, schema),
-        &desk,
-        clock(&rt, alloc, given.readings),
-    );
-    outcome_of(rt, alloc, end)
+    let port = book(rt, alloc, schema);
+    let end = serve_alone(alloc, input, output, port, &desk, clock(&rt, alloc));
+    outcome_of(rt, alloc, end, 0)
 }
 
-/// Serves a connection beside feeders.
-pub(crate) fn beside<R: Threads + Wait + Abort + Copy + Drop>(
+/// Serves a connection beside the feeders that this starter starts.
+fn serve_with<R, S>(
+    rt: R,
+    alloc: Global,
+    given: &Given<'_>,
+    starter: S,
+) -> SessionEnd<WaitingSource, CountingSink, TestBook<R>, StepClock>
+where
+    R: Threads + Wait + Abort + Copy + Drop,
+    S: Starter<TestJob<R>> + Drop,
+{
+    let (input, output) = edges(&rt, alloc, given);
+    let schema = schema(&rt, alloc);
+    let desk = Desk::make(schema.copy(alloc).expect(&rt, "memory"));
+    let port = book(rt, alloc, schema);
+    serve_session(
+        rt,
+        alloc,
+        input,
+        output,
+        port,
+        &desk,
+        starter,
+        clock(&rt, alloc),
+        YieldingPacer,
+    )
+}
+
+/// The same for a starter that is ready to start feeders, and counts them.
+fn serve_ready<R, S>(
+    rt: R,
+    alloc: Global,
+    given: &Given<'_>,
+    starting: S,
+    started: Counter,
+) -> SessionEnd<WaitingSource, CountingSink, TestBook<R>, StepClock>
+where
+    R: Threads + Wait + Abort + Copy + Drop,
+    S: Starting<TestJob<R>> + Drop,
+    requires { S.ready starting }
+{
+    let starter = ReadyStarter::make(starting);
+    serve_with(rt, alloc, given, CountingStarter { starter, started })
+}
+
+/// Serves a connection beside feeders in threads of their own.
+pub(crate) fn beside<R: Threads + Wait + Abort + Copy + Drop + Send + Sync + 'static>(
     rt: R,
     alloc: Global,
     given: &Given<'_>,
 ) -> Outcome {
-    let schema = schema(&rt, alloc);
-    let desk = Desk::make(schema.copy(alloc).expect(&rt, "memory"));
-    let end = serve_session(
-        rt,
-        alloc,
-        input(&rt, alloc, given),
-        MemSink::make(alloc, texts_of(&rt, alloc, given.write)),
-        book(rt, alloc, schema),
-        &desk,
-        MemStarter::make(given.feeders),
-        clock(&rt, alloc, given.readings),
-        IdlePacer,
-    );
-    outcome_of(rt, alloc, end)
+    let refused = texts_of(&rt, alloc, given.starts);
+    let threads = ThreadStarter::refusing(rt, alloc, refused, Texts::empty(alloc));
+    let start = |threads: &mut ThreadStarter<R>, job: TestJob<R>| -> Result<
+        Running<TestJob<R>>,
+        TestJob<R>,
+    >
+        requires { IsSend R.row }
+        ensures { StartsJob (λ running. running) job result threads.old threads.new }
+    { start_in_thread::<R>(threads, job) };
+    let (started, theirs) = counters(&rt, alloc);
+    let starting = HeldStarter::make(threads, start);
+    let end = serve_ready(rt, alloc, given, starting, theirs);
+    outcome_of(rt, alloc, end, started.load(Ordering::SeqCst))
 }

@@ -1,7 +1,7 @@
-use crate::folds::fold_alike;
+use crate::folds::{fold_alike, fronts_on_streams, same_on_streams};
 use crate::scripts::{GET, SET, SUBSCRIBE, Step, octets_of};
 use crate::served::{Given, Outcome, alone, beside};
-use base_lists::{Bytes, Seq};
+use base_lists::Bytes;
 use session_core::How;
 use std::alloc::Global;
 use std::process::Abort;
@@ -18,10 +18,7 @@ const STREAM_B: &[u8] = b"\x0a\x09\x12\x07\x0a\x05\x1a\x03\x0a\x01b";
 
 const UPDATES: &[u8] = b"\x0a\x06\x12\x02\x0a\0\x48\x01";
 
-/// A list of mode STREAM that wants a sample of all each second, with values in PROTO.
-const SAMPLES: &[u8] = b"\x0a\x0e\x12\x0a\x0a\x00\x10\x02\x18\x80\x94\xeb\xdc\x03\x40\x02";
-
-/// The lists of the root, of /a and of /b in mode ONCE.
+/// The same of mode ONCE.
 const ONCE: &[u8] = b"\x0a\x06\x12\x02\x0a\0\x28\x01";
 
 const ONCE_A: &[u8] = b"\x0a\x0b\x12\x07\x0a\x05\x1a\x03\x0a\x01a\x28\x01";
@@ -91,55 +88,78 @@ const NARROW: &[Step] = &[
     Step::Let(5, 200),
 ];
 
-/// What else such calls meet: updates alone, a client that has no more messages, one that cancels, streams whose state isn't empty,
-/// and further messages, which end them.
-const CALLS: &[&[Step]] = &[
+/// How many calls of mode STREAM a peer makes, and what it does.
+type Row = (u64, &'static [Step]);
+
+/// What else such calls meet: updates alone, a client that has no more messages, one that cancels, and streams whose state isn't
+/// empty.
+const CALLS: &[Row] = &[
+    (3, NARROW),
+    (
+        2,
+        &[
+            Step::Call(1, SUBSCRIBE),
+            Step::Say(1, UPDATES),
+            Step::Call(3, SET),
+            Step::Last(3, SET_A),
+            Step::Call(5, SUBSCRIBE),
+            Step::Last(5, STREAM),
+            Step::Call(7, SET),
+            Step::Last(7, DELETE_A),
+            Step::Call(9, SUBSCRIBE),
+            Step::Last(9, ONCE),
+        ],
+    ),
+    (
+        2,
+        &[
+            Step::Call(1, SUBSCRIBE),
+            Step::Say(1, STREAM),
+            Step::End(1),
+            Step::Call(3, SUBSCRIBE),
+            Step::Say(3, STREAM),
+            Step::Call(5, SET),
+            Step::Last(5, SET_A),
+            Step::Cancel(3),
+            Step::Call(7, SET),
+            Step::Last(7, SET_A_AGAIN),
+        ],
+    ),
+    (
+        1,
+        &[
+            Step::Window(0),
+            Step::Call(1, SUBSCRIBE),
+            Step::Say(1, STREAM),
+            Step::Call(3, SET),
+            Step::Let(3, 100),
+            Step::Last(3, SET_A),
+            Step::Let(1, 7),
+            Step::Call(5, SET),
+            Step::Let(5, 100),
+            Step::Last(5, DELETE_A),
+            Step::Let(1, 7),
+            Step::Cancel(1),
+            Step::Ping,
+        ],
+    ),
+];
+
+/// Further messages on the stream of such a call, which end it where the session serves it.
+const FURTHER: &[&[Step]] = &[
     NARROW,
     &[
         Step::Call(1, SUBSCRIBE),
-        Step::Say(1, UPDATES),
-        Step::Call(3, SET),
-        Step::Last(3, SET_A),
-        Step::Call(5, SUBSCRIBE),
-        Step::Last(5, STREAM),
-        Step::Call(7, SET),
-        Step::Last(7, DELETE_A),
-        Step::Call(9, SUBSCRIBE),
-        Step::Last(9, ONCE),
-    ],
-    &[
-        Step::Call(1, SUBSCRIBE),
         Step::Say(1, STREAM),
-        Step::End(1),
-        Step::Call(3, SUBSCRIBE),
-        Step::Say(3, STREAM),
-        Step::Call(5, SET),
-        Step::Last(5, SET_A),
-        Step::Cancel(3),
-        Step::Call(7, SET),
-        Step::Last(7, SET_A_AGAIN),
-    ],
-    &[
-        Step::Window(0),
-        Step::Call(1, SUBSCRIBE),
         Step::Say(1, STREAM),
         Step::Call(3, SET),
-        Step::Let(3, 100),
         Step::Last(3, SET_A),
-        Step::Let(1, 7),
-        Step::Call(5, SET),
-        Step::Let(5, 100),
-        Step::Last(5, DELETE_A),
-        Step::Let(1, 7),
-        Step::Cancel(1),
-        Step::Ping,
     ],
     &[
         Step::Call(1, SUBSCRIBE),
         Step::Say(1, STREAM),
         Step::Say(1, BAD),
         Step::Call(3, SUBSCRIBE),
-        Step::Say(3, STREAM),
         Step::Say(3, STREAM),
         Step::Call(5, SET),
         Step::Last(5, SET_A),
@@ -191,25 +211,25 @@ const FREE: &[Step] = &[
     Step::Last(21, ONCE_B),
 ];
 
-/// A call of mode STREAM that wants a sample each second, behind a Set.
-const SAMPLED: &[Step] = &[
-    Step::Call(1, SET),
-    Step::Last(1, SET_A),
-    Step::Call(3, SUBSCRIBE),
-    Step::Say(3, SAMPLES),
-    Step::Ping,
-];
+/// The last value, and how often it is said then.
+const LAST: &[u8] = b"\"zz\"";
 
-/// A sample as it is written.
-const SAMPLE: &[u8] =
-    b"\0\0\x18\0\0\0\0\0\x03\0\0\0\0\x13\x0a\x11\x08\xe8\x07\x22\x0c\x0a\x05\x1a\x03\x0a\x01a\x1a\x03\x0a\x01x";
+const LASTS: u64 = 8;
 
-/// Nothing fails, no feeder is started, and the clock always reads 1000.
-fn without_feeders(octets: &[u8]) -> Given<'_> {
+/// The starts that are refused, of those of three calls.
+const REFUSED: &[&[u64]] = &[&[], &[1], &[2], &[3], &[1, 2], &[1, 3], &[2, 3], &[1, 2, 3]];
+
+/// All streams of these calls are below this number.
+const STREAMS: u8 = 32;
+
+/// Nothing fails, nothing is refused, and nobody waits.
+fn freely(octets: &[u8]) -> Given<'_> {
     Given {
         octets,
-        readings: &[1000],
-        feeders: 0,
+        each: &[],
+        last: 0,
+        text: b"",
+        starts: &[],
         read: 0,
         write: 0,
     }
@@ -219,43 +239,102 @@ fn sent(rt: &impl Abort, alloc: Global, steps: &[Step]) -> Bytes {
     octets_of(alloc, steps).expect(rt, "memory")
 }
 
-/// Whether both ended well and alike, and wrote the same.
-fn are_alike(one: &Outcome, other: &Outcome) -> bool {
+/// Whether both ended well and alike, and wrote the same on each stream.
+fn are_alike(alloc: Global, one: &Outcome, other: &Outcome) -> bool {
     one.how == How::Closed
         && other.how == How::Closed
         && one.entries == other.entries
-        && one.written.items() == other.written.items()
+        && one.found.len() == other.found.len()
+        && same_on_streams(alloc, one.written.items(), other.written.items(), STREAMS)
 }
 
-/// Whether a session that starts no feeder comes to what it comes to alone.
-fn comes_to_the_same<R: Threads + Wait + Abort + Copy + Drop>(
+/// How many of these starts are among the first of so many.
+fn count_of(starts: &[u64], calls: u64) -> u64 {
+    let mut count = 0_u64;
+    for start in starts {
+        if *start <= calls {
+            count = count.saturating_add(1);
+        }
+    }
+    count
+}
+
+/// Whether a session whose starter refuses these starts comes to what it comes to alone.
+fn comes_to_the_same<R: Threads + Wait + Abort + Copy + Drop + Send + Sync + 'static>(
+    rt: R,
+    alloc: Global,
+    row: &Row,
+    starts: &[u64],
+) -> bool {
+    let (calls, steps) = *row;
+    let octets = sent(&rt, alloc, steps);
+    let one = alone(rt, alloc, &freely(octets.items()));
+    let given = Given {
+        each: one.found.items(),
+        starts,
+        ..freely(octets.items())
+    };
+    let other = beside(rt, alloc, &given);
+    other.started == calls.saturating_sub(count_of(starts, calls)) && are_alike(alloc, &one, &other)
+}
+
+#[test]
+fn each_stream_is_told_what_it_is_told_by_a_session_alone(rt: HostRuntime) -> Result<(), Fail> {
+    let alloc = rt.alloc();
+    for (number, row) in CALLS.iter().enumerate() {
+        for starts in REFUSED.iter() {
+            let same = comes_to_the_same(rt, alloc, row, starts);
+            assert!(rt; same, "call {number}");
+        }
+    }
+    Ok(())
+}
+
+/// Whether a session that starts no feeder writes just what it writes alone, octet for octet.
+fn writes_the_same<R: Threads + Wait + Abort + Copy + Drop + Send + Sync + 'static>(
     rt: R,
     alloc: Global,
     steps: &[Step],
 ) -> bool {
     let octets = sent(&rt, alloc, steps);
-    let given = without_feeders(octets.items());
-    let one = alone(rt, alloc, &given);
+    let one = alone(rt, alloc, &freely(octets.items()));
+    let given = Given {
+        starts: &[1, 2, 3, 4],
+        ..freely(octets.items())
+    };
     let other = beside(rt, alloc, &given);
-    are_alike(&one, &other)
+    other.started == 0
+        && are_alike(alloc, &one, &other)
+        && one.written.items() == other.written.items()
 }
 
 #[test]
-fn calls_whose_start_is_refused_are_served_by_the_session(rt: HostRuntime) -> Result<(), Fail> {
+fn a_session_without_feeders_serves_all_calls_itself(rt: HostRuntime) -> Result<(), Fail> {
     let alloc = rt.alloc();
-    for (number, steps) in CALLS.iter().enumerate() {
-        let same = comes_to_the_same(rt, alloc, steps);
+    for (number, steps) in FURTHER.iter().enumerate() {
+        let same = writes_the_same(rt, alloc, steps);
         assert!(rt; same, "call {number}");
     }
     Ok(())
 }
 
 /// Whether each call of mode STREAM folds to what one of mode ONCE then says, of two leaves and of one each.
-fn folds_to_the_last_state<R: Threads + Wait + Abort + Copy + Drop>(rt: R, alloc: Global) -> bool {
+fn folds_to_the_last_state<R: Threads + Wait + Abort + Copy + Drop + Send + Sync + 'static>(
+    rt: R,
+    alloc: Global,
+    starts: &[u64],
+) -> bool {
     let octets = sent(&rt, alloc, FREE);
-    let end = beside(rt, alloc, &without_feeders(octets.items()));
+    let given = Given {
+        text: LAST,
+        last: LASTS,
+        starts,
+        ..freely(octets.items())
+    };
+    let end = beside(rt, alloc, &given);
     let written = end.written.items();
     end.how == How::Closed
+        && end.started == 3_u64.saturating_sub(count_of(starts, 3))
         && end.entries == 5
         && fold_alike(alloc, written, 1, 17, 2)
         && fold_alike(alloc, written, 5, 19, 1)
@@ -264,129 +343,102 @@ fn folds_to_the_last_state<R: Threads + Wait + Abort + Copy + Drop>(rt: R, alloc
 
 #[test]
 fn each_stream_folds_to_its_part_of_the_last_state(rt: HostRuntime) -> Result<(), Fail> {
-    assert!(rt; folds_to_the_last_state(rt, rt.alloc()));
+    let alloc = rt.alloc();
+    for (number, starts) in REFUSED.iter().enumerate() {
+        let folds = folds_to_the_last_state(rt, alloc, starts);
+        assert!(rt; folds, "refused {number}");
+    }
     Ok(())
 }
 
-/// Whether a session ended with this fault, and wrote a front of what it writes without; None where it ended well.
-fn breaks_off<R: Threads + Wait + Abort + Copy + Drop>(
+/// Whether a session ended with this fault, and wrote a front of what it writes without.
+fn is_broken_off(alloc: Global, end: &Outcome, whole: &Outcome, how: How) -> bool {
+    end.how == how
+        && end.entries <= whole.entries
+        && fronts_on_streams(alloc, end.written.items(), whole.written.items(), STREAMS)
+}
+
+/// Whether a session whose source fails in the read with this number has answered all that was read before; None where it ended
+/// well.
+fn breaks_off_at_read<R: Threads + Wait + Abort + Copy + Drop + Send + Sync + 'static>(
     rt: R,
     alloc: Global,
-    given: &Given<'_>,
+    octets: &[u8],
     whole: &Outcome,
-    how: How,
+    number: u64,
 ) -> Option<bool> {
-    let end = beside(rt, alloc, given);
-    if are_alike(&end, whole) {
+    let given = Given {
+        each: whole.found.items(),
+        read: number,
+        ..freely(octets)
+    };
+    let end = beside(rt, alloc, &given);
+    if are_alike(alloc, &end, whole) {
         return None;
     }
+    let written = whole.found.get(end.found.len().saturating_sub(1)).copied();
     Some(
-        end.how == how
-            && end.entries <= whole.entries
-            && whole.written.items().starts_with(end.written.items()),
+        end.found.len() as u64 == number
+            && written == Some(end.written.len() as u64)
+            && is_broken_off(alloc, &end, whole, How::ReadFault),
     )
 }
 
-/// In how many of its reads, or else of its writes, a session can fail, each of which has to break it off. None: one doesn't.
-fn failing_calls<R: Threads + Wait + Abort + Copy + Drop>(
-    rt: R,
-    alloc: Global,
-    reads: bool,
-) -> Option<u64> {
-    let octets = sent(&rt, alloc, NARROW);
-    let good = without_feeders(octets.items());
-    let whole = alone(rt, alloc, &good);
-    for number in 1..MOST_CALLS {
-        let (given, how) = if reads {
-            (
-                Given {
-                    read: number,
-                    ..good
-                },
-                How::ReadFault,
-            )
-        } else {
-            (
-                Given {
-                    write: number,
-                    ..good
-                },
-                How::WriteFault,
-            )
-        };
-        match breaks_off(rt, alloc, &given, &whole, how) {
-            Some(true) => {}
-            Some(false) => return None,
-            None => return Some(number.saturating_sub(1)),
-        }
-    }
-    None
-}
-
-/// More than a session reads or writes.
+/// More than a session reads or writes, and fewer than it does.
 const MOST_CALLS: u64 = 200;
 
-/// The preface, 36 frames of a head and a payload, one of a head alone, and the end.
-const READS: u64 = 75;
-
-const WRITES: u64 = 70;
+const FEWEST_CALLS: u64 = 40;
 
 #[test]
-fn a_read_or_a_write_that_fails_ends_the_session(rt: HostRuntime) -> Result<(), Fail> {
+fn a_read_that_fails_ends_the_session_and_its_feeders(rt: HostRuntime) -> Result<(), Fail> {
     let alloc = rt.alloc();
-    let reads = failing_calls(rt, alloc, true);
-    assert!(rt; reads == Some(READS));
-    let writes = failing_calls(rt, alloc, false);
-    assert!(rt; writes == Some(WRITES));
-    Ok(())
-}
-
-/// 1000, and then each second.
-fn seconds(rt: &impl Abort, alloc: Global, count: u64) -> Seq<u64> {
-    let mut readings = Seq::of(alloc, &[1000]).expect(rt, "memory");
-    for second in 1..count {
-        readings
-            .push(second.saturating_mul(1_000_000_000))
-            .expect(rt, "memory");
+    let octets = sent(&rt, alloc, NARROW);
+    let whole = alone(rt, alloc, &freely(octets.items()));
+    for number in 1..MOST_CALLS {
+        match breaks_off_at_read(rt, alloc, octets.items(), &whole, number) {
+            Some(breaks) => assert!(rt; breaks, "read {number}"),
+            None => {
+                assert!(rt; number > FEWEST_CALLS);
+                return Ok(());
+            }
+        }
     }
-    readings
+    Err("each read fails".into())
 }
 
-/// What a session whose sink fails in the write with this number comes to. Its feeder runs until then.
-fn sampled<R: Threads + Wait + Abort + Copy + Drop>(rt: R, alloc: Global, number: u64) -> Outcome {
-    let octets = sent(&rt, alloc, SAMPLED);
-    let readings = seconds(&rt, alloc, MOST_CALLS);
+/// Whether a session whose sink fails in the write with this number broke off; None where it ended well.
+fn breaks_off_at_write<R: Threads + Wait + Abort + Copy + Drop + Send + Sync + 'static>(
+    rt: R,
+    alloc: Global,
+    octets: &[u8],
+    whole: &Outcome,
+    number: u64,
+) -> Option<bool> {
     let given = Given {
-        octets: octets.items(),
-        readings: readings.items(),
-        feeders: 1,
-        read: 0,
+        each: whole.found.items(),
         write: number,
+        ..freely(octets)
     };
-    beside(rt, alloc, &given)
-}
-
-/// Whether a session with a feeder has a fault of its sink, and one whose sink fails in the next write wrote this and more.
-fn goes_on(one: &Outcome, next: &Outcome) -> bool {
-    one.how == How::WriteFault
-        && one.written.len() < next.written.len()
-        && next.written.items().starts_with(one.written.items())
-}
-
-/// Whether it wrote a sample last, of the state that the Set made.
-fn has_sampled(end: &Outcome) -> bool {
-    end.how == How::WriteFault && end.entries == 1 && end.written.items().ends_with(SAMPLE)
+    let end = beside(rt, alloc, &given);
+    if are_alike(alloc, &end, whole) {
+        return None;
+    }
+    Some(is_broken_off(alloc, &end, whole, How::WriteFault))
 }
 
 #[test]
-fn a_feeder_says_what_its_call_asks_for_until_the_connection_ends(
-    rt: HostRuntime,
-) -> Result<(), Fail> {
+fn a_write_that_fails_ends_the_session_and_its_feeders(rt: HostRuntime) -> Result<(), Fail> {
     let alloc = rt.alloc();
-    for number in 1..20 {
-        let goes = goes_on(&sampled(rt, alloc, number), &sampled(rt, alloc, number + 1));
-        assert!(rt; goes, "write {number}");
+    let octets = sent(&rt, alloc, NARROW);
+    let whole = alone(rt, alloc, &freely(octets.items()));
+    for number in 1..MOST_CALLS {
+        match breaks_off_at_write(rt, alloc, octets.items(), &whole, number) {
+            Some(breaks) => assert!(rt; breaks, "write {number}"),
+            None => {
+                assert!(rt; number > FEWEST_CALLS);
+                return Ok(());
+            }
+        }
     }
-    assert!(rt; has_sampled(&sampled(rt, alloc, 20)));
-    Ok(())
+    Err("each write fails".into())
 }
