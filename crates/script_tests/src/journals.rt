@@ -3,9 +3,13 @@ use disk_model::read_whole;
 use edge_traits::{MemSink, MemSource};
 use memory_disks::{FuseDisk, NO_STOP};
 use std::alloc::Global;
+use std::collections::VecDeque;
 use std::process::Abort;
+use std::sync::Wait;
+use std::thread::Threads;
 use target_top::{DiskFile, Host, Kit, MemFiles, RunEnd, run};
-use time_traits::StepClock;
+use thread_traits::{MemDoor, MemStarter};
+use time_traits::{IdlePacer, StepClock};
 
 struct MemKit;
 
@@ -16,7 +20,11 @@ impl Kit for MemKit {
 
     type Output = MemSink;
 
+    type Door = MemDoor;
+
     type Clock = StepClock;
+
+    type Pacer = IdlePacer;
 }
 
 fn octets_of(rt: &impl Abort, alloc: Global, octets: &[u8]) -> Bytes {
@@ -35,7 +43,7 @@ fn words_of(rt: &impl Abort, alloc: Global, words: &str) -> Vec<String> {
 
 /// The status of a run with these words over the file J with these octets, whose disk stops after so many calls, what is
 /// printed, and the disk that is handed back.
-fn run_over<A: Abort>(
+fn run_over<A: Abort + Threads + Wait + Copy + Drop + Send + Sync + 'static>(
     rt: &A,
     alloc: Global,
     words: &str,
@@ -53,14 +61,16 @@ fn run_over<A: Abort>(
         files: MemFiles::of(Text::of(alloc, b"S").expect(rt, "a text"), None, Some(file)),
         input: MemSource::make(octets_of(rt, alloc, b""), Texts::empty(alloc)),
         output: MemSink::make(alloc, Texts::empty(alloc)),
+        door: MemDoor::make(VecDeque::new(alloc)),
         clock: StepClock::make(Seq::empty(alloc)),
+        pacer: IdlePacer,
     };
     let RunEnd {
         status,
         host,
         disk,
         ..
-    } = run(rt, alloc, words.as_slice(), host);
+    } = run(rt, alloc, words.as_slice(), &MemStarter::make(0), host);
     let Host { output, .. } = host;
     (status, output, disk)
 }
@@ -89,7 +99,7 @@ const MADE: &[(&str, &[u8])] = &[
 /// Whether a run with these words over these octets, whose disk stops after so many calls, prints this, ends so, and leaves
 /// these octets on the disk.
 fn leaves(
-    rt: &impl Abort,
+    rt: &(impl Abort + Threads + Wait + Copy + Drop + Send + Sync + 'static),
     alloc: Global,
     words: &str,
     octets: &[u8],
@@ -119,7 +129,7 @@ fn a_journal_is_made_on_an_empty_disk(rt: HostRuntime) {
 /// Whether a run with these words over these octets, whose disk stops after so many calls, ends with a fault of the disk, which
 /// is given or not.
 fn ends_with_5(
-    rt: &impl Abort,
+    rt: &(impl Abort + Threads + Wait + Copy + Drop + Send + Sync + 'static),
     alloc: Global,
     words: &str,
     octets: &[u8],

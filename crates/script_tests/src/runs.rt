@@ -5,10 +5,14 @@ use crate::examples::{HOSTNAME, HOSTNAME_PRINTED, SCHEMA};
 use base_lists::{Bytes, Seq, Text, Texts};
 use edge_traits::{Failed, InputRecord, MemSink, MemSource, Sink, Source};
 use std::alloc::Global;
+use std::collections::VecDeque;
 use std::process::Abort;
+use std::sync::Wait;
 use std::test::Fail;
+use std::thread::Threads;
 use target_top::{Host, Kit, MemFiles, RunEnd, run};
-use time_traits::StepClock;
+use thread_traits::{MemDoor, MemStarter};
+use time_traits::{IdlePacer, StepClock};
 
 /// A source that gives one octet at a time.
 #[derive(Drop)]
@@ -53,7 +57,11 @@ impl Kit for MemKit {
 
     type Output = MemSink;
 
+    type Door = MemDoor;
+
     type Clock = StepClock;
+
+    type Pacer = IdlePacer;
 }
 
 /// A source each of whose reads fails.
@@ -92,7 +100,11 @@ impl Kit for FailKit {
 
     type Output = MemSink;
 
+    type Door = MemDoor;
+
     type Clock = StepClock;
+
+    type Pacer = IdlePacer;
 }
 
 struct DripKit;
@@ -104,7 +116,11 @@ impl Kit for DripKit {
 
     type Output = Trickle;
 
+    type Door = MemDoor;
+
     type Clock = StepClock;
+
+    type Pacer = IdlePacer;
 }
 
 fn octets_of(rt: &impl Abort, alloc: Global, octets: &[u8]) -> Bytes {
@@ -142,7 +158,7 @@ fn files_of(rt: &impl Abort, alloc: Global, text: Option<&[u8]>) -> MemFiles {
 }
 
 /// What the words print over this input and this text of a file, and the status, where these writes fail.
-fn run_over<A: Abort>(
+fn run_over<A: Abort + Threads + Wait + Copy + Drop + Send + Sync + 'static>(
     rt: &A,
     alloc: Global,
     words: &str,
@@ -155,16 +171,18 @@ fn run_over<A: Abort>(
         files: files_of(rt, alloc, Some(schema.as_bytes())),
         input: MemSource::make(octets_of(rt, alloc, script), Texts::empty(alloc)),
         output: MemSink::make(alloc, numbers_of(rt, alloc, writes)),
+        door: MemDoor::make(VecDeque::new(alloc)),
         clock: StepClock::make(Seq::empty(alloc)),
+        pacer: IdlePacer,
     };
-    let RunEnd { status, host, .. } = run(rt, alloc, words.as_slice(), host);
+    let RunEnd { status, host, .. } = run(rt, alloc, words.as_slice(), &MemStarter::make(0), host);
     let Host { output, .. } = host;
     (status, output)
 }
 
 /// What the words print of the file's text over an input that fails at its first read, the status, and the faults of
 /// the files and of the input. With no text the file can't be read.
-fn fails_over<A: Abort>(
+fn fails_over<A: Abort + Threads + Wait + Copy + Drop + Send + Sync + 'static>(
     rt: &A,
     alloc: Global,
     words: &str,
@@ -176,9 +194,11 @@ fn fails_over<A: Abort>(
         files: files_of(rt, alloc, text),
         input: FailSource::make(),
         output: MemSink::make(alloc, numbers_of(rt, alloc, writes)),
+        door: MemDoor::make(VecDeque::new(alloc)),
         clock: StepClock::make(Seq::empty(alloc)),
+        pacer: IdlePacer,
     };
-    let RunEnd { status, host, .. } = run(rt, alloc, words.as_slice(), host);
+    let RunEnd { status, host, .. } = run(rt, alloc, words.as_slice(), &MemStarter::make(0), host);
     let Host {
         files,
         input,
@@ -189,7 +209,7 @@ fn fails_over<A: Abort>(
 }
 
 /// A script's run, octet by octet.
-fn drip_over<A: Abort>(
+fn drip_over<A: Abort + Threads + Wait + Copy + Drop + Send + Sync + 'static>(
     rt: &A,
     alloc: Global,
     script: &[u8],
@@ -205,9 +225,11 @@ fn drip_over<A: Abort>(
         output: Trickle {
             sink: MemSink::make(alloc, numbers_of(rt, alloc, writes)),
         },
+        door: MemDoor::make(VecDeque::new(alloc)),
         clock: StepClock::make(Seq::empty(alloc)),
+        pacer: IdlePacer,
     };
-    let RunEnd { status, host, .. } = run(rt, alloc, words.as_slice(), host);
+    let RunEnd { status, host, .. } = run(rt, alloc, words.as_slice(), &MemStarter::make(0), host);
     let Host { output, .. } = host;
     let Trickle { sink } = output;
     (status, sink)
@@ -215,7 +237,7 @@ fn drip_over<A: Abort>(
 
 /// Whether the words print this over this input and this text of a file, where these writes fail, and end so.
 fn prints(
-    rt: &impl Abort,
+    rt: &(impl Abort + Threads + Wait + Copy + Drop + Send + Sync + 'static),
     alloc: Global,
     words: &str,
     schema: &str,
@@ -231,7 +253,7 @@ fn prints(
 /// What the words print over an input that fails and this text of a file, where these writes fail, and the status with the
 /// faults of the files and of the input.
 fn fails_so(
-    rt: &impl Abort,
+    rt: &(impl Abort + Threads + Wait + Copy + Drop + Send + Sync + 'static),
     alloc: Global,
     words: &str,
     text: Option<&[u8]>,
@@ -245,7 +267,7 @@ fn fails_so(
 
 /// Whether a script's run, octet by octet, writes this where these reads and writes fail, and ends so.
 fn drips(
-    rt: &impl Abort,
+    rt: &(impl Abort + Threads + Wait + Copy + Drop + Send + Sync + 'static),
     alloc: Global,
     script: &str,
     reads: &[u64],

@@ -5,9 +5,13 @@ use edge_traits::{MemSink, MemSource};
 use memory_disks::{FuseDisk, NO_STOP};
 use session_core::How;
 use std::alloc::Global;
+use std::collections::VecDeque;
 use std::process::Abort;
+use std::sync::Wait;
+use std::thread::Threads;
 use target_top::{DiskFile, Host, Kit, MemFiles, RunEnd, run};
-use time_traits::StepClock;
+use thread_traits::{MemDoor, MemStarter};
+use time_traits::{IdlePacer, StepClock};
 
 struct MemKit;
 
@@ -18,7 +22,11 @@ impl Kit for MemKit {
 
     type Output = MemSink;
 
+    type Door = MemDoor;
+
     type Clock = StepClock;
+
+    type Pacer = IdlePacer;
 }
 
 /// What the files hold, what comes in, which writes fail, and after how many calls the disk stops.
@@ -84,7 +92,9 @@ fn host_of(rt: &impl Abort, alloc: Global, given: &Given<'_>) -> Host<MemKit> {
         files: MemFiles::of(text_of(rt, alloc, b"S"), schema, Some(disk)),
         input: MemSource::make(octets_of(rt, alloc, given.input), Texts::empty(alloc)),
         output: MemSink::make(alloc, failing(rt, alloc, given.write_fails)),
+        door: MemDoor::make(VecDeque::new(alloc)),
         clock: clock_of(rt, alloc),
+        pacer: IdlePacer,
     }
 }
 
@@ -100,7 +110,12 @@ fn held<A: Abort>(rt: &A, alloc: Global, disk: Option<FuseDisk>) -> Bytes {
 }
 
 /// A run with these words.
-pub(crate) fn run_with<A: Abort>(rt: &A, alloc: Global, words: &str, given: &Given<'_>) -> End {
+pub(crate) fn run_with<A: Abort + Threads + Wait + Copy + Drop + Send + Sync + 'static>(
+    rt: &A,
+    alloc: Global,
+    words: &str,
+    given: &Given<'_>,
+) -> End {
     let words = words_of(rt, alloc, words);
     let host = host_of(rt, alloc, given);
     let RunEnd {
@@ -108,7 +123,8 @@ pub(crate) fn run_with<A: Abort>(rt: &A, alloc: Global, words: &str, given: &Giv
         host,
         how,
         disk,
-    } = run(rt, alloc, words.as_slice(), host);
+        ..
+    } = run(rt, alloc, words.as_slice(), &MemStarter::make(0), host);
     let Host { output, .. } = host;
     End {
         status,

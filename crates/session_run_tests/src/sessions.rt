@@ -3,7 +3,9 @@ use memory_disks::NO_STOP;
 use session_core::How;
 use std::alloc::Global;
 use std::process::Abort;
+use std::sync::Wait;
 use std::test::Fail;
+use std::thread::Threads;
 
 /// A schema of three modules and 17 nodes.
 const SCHEMA: &[u8] =
@@ -85,7 +87,11 @@ const TABLE: &[Row] = &[
     (SCHEMA, b"GNMI", SET, false, 4, None, 0),
 ];
 
-fn row_holds(rt: &impl Abort, alloc: Global, row: &Row) -> bool {
+fn row_holds(
+    rt: &(impl Abort + Threads + Wait + Copy + Drop + Send + Sync + 'static),
+    alloc: Global,
+    row: &Row,
+) -> bool {
     let (schema, journal, input, write_fails, status, how, written) = *row;
     let given = Given {
         schema,

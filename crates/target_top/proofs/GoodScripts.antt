@@ -24,8 +24,8 @@ ran_lines schema limits before after status ran = record {
 }
 
 pub good_scripts_complete : CompletesGoodScripts
-good_scripts_complete words name limits before after returned how status is run quiet =
-    elim (scripts_complete words name limits before after returned how status is run quiet) [
+good_scripts_complete words name limits before after returned how links status is run quiet =
+    elim (scripts_complete words name limits before after returned how links status is run quiet) [
       | inl starved ↦ inl starved
       | inr ran ↦ inr (ran.0, ran.1, λ schema read. ran_lines schema limits before after status (subst (λ r. RanAs r limits before after status) read ran.2))
     ]

@@ -28,6 +28,7 @@ done_is endings.JournalDamaged is = absurd (omega (arith, is))
 done_is endings.DiskFault is = absurd (omega (arith, is))
 done_is endings.InputFault is = absurd (omega (arith, is))
 done_is endings.OutputFault is = absurd (omega (arith, is))
+done_is endings.DoorFault is = absurd (omega (arith, is))
 done_is endings.BadLine is = absurd (omega (arith, is))
 done_is endings.ConnectionBroken is = absurd (omega (arith, is))
 
@@ -83,6 +84,6 @@ script_kept name limits before after ending is (inr (inl fails)) = absurd (no_in
 script_kept name limits before after ending is (inr (inr out)) = absurd (no_memory ending is out.output.ends)
 
 pub scripts_are_kept : KeepsScripts
-scripts_are_kept words name limits before after returned how status is run good =
+scripts_are_kept words name limits before after returned how links status is run good =
     let kept = script_kept name limits before after run.ending (done_is run.ending (sym run.status_is ∙ good)) (run.done (Script name limits) is).0 in
     (kept.0, kept.1, kept.2.0, kept.2.1, kept.2.2)

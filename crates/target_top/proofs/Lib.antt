@@ -7,3 +7,8 @@ pub mod GoodScripts
 pub mod Sessions
 pub mod Loads
 pub mod KeptAnswers
+pub mod SeenLinks
+pub mod BookLeft
+pub mod NoBook
+pub mod ServeStages
+pub mod Crossing

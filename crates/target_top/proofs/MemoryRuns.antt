@@ -20,8 +20,9 @@ use Rattle.target_top.specs.declared.ending.Ending.TheVariants.{Done, NoSchema, 
 use Rattle.target_top.specs.declared.files_record.NamedText.{NamedText}
 use Rattle.target_top.specs.Ending.{exit_status}
 use Rattle.target_top.specs.Environment.{Environment, SeenDisk, GaveText, DiskAsk, GaveDisk, IsDiskOf, texts_of, files_after_disk, files_after_new_disk}
+use Rattle.target_top.specs.Links.{SeenLinks}
 use Rattle.target_top.specs.CheckRun.{Counts, count_line}
-use Rattle.target_top.specs.Commands.{Command, Check, Script, Init, Log, Session, Load, Help, Version, Gives, IsNoLoad, IsNoSession}
+use Rattle.target_top.specs.Commands.{Command, Check, Script, Init, Log, Session, Serve, Load, Help, Version, Gives, IsNoLoad, IsNoServe, IsNoSession}
 use Rattle.target_top.specs.InitRun.{PreparesDisk}
 use Rattle.target_top.specs.JournalFile.{DiskWork, OverDisk}
 use Rattle.target_top.specs.LogRun.{ListsDisk, damage_line}
@@ -29,6 +30,7 @@ use Rattle.target_top.specs.HelpRun.{help_text, version_text}
 use Rattle.target_top.specs.Run.{Run, Does}
 use Rattle.target_top.specs.SchemaFile.{fault_line, UnderText, UnderSchema}
 use Rattle.target_top.specs.ScriptRun.{RunsLines}
+use Rattle.target_top.specs.ServeCommand.{ServeCommand}
 use Rattle.target_top.specs.SessionCommand.{Streams, OnDisk, SessionCommand, streams_of}
 use Rattle.target_top.specs.laws.RunLaws.{WroteAndEnded, CheckedAs, RanAs, PreparedAs, ListedAs}
 use Rattle.target_top.specs.laws.MemoryRuns.{Memory, IsFreshMemory, IsInputOf, LosesNoOctet, WentWell, WroteAlike, RunsAlike}
@@ -103,19 +105,25 @@ session_loses_none octets schema journal before after returned how ending of (in
 session_loses_none octets schema journal before after returned how ending of (inr (inl stops)) = untouched octets before.input after.input (ap (λ (s : Streams). s.input) stops.nothing.streams) of
 session_loses_none octets schema journal before after returned how ending of (inr (inr stops)) = untouched octets before.input after.input (ap (λ (s : Streams). s.input) stops.nothing.streams) of
 
-command_loses_none : (octets : List ℕ) (command : Command) (before after : Environment) (returned : Option SeenDisk) (how : Option How) (ending : Ending) → IsInputOf octets before.input → Does command before after returned how ending → IsInputOf octets after.input
-command_loses_none octets (Check name) before after returned how ending of does = under_loses_none octets name before after ending (Counts before after ending) (λ schema counts. untouched octets before.input after.input counts.input of) of does.0
-command_loses_none octets (Script name limits) before after returned how ending of does = under_loses_none octets name before after ending (RunsLines limits before after ending) (λ schema lines. lines_lose_none octets limits before after ending schema of lines) of does.0
-command_loses_none octets (Init name limits) before after returned how ending of does = disk_loses_none octets files_after_new_disk name before after returned ending (PreparesDisk limits) of does
-command_loses_none octets (Log name) before after returned how ending of does = disk_loses_none octets files_after_disk name before after returned ending ListsDisk of does
-command_loses_none octets (Session schema journal) before after returned how ending of does = session_loses_none octets schema journal before after returned how ending of does
-command_loses_none octets (Load seed count) before after returned how ending of does = untouched octets before.input after.input does.0.input of
-command_loses_none octets Help before after returned how ending of does = untouched octets before.input after.input does.0.input of
-command_loses_none octets Version before after returned how ending of does = untouched octets before.input after.input does.0.input of
+serve_loses_none : (octets schema journal : List ℕ) (sessions : ℕ) (before after : Environment) (returned : Option SeenDisk) (links : SeenLinks) (ending : Ending) → IsInputOf octets before.input → ServeCommand schema journal sessions before after returned links ending → IsInputOf octets after.input
+serve_loses_none octets schema journal sessions before after returned links ending of (inl on) = untouched octets before.input after.input on.goes_on.input of
+serve_loses_none octets schema journal sessions before after returned links ending of (inr (inl stops)) = untouched octets before.input after.input (ap (λ (e : Environment). e.input) stops.nothing.rest) of
+serve_loses_none octets schema journal sessions before after returned links ending of (inr (inr stops)) = untouched octets before.input after.input (ap (λ (e : Environment). e.input) stops.nothing.rest) of
+
+command_loses_none : (octets : List ℕ) (command : Command) (before after : Environment) (returned : Option SeenDisk) (how : Option How) (links : SeenLinks) (ending : Ending) → IsInputOf octets before.input → Does command before after returned how links ending → IsInputOf octets after.input
+command_loses_none octets (Check name) before after returned how links ending of does = under_loses_none octets name before after ending (Counts before after ending) (λ schema counts. untouched octets before.input after.input counts.input of) of does.0
+command_loses_none octets (Script name limits) before after returned how links ending of does = under_loses_none octets name before after ending (RunsLines limits before after ending) (λ schema lines. lines_lose_none octets limits before after ending schema of lines) of does.0
+command_loses_none octets (Init name limits) before after returned how links ending of does = disk_loses_none octets files_after_new_disk name before after returned ending (PreparesDisk limits) of does
+command_loses_none octets (Log name) before after returned how links ending of does = disk_loses_none octets files_after_disk name before after returned ending ListsDisk of does
+command_loses_none octets (Session schema journal) before after returned how links ending of does = session_loses_none octets schema journal before after returned how ending of does
+command_loses_none octets (Serve schema journal address sessions) before after returned how links ending of does = serve_loses_none octets schema journal sessions before after returned links ending of does
+command_loses_none octets (Load seed count) before after returned how links ending of does = untouched octets before.input after.input does.0.input of
+command_loses_none octets Help before after returned how links ending of does = untouched octets before.input after.input does.0.input of
+command_loses_none octets Version before after returned how links ending of does = untouched octets before.input after.input does.0.input of
 
 pub loses_no_octet : LosesNoOctet
-loses_no_octet words octets before after returned how status (inl given) run of = command_loses_none octets given.0 before after returned how run.ending of (run.done given.0 given.1)
-loses_no_octet words octets before after returned how status (inr none) run of = untouched octets before.input after.input (run.refused none).input of
+loses_no_octet words octets before after returned how links status (inl given) run of = command_loses_none octets given.0 before after returned how links run.ending of (run.done given.0 given.1)
+loses_no_octet words octets before after returned how links status (inr none) run of = untouched octets before.input after.input (run.refused none).input of
 
 -- ---- equal objects
 
@@ -225,47 +233,48 @@ listed_alike octets initial initial' p q r s status status' holds also (inr one)
 held_disk : (memory : Memory) (ask : DiskAsk) (asked : List ℕ) (initial : SeenDisk) (a b : Environment) → IsFreshMemory memory a → GaveDisk ask asked initial a.files b.files → HoldsAll memory.disk initial.told
 held_disk memory ask asked initial a b fresh gave = disk_of_held memory.disk_name memory.disk asked initial.told a.files.disks_held (ap (λ f. f.disks_held) fresh.files) gave.held
 
-command_alike : (memory : Memory) (words : List (List ℕ)) (command : Command) (a b c d : Environment) (returned returned' : Option SeenDisk) (how how' : Option How) (status status' : ℕ) → IsNoSession words → IsNoLoad words → Gives words command → HaveNoStops memory.octets → IsFreshMemory memory a → IsFreshMemory memory c → Run words a b returned how status → Run words c d returned' how' status' → WentWell a b returned status → WentWell c d returned' status' → (written : List ℕ) × WroteBoth written a.output b.output c.output d.output status status'
-command_alike memory words (Check schema) a b c d returned returned' how how' status status' apart unloaded is none first second run also well fine =
-    elim (checks_complete words schema a b returned how status is run well.quiet) [
+command_alike : (memory : Memory) (words : List (List ℕ)) (command : Command) (a b c d : Environment) (returned returned' : Option SeenDisk) (how how' : Option How) (links links' : SeenLinks) (status status' : ℕ) → IsNoSession words → IsNoServe words → IsNoLoad words → Gives words command → HaveNoStops memory.octets → IsFreshMemory memory a → IsFreshMemory memory c → Run words a b returned how links status → Run words c d returned' how' links' status' → WentWell a b returned status → WentWell c d returned' status' → (written : List ℕ) × WroteBoth written a.output b.output c.output d.output status status'
+command_alike memory words (Check schema) a b c d returned returned' how how' links links' status status' apart unserved unloaded is none first second run also well fine =
+    elim (checks_complete words schema a b returned how links status is run well.quiet) [
       | inl starved ↦ absurd (well.memory starved)
-      | inr one ↦ elim (checks_complete words schema c d returned' how' status' is also fine.quiet) [
+      | inr one ↦ elim (checks_complete words schema c d returned' how' links' status' is also fine.quiet) [
         | inl starved ↦ absurd (fine.memory starved)
         | inr other ↦
             let same = same_text memory schema one.0 other.0 a b c d first second one.1 other.1 in
             checked_alike (schema_of one.0) a.output b.output c.output d.output status status' one.2 (subst (λ t. CheckedAs (schema_of t) c.output d.output status') same other.2)
       ]
     ]
-command_alike memory words (Script schema limits) a b c d returned returned' how how' status status' apart unloaded is none first second run also well fine =
-    elim (scripts_complete words schema limits a b returned how status is run well.quiet) [
+command_alike memory words (Script schema limits) a b c d returned returned' how how' links links' status status' apart unserved unloaded is none first second run also well fine =
+    elim (scripts_complete words schema limits a b returned how links status is run well.quiet) [
       | inl starved ↦ absurd (well.memory starved)
-      | inr one ↦ elim (scripts_complete words schema limits c d returned' how' status' is also fine.quiet) [
+      | inr one ↦ elim (scripts_complete words schema limits c d returned' how' links' status' is also fine.quiet) [
         | inl starved ↦ absurd (fine.memory starved)
         | inr other ↦
             let same = same_text memory schema one.0 other.0 a b c d first second one.1 other.1 in
             ran_alike (schema_of one.0) limits memory.octets a b c d status status' none (ap (λ (i : Input). i.left) first.input) (ap (λ (i : Input). i.left) second.input) one.2 (subst (λ t. RanAs (schema_of t) limits c d status') same other.2)
       ]
     ]
-command_alike memory words (Init journal limits) a b c d returned returned' how how' status status' apart unloaded is none first second run also well fine =
-    elim (inits_complete words journal limits a b returned how status is run well.quiet) [
+command_alike memory words (Init journal limits) a b c d returned returned' how how' links links' status status' apart unserved unloaded is none first second run also well fine =
+    elim (inits_complete words journal limits a b returned how links status is run well.quiet) [
       | inl starved ↦ absurd (well.memory starved)
-      | inr one ↦ elim (inits_complete words journal limits c d returned' how' status' is also fine.quiet) [
+      | inr one ↦ elim (inits_complete words journal limits c d returned' how' links' status' is also fine.quiet) [
         | inl starved ↦ absurd (fine.memory starved)
         | inr other ↦ prepared_alike limits memory.disk one.0 one.1 other.0 other.1 a.output b.output c.output d.output status status' (held_disk memory files_after_new_disk journal one.0 a b first one.2) (held_disk memory files_after_new_disk journal other.0 c d second other.2) one.4 other.4
       ]
     ]
-command_alike memory words (Log journal) a b c d returned returned' how how' status status' apart unloaded is none first second run also well fine =
-    elim (logs_complete words journal a b returned how status is run well.quiet) [
+command_alike memory words (Log journal) a b c d returned returned' how how' links links' status status' apart unserved unloaded is none first second run also well fine =
+    elim (logs_complete words journal a b returned how links status is run well.quiet) [
       | inl starved ↦ absurd (well.memory starved)
-      | inr one ↦ elim (logs_complete words journal c d returned' how' status' is also fine.quiet) [
+      | inr one ↦ elim (logs_complete words journal c d returned' how' links' status' is also fine.quiet) [
         | inl starved ↦ absurd (fine.memory starved)
         | inr other ↦ listed_alike memory.disk one.0 other.0 a.output b.output c.output d.output status status' (held_disk memory files_after_disk journal one.0 a b first one.2) (held_disk memory files_after_disk journal other.0 c d second other.2) one.5 other.5
       ]
     ]
-command_alike memory words (Session schema journal) a b c d returned returned' how how' status status' apart unloaded is none first second run also well fine = absurd (apart schema journal is)
-command_alike memory words (Load seed count) a b c d returned returned' how how' status status' apart unloaded is none first second run also well fine = absurd (unloaded seed count is)
-command_alike memory words Help a b c d returned returned' how how' status status' apart unloaded is none first second run also well fine = both_ended help_text (exit_status Done) a.output b.output c.output d.output status status' (help_completes words a b returned how status is run well.quiet) (help_completes words c d returned' how' status' is also fine.quiet)
-command_alike memory words Version a b c d returned returned' how how' status status' apart unloaded is none first second run also well fine = both_ended version_text (exit_status Done) a.output b.output c.output d.output status status' (version_completes words a b returned how status is run well.quiet) (version_completes words c d returned' how' status' is also fine.quiet)
+command_alike memory words (Session schema journal) a b c d returned returned' how how' links links' status status' apart unserved unloaded is none first second run also well fine = absurd (apart schema journal is)
+command_alike memory words (Serve schema journal address sessions) a b c d returned returned' how how' links links' status status' apart unserved unloaded is none first second run also well fine = absurd (unserved schema journal address sessions is)
+command_alike memory words (Load seed count) a b c d returned returned' how how' links links' status status' apart unserved unloaded is none first second run also well fine = absurd (unloaded seed count is)
+command_alike memory words Help a b c d returned returned' how how' links links' status status' apart unserved unloaded is none first second run also well fine = both_ended help_text (exit_status Done) a.output b.output c.output d.output status status' (help_completes words a b returned how links status is run well.quiet) (help_completes words c d returned' how' links' status' is also fine.quiet)
+command_alike memory words Version a b c d returned returned' how how' links links' status status' apart unserved unloaded is none first second run also well fine = both_ended version_text (exit_status Done) a.output b.output c.output d.output status status' (version_completes words a b returned how links status is run well.quiet) (version_completes words c d returned' how' links' status' is also fine.quiet)
 
 from_fresh : (text : List ℕ) (p q r s : Output) (status status' : ℕ) → p ≡ unwritten_output → r ≡ unwritten_output → WroteBoth text p q r s status status' → WroteAlike q s status status'
 from_fresh text p q r s status status' first second wrote = record {
@@ -276,9 +285,9 @@ from_fresh text p q r s status status' first second wrote = record {
 }
 
 pub runs_alike : RunsAlike
-runs_alike words memory a b c d returned returned' how how' status status' (inl given) apart unloaded none first second run also well fine =
-    let both = command_alike memory words given.0 a b c d returned returned' how how' status status' apart unloaded given.1 none first second run also well fine in
+runs_alike words memory a b c d returned returned' how how' links links' status status' (inl given) apart unserved unloaded none first second run also well fine =
+    let both = command_alike memory words given.0 a b c d returned returned' how how' links links' status status' apart unserved unloaded given.1 none first second run also well fine in
     from_fresh both.0 a.output b.output c.output d.output status status' first.output second.output both.1
-runs_alike words memory a b c d returned returned' how how' status status' (inr no_command) apart unloaded quiet first second run also well fine =
-    let both = both_ended (codes "bad words\n") _ a.output b.output c.output d.output status status' (refusals_complete words a b returned how status no_command run well.quiet) (refusals_complete words c d returned' how' status' no_command also fine.quiet) in
+runs_alike words memory a b c d returned returned' how how' links links' status status' (inr no_command) apart unserved unloaded quiet first second run also well fine =
+    let both = both_ended (codes "bad words\n") _ a.output b.output c.output d.output status status' (refusals_complete words a b returned how links status no_command run well.quiet) (refusals_complete words c d returned' how' links' status' no_command also fine.quiet) in
     from_fresh both.0 a.output b.output c.output d.output status status' first.output second.output both.1

@@ -49,7 +49,7 @@ under_schema name before after returned ending status Then By by_schema by_fault
 under_schema name before after returned ending status Then By by_schema by_fault quiet is (inr (inr out)) = inl (is ∙ ap (λ (e : Ending). exit_status e) out.output.ends)
 
 pub checks_complete : CompletesChecks
-checks_complete words name before after returned how status is run quiet = under_schema name before after returned run.ending status (Counts before after run.ending) (λ read. CheckedAs read before.output after.output status) (λ schema counts. made_whole (count_line schema) Done run.ending before.output after.output status quiet.output run.status_is counts.output) (λ fault whole. whole) quiet run.status_is (run.done (Check name) is).0
+checks_complete words name before after returned how links status is run quiet = under_schema name before after returned run.ending status (Counts before after run.ending) (λ read. CheckedAs read before.output after.output status) (λ schema counts. made_whole (count_line schema) Done run.ending before.output after.output status quiet.output run.status_is counts.output) (λ fault whole. whole) quiet run.status_is (run.done (Check name) is).0
 
 lines_complete : (limits : Limits) (before after : Environment) (returned : Option SeenDisk) (ending : Ending) (status : ℕ) → NothingFailed before after returned → status ≡ exit_status ending → (schema : List SchemaNode) → RunsLines limits before after ending schema → (status ≡ exit_status NoMemory) ⊎ RanAs (Ok schema) limits before after status
 lines_complete limits before after returned ending status quiet is schema (inl answers) = inr (
@@ -70,7 +70,7 @@ lines_complete limits before after returned ending status quiet is schema (inr (
 lines_complete limits before after returned ending status quiet is schema (inr (inr out)) = inl (is ∙ ap (λ (e : Ending). exit_status e) out.output.ends)
 
 pub scripts_complete : CompletesScripts
-scripts_complete words name limits before after returned how status is run quiet = under_schema name before after returned run.ending status (RunsLines limits before after run.ending) (λ read. RanAs read limits before after status) (lines_complete limits before after returned run.ending status quiet run.status_is) (λ fault whole. whole) quiet run.status_is (run.done (Script name limits) is).0
+scripts_complete words name limits before after returned how links status is run quiet = under_schema name before after returned run.ending status (RunsLines limits before after run.ending) (λ read. RanAs read limits before after status) (lines_complete limits before after returned run.ending status quiet run.status_is) (λ fault whole. whole) quiet run.status_is (run.done (Script name limits) is).0
 
 -- a disk that is handed back without a fault didn't fail
 quiet_disk : (returned : Option SeenDisk) (disk : SeenDisk) → returned ≡ Some disk → IfSome returned (λ d. d.faults ≡ 0) → disk.faults ≡ 0
@@ -95,7 +95,7 @@ init_complete name limits before after returned ending status quiet is (inl with
 init_complete name limits before after returned ending status quiet is (inr none) = absurd (one_more_is_more before.files.disk_faults after.files.disk_faults quiet.disks (ap (λ (f : SeenFiles). f.disk_faults) none.files))
 
 pub inits_complete : CompletesInits
-inits_complete words name limits before after returned how status is run quiet = init_complete name limits before after returned run.ending status quiet run.status_is (run.done (Init name limits) is)
+inits_complete words name limits before after returned how links status is run quiet = init_complete name limits before after returned run.ending status quiet run.status_is (run.done (Init name limits) is)
 
 listed : (initial final : SeenDisk) (returned : Option SeenDisk) (old new : Output) (ending : Ending) (status : ℕ) → new.faults ≡ old.faults → returned ≡ Some final → IfSome returned (λ d. d.faults ≡ 0) → status ≡ exit_status ending → ListsDisk initial final old new ending → (status ≡ exit_status NoMemory) ⊎ (OnlySynced initial final × ListedAs initial old new status)
 listed initial final returned old new ending status quiet returned_is good is (inl (synced, inl history)) = inr (synced, inl (history.limits, history.history, history.journal, printed_whole (log_text history.history) Done ending old new status quiet is history.output))
@@ -112,7 +112,7 @@ log_complete name before after returned ending status quiet is (inl with) =
 log_complete name before after returned ending status quiet is (inr none) = absurd (one_more_is_more before.files.disk_faults after.files.disk_faults quiet.disks (ap (λ (f : SeenFiles). f.disk_faults) none.files))
 
 pub logs_complete : CompletesLogs
-logs_complete words name before after returned how status is run quiet = log_complete name before after returned run.ending status quiet run.status_is (run.done (Log name) is)
+logs_complete words name before after returned how links status is run quiet = log_complete name before after returned run.ending status quiet run.status_is (run.done (Log name) is)
 
 -- what is left behind what was read is nothing, or follows the limit
 what_follows : (script all : List ℕ) (old new : Option (List ℕ)) → Consumes old new script → old ≡ Some all → IsAtEnd new ⊎ (length script ≡ most_script_octets + 1) → (more : List ℕ) × (all ≡ script ++ more) × ((more ≡ []) ⊎ (length script ≡ most_script_octets + 1))

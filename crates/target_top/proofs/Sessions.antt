@@ -2,6 +2,9 @@
 use Rattle.std.proofs.Common.{◌≡◌, ℕ, ◌+◌, ◌-◌, ◌≤◌, List, [], ◌∷◌, ◌++◌, true, length, drop, Option, Some, None, inl, inr, refl, sym, ap, ◌∙◌, subst, arith}
 use Rattle.base_kinds.specs.declared.entry.Entry.{Entry}
 use Rattle.base_kinds.specs.Schema.{SchemaNode}
+use Rattle.edge_traits.specs.Input.{Input}
+use Rattle.edge_traits.specs.Output.{Output}
+use Rattle.thread_traits.specs.Doors.{DoorView}
 use Rattle.disk_model.specs.Content.{Content}
 use Rattle.disk_model.specs.Moments.{LeavesNow}
 use Rattle.commit_journal.specs.Images.{IsJournalOr}
@@ -20,7 +23,7 @@ use Rattle.target_top.specs.declared.ending.Ending.{Ending}
 use Rattle.target_top.specs.declared.ending.Ending.TheVariants.{DiskFault}
 use Rattle.target_top.specs.Environment.{Environment, SeenDisk, SeenFiles, GaveDisk, seen_disk, files_after_disk}
 use Rattle.target_top.specs.SchemaGiven.{GaveSchema}
-use Rattle.target_top.specs.SessionCommand.{Streams, IsLeft, OnDisk, OpensNone, SessionCommand, after_reading, ending_of, first_port, opened, streams_of}
+use Rattle.target_top.specs.SessionCommand.{Streams, FailsToOpen, IsLeft, OnDisk, OpensNone, SessionCommand, after_reading, ending_of, first_port, opened, streams_of}
 use Rattle.target_top.specs.inner.ServedBook.{Served, environment_of}
 
 few_marks : (before all earlier faults : ℕ) → before + all ≤ faults → all - earlier ≤ faults
@@ -76,7 +79,7 @@ same_port o o' h h' made marks faults faults' p q r s t =
     ap (λ x. port_with x h made marks faults) p ∙ ap (λ x. port_with o' x made marks faults) q ∙ ap (λ x. port_with o' h' x marks faults) r
     ∙ ap (λ x. port_with o' h' [] x faults) s ∙ ap (λ x. port_with o' h' [] 0 x) t
 
-of_entered : (entries : List Entry) → history_of (entered entries) ≡ entries
+pub of_entered : (entries : List Entry) → history_of (entered entries) ≡ entries
 of_entered [] = refl
 of_entered (entry ∷ entries) = ap (λ es. entry ∷ es) (of_entered entries)
 
@@ -113,15 +116,18 @@ serves_one told faults fuse disk final schema now book old read new how ending r
     }
 
 -- an opening that a fault of the disk ended
-pub fails_to_open : {D : Type 0} (told : D → Option Content) (faults : D → ℕ) (fuse : D → Fuse) (disk left : D) (schema : List SchemaNode) (now : ℕ) → IsFaulty told faults fuse disk schema now left → OpensNone schema now (seen_disk told faults disk) (seen_disk told faults left) DiskFault
-fails_to_open told faults fuse disk left schema now faulty = inr (inr (inl (record {
-  is = refl;
+pub fault_found : {D : Type 0} (told : D → Option Content) (faults : D → ℕ) (fuse : D → Fuse) (disk left : D) (schema : List SchemaNode) (now : ℕ) (ending : Ending) → ending ≡ DiskFault → IsFaulty told faults fuse disk schema now left → FailsToOpen schema now (seen_disk told faults disk) (seen_disk told faults left) ending
+fault_found told faults fuse disk left schema now ending is faulty = record {
+  is = is;
   fault = faulty.rose;
   content = elim faulty.cause [
     | inl unread ↦ elim unread.moments [ inl same ↦ inl same | inr synced ↦ inr (inl synced) ]
     | inr cut ↦ inr (inr (record { limits = cut.limits; found = cut.found; has_journal = cut.has_journal; was_open = cut.was_open; moments = cut.moments }))
   ];
-})))
+}
+
+pub fails_to_open : {D : Type 0} (told : D → Option Content) (faults : D → ℕ) (fuse : D → Fuse) (disk left : D) (schema : List SchemaNode) (now : ℕ) → IsFaulty told faults fuse disk schema now left → OpensNone schema now (seen_disk told faults disk) (seen_disk told faults left) DiskFault
+fails_to_open told faults fuse disk left schema now faulty = inr (inr (inl (fault_found told faults fuse disk left schema now DiskFault refl faulty)))
 
 pub serves_none : (schema : List SchemaNode) (now : ℕ) (initial final : SeenDisk) (old new : Streams) (how : Option How) (ending : Ending) → OpensNone schema now initial final ending → new ≡ after_reading now old → how ≡ None → OnDisk schema initial final old new how ending
 serves_none schema now initial final old new how ending none streams how_is = record {
@@ -130,8 +136,8 @@ serves_none schema now initial final old new how ending none streams how_is = re
 }
 
 -- both files were given
-pub on_disk : (schema_name journal_name : List ℕ) (schema : List SchemaNode) (before : Environment) (between files : SeenFiles) (streams : Streams) (initial final : SeenDisk) (how : Option How) (ending : Ending) → GaveSchema schema_name schema before.files between → GaveDisk files_after_disk journal_name initial between files → OnDisk schema initial final (streams_of before) streams how ending → SessionCommand schema_name journal_name before (environment_of files streams) (Some final) how ending
-on_disk schema_name journal_name schema before between files streams initial final how ending gave given on = inl (record {
+pub on_disk : (schema_name journal_name : List ℕ) (schema : List SchemaNode) (before : Environment) (between files : SeenFiles) (streams : Streams) (door : DoorView Input Output) (initial final : SeenDisk) (how : Option How) (ending : Ending) → GaveSchema schema_name schema before.files between → GaveDisk files_after_disk journal_name initial between files → OnDisk schema initial final (streams_of before) streams how ending → SessionCommand schema_name journal_name before (environment_of files streams door) (Some final) how ending
+on_disk schema_name journal_name schema before between files streams door initial final how ending gave given on = inl (record {
   schema = schema;
   between = between;
   gave_schema = gave;

@@ -12,11 +12,11 @@ use Rattle.target_top.specs.laws.WordLaws.{CompletesHelp, CompletesVersion, Comp
 use Rattle.target_top.proofs.RunLaws.{one_more_is_more, printed_whole}
 
 pub help_completes : CompletesHelp
-help_completes words before after returned how status is run quiet =
+help_completes words before after returned how links status is run quiet =
     printed_whole help_text Done run.ending before.output after.output status quiet.output run.status_is (run.done Help is).0.output
 
 pub version_completes : CompletesVersion
-version_completes words before after returned how status is run quiet =
+version_completes words before after returned how links status is run quiet =
     printed_whole version_text Done run.ending before.output after.output status quiet.output run.status_is (run.done Version is).0.output
 
 -- a last line was written whole where the output didn't fail
@@ -25,6 +25,6 @@ said_whole line old new good status quiet is (inl whole) = (whole, is)
 said_whole line old new good status quiet is (inr broken) = absurd (one_more_is_more old.faults new.faults quiet (ap (λ (o : Output). o.faults) broken.2))
 
 pub refusals_complete : CompletesRefusals
-refusals_complete words before after returned how status none run quiet =
+refusals_complete words before after returned how links status none run quiet =
     let refuses = run.refused none in
     said_whole (codes "bad words\n") before.output after.output _ status quiet.output (run.status_is ∙ ap (λ (e : Ending). exit_status e) refuses.ends) refuses.line

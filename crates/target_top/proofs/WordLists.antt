@@ -6,7 +6,8 @@ use Rattle.base_kinds.specs.declared.entry.Limits.{Limits}
 use Rattle.session_core.specs.declared.how.How.{How}
 use Rattle.target_top.specs.declared.ending.Ending.{Ending}
 use Rattle.target_top.specs.Environment.{Environment, SeenDisk}
-use Rattle.target_top.specs.Commands.{Command, Check, Script, Init, Log, Session, Load, Help, Version, AreLimits, IsName, IsNameWithLimits, IsScript, IsInit, IsCheck, IsLog, IsNoLoad, IsNoSession, Gives, GivesNone}
+use Rattle.target_top.specs.Commands.{Command, Check, Script, Init, Log, Session, Serve, Load, Help, Version, AreLimits, IsName, IsNameWithLimits, IsScript, IsInit, IsCheck, IsLog, IsNoLoad, IsNoServe, IsNoSession, Gives, GivesNone}
+use Rattle.target_top.specs.Links.{SeenLinks}
 use Rattle.target_top.specs.Run.{Does}
 
 pub one_word : {W : Type 0} (text : W → List ℕ) (words : List W) (word : W) → 1 ≤ length words → length words < 2 → word ≡ get_or words 0 word → map text words ≡ text word ∷ []
@@ -47,6 +48,33 @@ four_words text (w ∷ x ∷ y ∷ z ∷ []) a b c d some few p q r s =
     ap (λ t. text t ∷ text x ∷ text y ∷ text z ∷ []) (sym p) ∙ ap (λ t. text a ∷ text t ∷ text y ∷ text z ∷ []) (sym q)
     ∙ ap (λ t. text a ∷ text b ∷ text t ∷ text z ∷ []) (sym r) ∙ ap (λ t. text a ∷ text b ∷ text c ∷ text t ∷ []) (sym s)
 four_words text (v ∷ w ∷ x ∷ y ∷ z ∷ others) a b c d some few p q r s = absurd (omega (arith, few))
+
+second_of_five : (a b c d e p q r s t : List ℕ) → a ∷ b ∷ c ∷ d ∷ e ∷ [] ≡ p ∷ q ∷ r ∷ s ∷ t ∷ [] → b ≡ q
+second_of_five a b c d e p q r s t is = cc
+
+third_of_five : (a b c d e p q r s t : List ℕ) → a ∷ b ∷ c ∷ d ∷ e ∷ [] ≡ p ∷ q ∷ r ∷ s ∷ t ∷ [] → c ≡ r
+third_of_five a b c d e p q r s t is = cc
+
+fourth_of_five : (a b c d e p q r s t : List ℕ) → a ∷ b ∷ c ∷ d ∷ e ∷ [] ≡ p ∷ q ∷ r ∷ s ∷ t ∷ [] → d ≡ s
+fourth_of_five a b c d e p q r s t is = cc
+
+pub last_of_five : (a b c d e p q r s t : List ℕ) → a ∷ b ∷ c ∷ d ∷ e ∷ [] ≡ p ∷ q ∷ r ∷ s ∷ t ∷ [] → e ≡ t
+last_of_five a b c d e p q r s t is = cc
+
+pub first_of_five : (a b c d e p q r s t : List ℕ) → a ∷ b ∷ c ∷ d ∷ e ∷ [] ≡ p ∷ q ∷ r ∷ s ∷ t ∷ [] → a ≡ p
+first_of_five a b c d e p q r s t is = cc
+
+pub five_words : {W : Type 0} (text : W → List ℕ) (words : List W) (a b c d e : W) → 5 ≤ length words → length words < 6 → a ≡ get_or words 0 a → b ≡ get_or words 1 b → c ≡ get_or words 2 c → d ≡ get_or words 3 d → e ≡ get_or words 4 e → map text words ≡ text a ∷ text b ∷ text c ∷ text d ∷ text e ∷ []
+five_words text [] a b c d e some few p q r s t = absurd (omega (arith, some))
+five_words text (v ∷ []) a b c d e some few p q r s t = absurd (omega (arith, some))
+five_words text (v ∷ w ∷ []) a b c d e some few p q r s t = absurd (omega (arith, some))
+five_words text (v ∷ w ∷ x ∷ []) a b c d e some few p q r s t = absurd (omega (arith, some))
+five_words text (v ∷ w ∷ x ∷ y ∷ []) a b c d e some few p q r s t = absurd (omega (arith, some))
+five_words text (v ∷ w ∷ x ∷ y ∷ z ∷ []) a b c d e some few p q r s t = cc
+five_words text (u ∷ v ∷ w ∷ x ∷ y ∷ z ∷ others) a b c d e some few p q r s t = absurd (omega (arith, few))
+
+pub five_are : (a b c d e p q r s t : List ℕ) → a ≡ p → b ≡ q → c ≡ r → d ≡ s → e ≡ t → a ∷ b ∷ c ∷ d ∷ e ∷ [] ≡ p ∷ q ∷ r ∷ s ∷ t ∷ []
+five_are a b c d e p q r s t f g h i j = cc
 
 pub four_are : (a b c d p q r s : List ℕ) → a ≡ p → b ≡ q → c ≡ r → d ≡ s → a ∷ b ∷ c ∷ d ∷ [] ≡ p ∷ q ∷ r ∷ s ∷ []
 four_are a b c d p q r s e f g h = cc
@@ -124,15 +152,16 @@ same_form word words name other limits others (inr p) (inr q) =
     (second_of_four _ _ _ _ _ _ _ _ both, same_limits limits others entries octets)
 
 -- words that are of no form give no command
-pub gives_none : (words : List (List ℕ)) → ((name : List ℕ) (limits : Limits) → IsScript words name limits → ⊥) → ((name : List ℕ) (limits : Limits) → IsInit words name limits → ⊥) → ((name : List ℕ) → IsCheck words name → ⊥) → ((name : List ℕ) → IsLog words name → ⊥) → IsNoSession words → IsNoLoad words → (words ≡ codes "--help" ∷ [] → ⊥) → (words ≡ codes "--version" ∷ [] → ⊥) → GivesNone words
-gives_none words no_script no_init no_check no_log no_session no_load no_help no_version (Check name) is = no_check name is
-gives_none words no_script no_init no_check no_log no_session no_load no_help no_version (Script name limits) is = no_script name limits is
-gives_none words no_script no_init no_check no_log no_session no_load no_help no_version (Init name limits) is = no_init name limits is
-gives_none words no_script no_init no_check no_log no_session no_load no_help no_version (Log name) is = no_log name is
-gives_none words no_script no_init no_check no_log no_session no_load no_help no_version (Session schema journal) is = no_session schema journal is
-gives_none words no_script no_init no_check no_log no_session no_load no_help no_version (Load seed count) is = no_load seed count is
-gives_none words no_script no_init no_check no_log no_session no_load no_help no_version Help is = no_help is
-gives_none words no_script no_init no_check no_log no_session no_load no_help no_version Version is = no_version is
+pub gives_none : (words : List (List ℕ)) → ((name : List ℕ) (limits : Limits) → IsScript words name limits → ⊥) → ((name : List ℕ) (limits : Limits) → IsInit words name limits → ⊥) → ((name : List ℕ) → IsCheck words name → ⊥) → ((name : List ℕ) → IsLog words name → ⊥) → IsNoSession words → IsNoServe words → IsNoLoad words → (words ≡ codes "--help" ∷ [] → ⊥) → (words ≡ codes "--version" ∷ [] → ⊥) → GivesNone words
+gives_none words no_script no_init no_check no_log no_session no_serve no_load no_help no_version (Check name) is = no_check name is
+gives_none words no_script no_init no_check no_log no_session no_serve no_load no_help no_version (Script name limits) is = no_script name limits is
+gives_none words no_script no_init no_check no_log no_session no_serve no_load no_help no_version (Init name limits) is = no_init name limits is
+gives_none words no_script no_init no_check no_log no_session no_serve no_load no_help no_version (Log name) is = no_log name is
+gives_none words no_script no_init no_check no_log no_session no_serve no_load no_help no_version (Session schema journal) is = no_session schema journal is
+gives_none words no_script no_init no_check no_log no_session no_serve no_load no_help no_version (Serve schema journal address sessions) is = no_serve schema journal address sessions is
+gives_none words no_script no_init no_check no_log no_session no_serve no_load no_help no_version (Load seed count) is = no_load seed count is
+gives_none words no_script no_init no_check no_log no_session no_serve no_load no_help no_version Help is = no_help is
+gives_none words no_script no_init no_check no_log no_session no_serve no_load no_help no_version Version is = no_version is
 
 -- a number that tells the first words of the forms apart: how many octets it has and its first one, added up
 abbrev word_key : List (List ℕ) → ℕ
@@ -149,6 +178,7 @@ key (Script name limits) = 121
 key (Init name limits) = 109
 key (Log name) = 111
 key (Session schema journal) = 122
+key (Serve schema journal address sessions) = 120
 key (Load seed count) = 112
 key Help = 51
 key Version = 54
@@ -159,6 +189,7 @@ has_key words (Script name limits) is = with_limits (codes "script") words name 
 has_key words (Init name limits) is = with_limits (codes "init") words name limits is
 has_key words (Log name) is = ap (λ ws. word_key ws) is
 has_key words (Session schema journal) is = ap (λ ws. word_key ws) is
+has_key words (Serve schema journal address sessions) is = ap (λ ws. word_key ws) is.words_are
 has_key words (Load seed count) is = ap (λ ws. word_key ws) is.words_are
 has_key words Help is = ap (λ ws. word_key ws) is
 has_key words Version is = ap (λ ws. word_key ws) is
@@ -179,6 +210,7 @@ one_command words (Check name) (Script other others) is also = absurd (apart 104
 one_command words (Check name) (Init other others) is also = absurd (apart 104 109 (omega arith) (one_key words (Check name) (Init other others) is also))
 one_command words (Check name) (Log other) is also = absurd (apart 104 111 (omega arith) (one_key words (Check name) (Log other) is also))
 one_command words (Check name) (Session schema journal) is also = absurd (apart 104 122 (omega arith) (one_key words (Check name) (Session schema journal) is also))
+one_command words (Check name) (Serve schema journal address sessions) is also = absurd (apart 104 120 (omega arith) (one_key words (Check name) (Serve schema journal address sessions) is also))
 one_command words (Check name) (Load seed count) is also = absurd (apart 104 112 (omega arith) (one_key words (Check name) (Load seed count) is also))
 one_command words (Check name) Help is also = absurd (apart' 104 51 (omega arith) (one_key words (Check name) Help is also))
 one_command words (Check name) Version is also = absurd (apart' 104 54 (omega arith) (one_key words (Check name) Version is also))
@@ -189,6 +221,7 @@ one_command words (Script name limits) (Script other others) is also =
 one_command words (Script name limits) (Init other others) is also = absurd (apart' 121 109 (omega arith) (one_key words (Script name limits) (Init other others) is also))
 one_command words (Script name limits) (Log other) is also = absurd (apart' 121 111 (omega arith) (one_key words (Script name limits) (Log other) is also))
 one_command words (Script name limits) (Session schema journal) is also = absurd (apart 121 122 (omega arith) (one_key words (Script name limits) (Session schema journal) is also))
+one_command words (Script name limits) (Serve schema journal address sessions) is also = absurd (apart' 121 120 (omega arith) (one_key words (Script name limits) (Serve schema journal address sessions) is also))
 one_command words (Script name limits) (Load seed count) is also = absurd (apart' 121 112 (omega arith) (one_key words (Script name limits) (Load seed count) is also))
 one_command words (Script name limits) Help is also = absurd (apart' 121 51 (omega arith) (one_key words (Script name limits) Help is also))
 one_command words (Script name limits) Version is also = absurd (apart' 121 54 (omega arith) (one_key words (Script name limits) Version is also))
@@ -199,6 +232,7 @@ one_command words (Init name limits) (Init other others) is also =
     ap (λ n. Init n limits) same.0 ∙ ap (λ l. Init other l) same.1
 one_command words (Init name limits) (Log other) is also = absurd (apart 109 111 (omega arith) (one_key words (Init name limits) (Log other) is also))
 one_command words (Init name limits) (Session schema journal) is also = absurd (apart 109 122 (omega arith) (one_key words (Init name limits) (Session schema journal) is also))
+one_command words (Init name limits) (Serve schema journal address sessions) is also = absurd (apart 109 120 (omega arith) (one_key words (Init name limits) (Serve schema journal address sessions) is also))
 one_command words (Init name limits) (Load seed count) is also = absurd (apart 109 112 (omega arith) (one_key words (Init name limits) (Load seed count) is also))
 one_command words (Init name limits) Help is also = absurd (apart' 109 51 (omega arith) (one_key words (Init name limits) Help is also))
 one_command words (Init name limits) Version is also = absurd (apart' 109 54 (omega arith) (one_key words (Init name limits) Version is also))
@@ -207,6 +241,7 @@ one_command words (Log name) (Script other others) is also = absurd (apart 111 1
 one_command words (Log name) (Init other others) is also = absurd (apart' 111 109 (omega arith) (one_key words (Log name) (Init other others) is also))
 one_command words (Log name) (Log other) is also = ap (λ n. Log n) (second_of_two _ _ _ _ (sym is ∙ also))
 one_command words (Log name) (Session schema journal) is also = absurd (apart 111 122 (omega arith) (one_key words (Log name) (Session schema journal) is also))
+one_command words (Log name) (Serve schema journal address sessions) is also = absurd (apart 111 120 (omega arith) (one_key words (Log name) (Serve schema journal address sessions) is also))
 one_command words (Log name) (Load seed count) is also = absurd (apart 111 112 (omega arith) (one_key words (Log name) (Load seed count) is also))
 one_command words (Log name) Help is also = absurd (apart' 111 51 (omega arith) (one_key words (Log name) Help is also))
 one_command words (Log name) Version is also = absurd (apart' 111 54 (omega arith) (one_key words (Log name) Version is also))
@@ -217,14 +252,29 @@ one_command words (Session schema journal) (Log other) is also = absurd (apart' 
 one_command words (Session schema journal) (Session other others) is also =
     let both = sym is ∙ also in
     ap (λ n. Session n journal) (second_of_three _ _ _ _ _ _ both) ∙ ap (λ n. Session other n) (third_of_three _ _ _ _ _ _ both)
+one_command words (Session schema journal) (Serve other others address sessions) is also = absurd (apart' 122 120 (omega arith) (one_key words (Session schema journal) (Serve other others address sessions) is also))
 one_command words (Session schema journal) (Load seed count) is also = absurd (apart' 122 112 (omega arith) (one_key words (Session schema journal) (Load seed count) is also))
 one_command words (Session schema journal) Help is also = absurd (apart' 122 51 (omega arith) (one_key words (Session schema journal) Help is also))
 one_command words (Session schema journal) Version is also = absurd (apart' 122 54 (omega arith) (one_key words (Session schema journal) Version is also))
+one_command words (Serve schema journal address sessions) (Check other) is also = absurd (apart' 120 104 (omega arith) (one_key words (Serve schema journal address sessions) (Check other) is also))
+one_command words (Serve schema journal address sessions) (Script other others) is also = absurd (apart 120 121 (omega arith) (one_key words (Serve schema journal address sessions) (Script other others) is also))
+one_command words (Serve schema journal address sessions) (Init other others) is also = absurd (apart' 120 109 (omega arith) (one_key words (Serve schema journal address sessions) (Init other others) is also))
+one_command words (Serve schema journal address sessions) (Log other) is also = absurd (apart' 120 111 (omega arith) (one_key words (Serve schema journal address sessions) (Log other) is also))
+one_command words (Serve schema journal address sessions) (Session other others) is also = absurd (apart 120 122 (omega arith) (one_key words (Serve schema journal address sessions) (Session other others) is also))
+one_command words (Serve schema journal address sessions) (Serve schema' journal' address' sessions') is also =
+    let both = sym is.words_are ∙ also.words_are in
+    let count = decimal_injective sessions sessions' (omega (arith, is.few)) (omega (arith, also.few)) (last_of_five _ _ _ _ _ _ _ _ _ _ both) in
+    ap (λ n. Serve n journal address sessions) (second_of_five _ _ _ _ _ _ _ _ _ _ both) ∙ ap (λ n. Serve schema' n address sessions) (third_of_five _ _ _ _ _ _ _ _ _ _ both)
+    ∙ ap (λ n. Serve schema' journal' n sessions) (fourth_of_five _ _ _ _ _ _ _ _ _ _ both) ∙ ap (λ n. Serve schema' journal' address' n) count
+one_command words (Serve schema journal address sessions) (Load seed count) is also = absurd (apart' 120 112 (omega arith) (one_key words (Serve schema journal address sessions) (Load seed count) is also))
+one_command words (Serve schema journal address sessions) Help is also = absurd (apart' 120 51 (omega arith) (one_key words (Serve schema journal address sessions) Help is also))
+one_command words (Serve schema journal address sessions) Version is also = absurd (apart' 120 54 (omega arith) (one_key words (Serve schema journal address sessions) Version is also))
 one_command words (Load seed count) (Check other) is also = absurd (apart' 112 104 (omega arith) (one_key words (Load seed count) (Check other) is also))
 one_command words (Load seed count) (Script other others) is also = absurd (apart 112 121 (omega arith) (one_key words (Load seed count) (Script other others) is also))
 one_command words (Load seed count) (Init other others) is also = absurd (apart' 112 109 (omega arith) (one_key words (Load seed count) (Init other others) is also))
 one_command words (Load seed count) (Log other) is also = absurd (apart' 112 111 (omega arith) (one_key words (Load seed count) (Log other) is also))
 one_command words (Load seed count) (Session schema journal) is also = absurd (apart 112 122 (omega arith) (one_key words (Load seed count) (Session schema journal) is also))
+one_command words (Load seed count) (Serve schema journal address sessions) is also = absurd (apart 112 120 (omega arith) (one_key words (Load seed count) (Serve schema journal address sessions) is also))
 one_command words (Load seed count) (Load other others) is also =
     let both = sym is.words_are ∙ also.words_are in
     let seeds = decimal_injective seed other (omega (arith, is.seed_fits)) (omega (arith, also.seed_fits)) (second_of_three _ _ _ _ _ _ both) in
@@ -237,6 +287,7 @@ one_command words Help (Script other others) is also = absurd (apart 51 121 (ome
 one_command words Help (Init other others) is also = absurd (apart 51 109 (omega arith) (one_key words Help (Init other others) is also))
 one_command words Help (Log other) is also = absurd (apart 51 111 (omega arith) (one_key words Help (Log other) is also))
 one_command words Help (Session schema journal) is also = absurd (apart 51 122 (omega arith) (one_key words Help (Session schema journal) is also))
+one_command words Help (Serve schema journal address sessions) is also = absurd (apart 51 120 (omega arith) (one_key words Help (Serve schema journal address sessions) is also))
 one_command words Help (Load seed count) is also = absurd (apart 51 112 (omega arith) (one_key words Help (Load seed count) is also))
 one_command words Help Help is also = refl
 one_command words Help Version is also = absurd (apart 51 54 (omega arith) (one_key words Help Version is also))
@@ -245,19 +296,21 @@ one_command words Version (Script other others) is also = absurd (apart 54 121 (
 one_command words Version (Init other others) is also = absurd (apart 54 109 (omega arith) (one_key words Version (Init other others) is also))
 one_command words Version (Log other) is also = absurd (apart 54 111 (omega arith) (one_key words Version (Log other) is also))
 one_command words Version (Session schema journal) is also = absurd (apart 54 122 (omega arith) (one_key words Version (Session schema journal) is also))
+one_command words Version (Serve schema journal address sessions) is also = absurd (apart 54 120 (omega arith) (one_key words Version (Serve schema journal address sessions) is also))
 one_command words Version (Load seed count) is also = absurd (apart 54 112 (omega arith) (one_key words Version (Load seed count) is also))
 one_command words Version Help is also = absurd (apart' 54 51 (omega arith) (one_key words Version Help is also))
 one_command words Version Version is also = refl
 
 -- what one command of the words does is what the words ask
-pub does_all : (words : List (List ℕ)) (command : Command) (before after : Environment) (returned : Option SeenDisk) (how : Option How) (ending : Ending) → Gives words command → Does command before after returned how ending → (other : Command) → Gives words other → Does other before after returned how ending
-does_all words command before after returned how ending is does other also = subst (λ c. Does c before after returned how ending) (one_command words command other is also) does
+pub does_all : (words : List (List ℕ)) (command : Command) (before after : Environment) (returned : Option SeenDisk) (how : Option How) (links : SeenLinks) (ending : Ending) → Gives words command → Does command before after returned how links ending → (other : Command) → Gives words other → Does other before after returned how links ending
+does_all words command before after returned how links ending is does other also = subst (λ c. Does c before after returned how links ending) (one_command words command other is also) does
 
 -- and so it is of what a command leaves that is handed on
-pub ends_so : (words : List (List ℕ)) (command : Command) (before after after' : Environment) (returned returned' : Option SeenDisk) (how how' : Option How) (ending ending' : Ending) → after' ≡ after → returned' ≡ returned → how' ≡ how → ending' ≡ ending → Gives words command → Does command before after returned how ending → (other : Command) → Gives words other → Does other before after' returned' how' ending'
-ends_so words command before after after' returned returned' how how' ending ending' p q r s is does other also =
-    let one = subst (λ (e : Environment). Does command before e returned how ending) (sym p) does in
-    let two = subst (λ (d : Option SeenDisk). Does command before after' d how ending) (sym q) one in
-    let three = subst (λ (h : Option How). Does command before after' returned' h ending) (sym r) two in
-    let four = subst (λ (e : Ending). Does command before after' returned' how' e) (sym s) three in
-    does_all words command before after' returned' how' ending' is four other also
+pub ends_so : (words : List (List ℕ)) (command : Command) (before after after' : Environment) (returned returned' : Option SeenDisk) (how how' : Option How) (links links' : SeenLinks) (ending ending' : Ending) → after' ≡ after → returned' ≡ returned → how' ≡ how → links' ≡ links → ending' ≡ ending → Gives words command → Does command before after returned how links ending → (other : Command) → Gives words other → Does other before after' returned' how' links' ending'
+ends_so words command before after after' returned returned' how how' links links' ending ending' p q r l s is does other also =
+    let one = subst (λ (e : Environment). Does command before e returned how links ending) (sym p) does in
+    let two = subst (λ (d : Option SeenDisk). Does command before after' d how links ending) (sym q) one in
+    let three = subst (λ (h : Option How). Does command before after' returned' h links ending) (sym r) two in
+    let linked = subst (λ (l : SeenLinks). Does command before after' returned' how' l ending) (sym l) three in
+    let four = subst (λ (e : Ending). Does command before after' returned' how' links' e) (sym s) linked in
+    does_all words command before after' returned' how' links' ending' is four other also

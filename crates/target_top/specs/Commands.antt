@@ -7,13 +7,15 @@ use Rattle.base_kinds.specs.declared.entry.Limits.{Limits}
 use Rattle.base_kinds.specs.Limits.{AreInRange, default_limits}
 
 -- `Check` and `Script` by the name of the schema's file, `Init` and `Log` by that of the journal's, `Session` by both; `Script`
--- and `Init` with the limits of the commit log; `Load` by a seed and how many Sets are made
+-- and `Init` with the limits of the commit log; `Serve` by both files, an address, and how many connections are accepted; `Load`
+-- by a seed and how many Sets are made
 pub data Command : Type 0 where
   Check : List ℕ → Command
   Script : List ℕ → Limits → Command
   Init : List ℕ → Limits → Command
   Log : List ℕ → Command
   Session : List ℕ → List ℕ → Command
+  Serve : List ℕ → List ℕ → List ℕ → ℕ → Command
   Load : ℕ → ℕ → Command
   Help : Command
   Version : Command
@@ -59,6 +61,23 @@ IsSession words schema journal = words ≡ codes "session" ∷ schema ∷ journa
 abbrev pub IsNoSession : List (List ℕ) → Type 0
 IsNoSession words = (schema journal : List ℕ) → IsSession words schema journal → ⊥
 
+-- `serve` accepts at most so many connections
+abbrev pub most_sessions : ℕ
+most_sessions = 1024
+
+-- `serve`, the name of the schema's file and that of the journal's, an address, and from 1 to 1,024 connections
+pub record IsServe (words : List (List ℕ)) (schema journal address : List ℕ) (sessions : ℕ)
+    : Type 0 where
+  pub words_are : words ≡
+      codes "serve" ∷ schema ∷ journal ∷ address ∷ decimal sessions ∷ []
+  pub some : 1 ≤ sessions
+  pub few : sessions ≤ most_sessions
+
+-- the words are those of no server
+abbrev pub IsNoServe : List (List ℕ) → Type 0
+IsNoServe words = (schema journal address : List ℕ) (sessions : ℕ) →
+    IsServe words schema journal address sessions → ⊥
+
 -- `load` generates at most so many Sets
 abbrev pub most_sets : ℕ
 most_sets = 65536
@@ -81,6 +100,8 @@ Gives words (Script name limits) = IsScript words name limits
 Gives words (Init name limits) = IsInit words name limits
 Gives words (Log name) = IsLog words name
 Gives words (Session schema journal) = IsSession words schema journal
+Gives words (Serve schema journal address sessions) =
+    IsServe words schema journal address sessions
 Gives words (Load seed count) = IsLoad words seed count
 Gives words Help = words ≡ codes "--help" ∷ []
 Gives words Version = words ≡ codes "--version" ∷ []

@@ -2,7 +2,7 @@
 use Rattle.std.specs.Prelude.{ℕ}
 use Rattle.target_top.specs.declared.ending.Ending.{Ending}
 use Rattle.target_top.specs.declared.ending.Ending.TheVariants.{Done, NoMemory, BadWords, NoSchema, JournalNotEmpty, JournalDamaged}
-use Rattle.target_top.specs.declared.ending.Ending.TheVariants.{DiskFault, InputFault, OutputFault, BadLine, SchemaUnfit, ConnectionBroken}
+use Rattle.target_top.specs.declared.ending.Ending.TheVariants.{DiskFault, InputFault, OutputFault, DoorFault, BadLine, SchemaUnfit, ConnectionBroken}
 
 abbrev pub exit_status : Ending → ℕ
 exit_status Done = 0
@@ -15,5 +15,6 @@ exit_status JournalDamaged = 4
 exit_status DiskFault = 5
 exit_status InputFault = 6
 exit_status OutputFault = 7
+exit_status DoorFault = 8
 exit_status BadLine = 9
 exit_status ConnectionBroken = 10

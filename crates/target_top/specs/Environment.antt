@@ -1,12 +1,14 @@
 -- What is seen of the environment at one moment: what its objects have given and taken so far, and how often they failed.
--- Input.antt and Output.antt of edge_traits say it of the two streams, Content.antt of disk_model of a disk.
-use Rattle.std.specs.Prelude.{◌≡◌, ℕ, ◌+◌, List, [], ◌∷◌, ◌++◌, Option, Some, None, IfSome, Contains, Result, Ok, Err}
+-- Input.antt and Output.antt of edge_traits say it of the two streams, Content.antt of disk_model of a disk, Doors.antt of
+-- thread_traits of the door at which connections come in.
+use Rattle.std.specs.Prelude.{◌≡◌, ℕ, ◌+◌, List, [], ◌∷◌, ◌++◌, map, Option, Some, None, option_map, IfSome, Contains, Result, Ok, Err}
 use Rattle.edge_traits.specs.Input.{Input}
 use Rattle.edge_traits.specs.Output.{Output}
 use Rattle.edge_traits.specs.declared.streams.Failed.{Failed}
 use Rattle.edge_traits.specs.declared.reading.ReadFault.{ReadFault}
 use Rattle.edge_traits.specs.declared.reading.ReadFault.TheVariants as reads
 use Rattle.disk_model.specs.Content.{Content, Tells}
+use Rattle.thread_traits.specs.Doors.{DoorView}
 use Rattle.disk_model.specs.Images.{mask_after_sync}
 use Rattle.target_top.specs.declared.files.DiskFile.{DiskFile}
 use Rattle.target_top.specs.declared.files_record.NamedText.{NamedText}
@@ -31,12 +33,27 @@ pub record SeenDisk : Type 0 where
   pub told : Option Content
   pub faults : ℕ
 
--- the clock by the readings that it gave
+-- the clock by the readings that it gave; the door with both halves of each connection, where its octets come in and where they
+-- go out, as these are seen
 pub record Environment : Type 0 where
   pub files : SeenFiles
   pub input : Input
   pub output : Output
+  pub door : DoorView Input Output
   pub clock : List ℕ
+
+module _ {I O : Type 0} (reads : I → Input) (writes : O → Output) where
+  -- of a connection, where its octets come in and where they go out
+  abbrev pub seen_halves : I × O → Input × Output
+  seen_halves halves = (reads halves.0, writes halves.1)
+
+  -- of a door, the connections that it gave and, where it tells them, those to come
+  abbrev pub seen_door : DoorView I O → DoorView Input Output
+  seen_door door = record {
+    given = map seen_halves door.given;
+    left = option_map (λ links. map seen_halves links) door.left;
+    faults = door.faults;
+  }
 
 -- nothing was asked for as yet
 abbrev pub unread_files : SeenFiles

@@ -5,6 +5,7 @@ pub mod Environment
 pub mod HelpRun
 pub mod InitRun
 pub mod JournalFile
+pub mod Links
 pub mod LoadRun
 pub mod LogRun
 pub mod Printing
@@ -12,6 +13,7 @@ pub mod Run
 pub mod SchemaFile
 pub mod SchemaGiven
 pub mod ScriptRun
+pub mod ServeCommand
 pub mod SessionCommand
 pub mod inner
 pub mod laws

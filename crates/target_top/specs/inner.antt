@@ -2,3 +2,4 @@ pub mod Loads
 pub mod OpenedSchema
 pub mod ParsedCommand
 pub mod ServedBook
+pub mod SharedBook

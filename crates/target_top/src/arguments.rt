@@ -1,7 +1,8 @@
 ghost use Rattle.std.specs.Prelude.{◌≡◌, ◌<◌, ◌≤◌, ◌^◌, ◌↔◌, ◌∷◌, [], IsTrue, List, ℕ, IfSome, IfNone};
 ghost use Rattle.std.specs.Fmt.{decimal};
 ghost use Rattle.base_kinds.specs.declared.entry.Limits.{Limits as LogLimits};
-ghost use Rattle.target_top.specs.Commands.{AreLimits, IsLoad, IsName, IsNameWithLimits, most_sets, octets_of_words};
+ghost use Rattle.target_top.specs.Commands.{AreLimits, IsLoad, IsName, IsNameWithLimits, IsServe};
+ghost use Rattle.target_top.specs.Commands.{most_sessions, most_sets, octets_of_words};
 
 use base_kinds::{Limits, default_limits};
 use plain_texts::natural_of;
@@ -75,8 +76,41 @@ pub fn seed_and_count(words: &[String]) -> Option<(u64, u32)>
 {
     let (seed, count) = two_names_behind(words, "load")?;
     let seed = natural_of(seed.as_bytes())?;
-    let count = count_of(count)?;
+    let count = count_of(count, MOST_SETS)?;
     Some((seed, count))
+}
+
+/// The words of a server: the names of both files, the address, and how many connections it accepts.
+#[derive(Drop)]
+pub struct ServeWords<'a> {
+    pub schema: &'a str,
+    pub journal: &'a str,
+    pub address: &'a str,
+    pub sessions: u32,
+}
+
+/// These, where the words are those of a server.
+pub fn serve_words<'a>(words: &'a [String]) -> Option<ServeWords<'a>>
+    ensures some { IfSome result (λ serve. IsServe (octets_of_words words.now) serve.schema.now
+        serve.journal.now serve.address.now serve.sessions) }
+    ensures none { IfNone result ((schema journal address : List ℕ) (sessions : ℕ) →
+        IsServe (octets_of_words words.now) schema journal address sessions → ⊥) }
+{
+    match words {
+        [first, schema, journal, address, sessions] => {
+            if first.as_str() == "serve" {
+                let sessions = count_of(sessions.as_str(), MOST_SESSIONS)?;
+                return Some(ServeWords {
+                    schema: schema.as_str(),
+                    journal: journal.as_str(),
+                    address: address.as_str(),
+                    sessions,
+                });
+            }
+            None
+        }
+        _ => None,
+    }
 }
 
 /// Whether there is one word, and it is this one.
@@ -107,18 +141,21 @@ fn limits_of(entries: &str, octets: &str) -> Option<Limits>
 /// `load` generates at most so many Sets.
 const MOST_SETS: u32 = 65_536;
 
-/// A number of Sets in decimal.
-fn count_of(word: &str) -> Option<u32>
+/// `serve` accepts at most so many connections.
+const MOST_SESSIONS: u32 = 1024;
+
+/// A number from 1 to this one in decimal.
+fn count_of(word: &str, most: u32) -> Option<u32>
     ensures some { IfSome result (λ count. word.now ≡ decimal count) }
-    ensures in_range { IfSome result (λ count. (1 ≤ count) × (count ≤ most_sets)) }
-    ensures none { IfNone result ((count : ℕ) → 1 ≤ count → count ≤ most_sets
+    ensures in_range { IfSome result (λ count. (1 ≤ count) × (count ≤ most)) }
+    ensures none { IfNone result ((count : ℕ) → 1 ≤ count → count ≤ most
         → word.now ≡ decimal count → ⊥) }
 {
     let count = limit_of(word)?;
     if count < 1 {
         return None;
     }
-    if count > MOST_SETS {
+    if count > most {
         return None;
     }
     Some(count)

@@ -12,7 +12,8 @@ use std::alloc::Global;
 
 /// Prints how many nodes the schema has whose text is in the file with this name.
 pub fn check<K: Kit>(alloc: Global, name: &str, host: &mut Host<K>) -> Ending
-    ensures { CheckRun name.now host.old host.new result }
+    ensures run { CheckRun name.now host.old host.new result }
+    ensures door { host.new.door ≡ host.old.door }
 {
     let schema = match open_schema(alloc, name, host) {
         Ok(schema) => schema,

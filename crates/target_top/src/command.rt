@@ -3,7 +3,8 @@ ghost use Rattle.target_top.specs.Commands.{Gives, GivesNone, octets_of_words};
 ghost use Rattle.target_top.specs.inner.ParsedCommand.{command_parsed};
 
 use crate::arguments::{
-    name_behind, name_with_limits, only_word, seed_and_count, two_names_behind,
+    ServeWords, name_behind, name_with_limits, only_word, seed_and_count, serve_words,
+    two_names_behind,
 };
 use base_kinds::Limits;
 
@@ -15,6 +16,7 @@ pub enum Command<'a> {
     Init { journal: &'a str, limits: Limits },
     Log { journal: &'a str },
     Session { schema: &'a str, journal: &'a str },
+    Serve(ServeWords<'a>),
     Load { seed: u64, count: u32 },
     Help,
     Version,
@@ -40,6 +42,9 @@ pub fn command_of(words: &[String]) -> Option<Command<'_>>
     }
     if let Some((schema, journal)) = two_names_behind(words, "session") {
         return Some(Command::Session { schema, journal });
+    }
+    if let Some(words) = serve_words(words) {
+        return Some(Command::Serve(words));
     }
     if let Some((seed, count)) = seed_and_count(words) {
         return Some(Command::Load { seed, count });

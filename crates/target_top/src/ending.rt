@@ -14,6 +14,8 @@ pub enum Ending {
     DiskFault,
     InputFault,
     OutputFault,
+    /// No further connections can be accepted.
+    DoorFault,
     BadLine,
     ConnectionBroken,
 }
@@ -36,6 +38,7 @@ impl Ending {
             Ending::DiskFault => 5,
             Ending::InputFault => 6,
             Ending::OutputFault => 7,
+            Ending::DoorFault => 8,
             Ending::BadLine => 9,
             Ending::ConnectionBroken => 10,
         }

@@ -12,7 +12,7 @@ use std::alloc::Global;
 /// The files of the environment, each by its name.
 pub trait Files {
     /// A file that is used as a disk.
-    type Disk: Disk + Drop;
+    type Disk: Disk + Send + Drop + 'static;
 
     /// What they were asked for and have given so far, and how often they failed.
     ghost seen: { Self → SeenFiles };

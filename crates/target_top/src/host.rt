@@ -1,7 +1,11 @@
 use crate::files::Files;
 use edge_traits::{Sink, Source};
+use gnmi_server::Feeding;
+use plain_tree::PlainTree;
+use shared_book::Visit;
 use std::marker::Model;
-use time_traits::Clock;
+use thread_traits::Door;
+use time_traits::{Clock, Pacer};
 
 /// The kinds of objects of the environment that a run is handed.
 pub trait Kit {
@@ -11,8 +15,22 @@ pub trait Kit {
 
     type Output: Sink + Drop;
 
+    /// Where connections come in.
+    type Door: Door + Drop;
+
     type Clock: Clock + Drop;
+
+    type Pacer: Pacer + Drop;
 }
+
+/// The job of a feeder of a connection that the door gave, over the book of a disk of the files.
+pub type KitFeeding<K, R> = Feeding<
+    Visit<<<K as Kit>::Files as Files>::Disk, PlainTree, R>,
+    <<K as Kit>::Door as Door>::Writer,
+    R,
+    <K as Kit>::Clock,
+    <K as Kit>::Pacer,
+>;
 
 /// The objects of the environment that a run is handed, and hands back at its end.
 #[derive(Drop)]
@@ -20,11 +38,14 @@ pub struct Host<K: Kit> {
     pub files: K::Files,
     pub input: K::Input,
     pub output: K::Output,
+    pub door: K::Door,
     pub clock: K::Clock,
+    /// How long what waits in a thread of its own pauses before it looks again.
+    pub pacer: K::Pacer,
 }
 
 impl<K: Kit> Model for Host<K> {
-    ghost use Rattle.target_top.specs.Environment.{Environment};
+    ghost use Rattle.target_top.specs.Environment.{Environment, seen_door};
 
     ghost Value = { Environment };
 
@@ -32,6 +53,7 @@ impl<K: Kit> Model for Host<K> {
       files = K.Files.seen h.files;
       input = K.Input.seen h.input;
       output = K.Output.seen h.output;
+      door = seen_door K.Door.Reader.seen K.Door.Writer.seen (K.Door.seen h.door);
       clock = K.Clock.readings h.clock;
     } };
 }

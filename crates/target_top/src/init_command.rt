@@ -1,4 +1,4 @@
-ghost use Rattle.std.specs.Prelude.{option_map};
+ghost use Rattle.std.specs.Prelude.{◌≡◌, option_map};
 ghost use Rattle.base_kinds.specs.Limits.{AreInRange};
 ghost use Rattle.target_top.specs.Environment.{seen_disk};
 ghost use Rattle.target_top.specs.InitRun.{InitRun, PreparesDisk};
@@ -22,9 +22,10 @@ pub fn init<K: Kit>(
     host: &mut Host<K>,
 ) -> DiskEnd<<K::Files as Files>::Disk>
     requires { AreInRange limits }
-    ensures { InitRun name.now limits host.old host.new
+    ensures run { InitRun name.now limits host.old host.new
         (option_map (λ disk. seen_disk K.Files.Disk.told K.Files.Disk.faults disk) result.disk)
         result.ending }
+    ensures door { host.new.door ≡ host.old.door }
 {
     match host.files.new_disk(name) {
         Ok(mut disk) => {

@@ -45,7 +45,8 @@ struct LoadEnd {
 /// Makes so many generated Sets over memory, and prints what came of them.
 pub fn load<K: Kit>(alloc: Global, seed: u64, count: u32, host: &mut Host<K>) -> Ending
     requires { count < 2 ^ 30 }
-    ensures { LoadRun seed count host.old host.new result }
+    ensures run { LoadRun seed count host.old host.new result }
+    ensures door { host.new.door ≡ host.old.door }
 {
     match report(alloc, seed, count) {
         Ok(line) => print(line.items(), Ending::Done, &mut host.output),

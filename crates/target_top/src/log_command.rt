@@ -23,9 +23,10 @@ pub fn log<K: Kit>(
     name: &str,
     host: &mut Host<K>,
 ) -> DiskEnd<<K::Files as Files>::Disk>
-    ensures { LogRun name.now host.old host.new
+    ensures run { LogRun name.now host.old host.new
         (option_map (λ disk. seen_disk K.Files.Disk.told K.Files.Disk.faults disk) result.disk)
         result.ending }
+    ensures door { host.new.door ≡ host.old.door }
 {
     match host.files.disk(name) {
         Ok(disk) => {
@@ -86,7 +87,8 @@ fn print_damage<W: Sink>(alloc: Global, place: u64, output: &mut W) -> Ending
     }
 }
 
-fn damage_line(alloc: Global, place: u64) -> Result<Bytes, NoMemory>
+/// The line that says from which octet on a disk has no journal.
+pub(crate) fn damage_line(alloc: Global, place: u64) -> Result<Bytes, NoMemory>
     ensures { IfOk result (λ line. line ≡ damage_line place) }
 {
     let mut line = Bytes::empty(alloc);

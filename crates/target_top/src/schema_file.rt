@@ -48,6 +48,8 @@ pub fn open_schema<K: Kit>(alloc: Global, name: &str, host: &mut Host<K>) -> Res
     ensures opened { IfOk result (λ schema. Opened name.now schema host.old host.new) }
     ensures stopped { IfErr result (λ ending.
         UnderSchema name.now host.old host.new ending (λ _. ⊥)) }
+    ensures rest { IfErr result (λ _.
+        host.new ≡ record host.old { files = host.new.files; output = host.new.output }) }
 {
     match schema_in_file(alloc, name, &mut host.files) {
         Ok(schema) => Ok(schema),

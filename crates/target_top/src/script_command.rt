@@ -15,7 +15,8 @@ use std::alloc::Global;
 /// Runs a script under these limits and the schema whose text is in the file with this name.
 pub fn script<K: Kit>(alloc: Global, name: &str, limits: Limits, host: &mut Host<K>) -> Ending
     requires { AreInRange limits }
-    ensures { ScriptRun name.now limits host.old host.new result }
+    ensures run { ScriptRun name.now limits host.old host.new result }
+    ensures door { host.new.door ≡ host.old.door }
 {
     match open_schema(alloc, name, host) {
         Ok(schema) => run_lines(alloc, schema, limits, host),
@@ -28,6 +29,7 @@ fn run_lines<K: Kit>(alloc: Global, schema: Schema, limits: Limits, host: &mut H
     requires { AreInRange limits }
     ensures lines { RunsLines limits host.old host.new result schema }
     ensures files { host.new.files ≡ host.old.files }
+    ensures door { host.new.door ≡ host.old.door }
 {
     let octets = match read_to_limit(alloc, &mut host.input, MOST_SCRIPT_OCTETS) {
         Ok(octets) => octets,

@@ -1,6 +1,6 @@
 ghost use Rattle.std.specs.Prelude.{◌≡◌, [], None, Err, IfOk, IfErr, option_map};
 ghost use Rattle.book_core.specs.Singles.{port_of};
-ghost use Rattle.target_top.specs.Environment.{seen_disk};
+ghost use Rattle.target_top.specs.Environment.{seen_disk, seen_door};
 ghost use Rattle.target_top.specs.SchemaGiven.{GaveSchema, SchemaGives};
 ghost use Rattle.target_top.specs.SessionCommand.{IsLeft, OnDisk, SessionCommand, ending_of, ending_without_schema};
 ghost use Rattle.target_top.specs.inner.ServedBook.{Served, environment_of};
@@ -57,15 +57,19 @@ pub(crate) struct DiskSession<D, I: Source, O: Sink, C: Clock> {
 /// Serves one connection over the input and the output, under the schema whose text is in the one file, on the book whose journal
 /// is in the other.
 pub fn session<K: Kit>(alloc: Global, schema: &str, journal: &str, host: Host<K>) -> CommandEnd<K>
-    ensures { SessionCommand schema.now journal.now host result.host
+    ensures run { SessionCommand schema.now journal.now host result.host
         (option_map (λ disk. seen_disk K.Files.Disk.told K.Files.Disk.faults disk) result.disk)
         result.how result.ending }
+    ensures door { result.host.door ≡ host.door }
+    ensures links { result.links.items ≡ [] }
 {
     let Host {
         mut files,
         input,
         output,
+        door,
         clock,
+        pacer,
     } = host;
     let streams = Streams {
         input,
@@ -77,22 +81,35 @@ pub fn session<K: Kit>(alloc: Global, schema: &str, journal: &str, host: Host<K>
             Ok(disk) => {
                 let end = on_disk(alloc, schema, &desk, disk, streams);
                 CommandEnd {
-                    host: host_of(files, end.streams),
+                    host: host_of(files, end.streams, door, pacer),
                     disk: Some(end.disk),
                     how: end.how,
+                    links: Vec::new(alloc),
                     ending: end.ending,
                 }
             }
-            Err(_) => CommandEnd::without_disk(host_of(files, streams), Ending::DiskFault),
+            Err(_) => CommandEnd::without_disk(
+                alloc,
+                host_of(files, streams, door, pacer),
+                Ending::DiskFault,
+            ),
         },
-        Err(error) => {
-            CommandEnd::without_disk(host_of(files, streams), ending_without_schema(error))
-        }
+        Err(error) => CommandEnd::without_disk(
+            alloc,
+            host_of(files, streams, door, pacer),
+            ending_without_schema(error),
+        ),
     }
 }
 
-fn host_of<K: Kit>(files: K::Files, streams: Streams<K::Input, K::Output, K::Clock>) -> Host<K>
-    ensures { result ≡ environment_of (K.Files.seen files) streams }
+fn host_of<K: Kit>(
+    files: K::Files,
+    streams: Streams<K::Input, K::Output, K::Clock>,
+    door: K::Door,
+    pacer: K::Pacer,
+) -> Host<K>
+    ensures { result ≡ environment_of (K.Files.seen files) streams
+        (seen_door K.Door.Reader.seen K.Door.Writer.seen (K.Door.seen door)) }
 {
     let Streams {
         input,
@@ -103,7 +120,9 @@ fn host_of<K: Kit>(files: K::Files, streams: Streams<K::Input, K::Output, K::Clo
         files,
         input,
         output,
+        door,
         clock,
+        pacer,
     }
 }
 

@@ -1,6 +1,9 @@
 -- A connection that was served on a book, for the command that goes on by it.
 use Rattle.std.specs.Prelude.{◌≡◌, List, Option, Some}
 use Rattle.base_kinds.specs.Schema.{SchemaNode}
+use Rattle.edge_traits.specs.Input.{Input}
+use Rattle.edge_traits.specs.Output.{Output}
+use Rattle.thread_traits.specs.Doors.{DoorView}
 use Rattle.book_port.specs.Ports.{PortView}
 use Rattle.session_core.specs.declared.how.How.{How}
 use Rattle.session_core.specs.Runs.{SessionRun, outside_of}
@@ -20,11 +23,12 @@ pub record Served
   pub how_is : how ≡ Some connection
   pub is : ending ≡ ending_of connection
 
--- the files, and what the connection is served over
-abbrev pub environment_of : SeenFiles → Streams → Environment
-environment_of files streams = record {
+-- the files, what the connection is served over, and the door
+abbrev pub environment_of : SeenFiles → Streams → DoorView Input Output → Environment
+environment_of files streams door = record {
   files = files;
   input = streams.input;
   output = streams.output;
+  door = door;
   clock = streams.clock;
 }

@@ -14,6 +14,7 @@ use Rattle.session_core.specs.declared.how.How.{How}
 use Rattle.target_top.specs.declared.ending.Ending.TheVariants.{Done, NoMemory}
 use Rattle.target_top.specs.Ending.{exit_status}
 use Rattle.target_top.specs.Environment.{Environment, SeenDisk, GaveText}
+use Rattle.target_top.specs.Links.{SeenLinks}
 use Rattle.target_top.specs.Commands.{IsScript}
 use Rattle.target_top.specs.Run.{Run}
 use Rattle.target_top.specs.laws.RunLaws.{NothingFailed, WroteAndEnded}
@@ -34,8 +35,8 @@ pub record RanLines
 abbrev pub CompletesGoodScripts : Type 0
 CompletesGoodScripts =
     (words : List (List ℕ)) (name : List ℕ) (limits : Limits) (before after : Environment)
-    (returned : Option SeenDisk) (how : Option How) (status : ℕ) →
-    IsScript words name limits → Run words before after returned how status →
+    (returned : Option SeenDisk) (how : Option How) (links : SeenLinks) (status : ℕ) →
+    IsScript words name limits → Run words before after returned how links status →
     NothingFailed before after returned →
     (status ≡ exit_status NoMemory)
     ⊎ ((text : List ℕ) × GaveText name text before.files after.files

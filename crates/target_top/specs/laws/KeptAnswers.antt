@@ -11,6 +11,7 @@ use Rattle.session_core.specs.declared.how.How.{How}
 use Rattle.target_top.specs.declared.ending.Ending.TheVariants.{Done}
 use Rattle.target_top.specs.Ending.{exit_status}
 use Rattle.target_top.specs.Environment.{Environment, SeenDisk, GaveText}
+use Rattle.target_top.specs.Links.{SeenLinks}
 use Rattle.target_top.specs.Commands.{IsScript}
 use Rattle.target_top.specs.Run.{Run}
 
@@ -28,8 +29,8 @@ pub record RanWhole (schema : List SchemaNode) (limits : Limits)
 abbrev pub KeepsScripts : Type 0
 KeepsScripts =
     (words : List (List ℕ)) (name : List ℕ) (limits : Limits) (before after : Environment)
-    (returned : Option SeenDisk) (how : Option How) (status : ℕ) →
-    IsScript words name limits → Run words before after returned how status →
+    (returned : Option SeenDisk) (how : Option How) (links : SeenLinks) (status : ℕ) →
+    IsScript words name limits → Run words before after returned how links status →
     status ≡ exit_status Done →
     (text : List ℕ) × GaveText name text before.files after.files
     × (schema : List SchemaNode) × (schema_of text ≡ Ok schema)

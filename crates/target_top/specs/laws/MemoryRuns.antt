@@ -6,8 +6,9 @@ use Rattle.session_core.specs.declared.how.How.{How}
 use Rattle.target_top.specs.declared.ending.Ending.TheVariants.{NoMemory}
 use Rattle.target_top.specs.Ending.{exit_status}
 use Rattle.target_top.specs.Environment.{Environment, SeenDisk, unread_files, texts_of}
+use Rattle.target_top.specs.Links.{SeenLinks}
 use Rattle.script_run.specs.laws.ScriptLaws.{HaveNoStops}
-use Rattle.target_top.specs.Commands.{IsNoLoad, IsNoSession}
+use Rattle.target_top.specs.Commands.{IsNoLoad, IsNoServe, IsNoSession}
 use Rattle.target_top.specs.Run.{Run}
 use Rattle.target_top.specs.laws.RunLaws.{NothingFailed}
 use Rattle.target_top.specs.laws.WordLaws.{AreDecided}
@@ -39,8 +40,8 @@ pub record IsInputOf (octets : List ℕ) (input : Input) : Type 0 where
 abbrev pub LosesNoOctet : Type 0
 LosesNoOctet =
     (words : List (List ℕ)) (octets : List ℕ) (before after : Environment)
-    (returned : Option SeenDisk) (how : Option How) (status : ℕ) →
-    AreDecided words → Run words before after returned how status →
+    (returned : Option SeenDisk) (how : Option How) (links : SeenLinks) (status : ℕ) →
+    AreDecided words → Run words before after returned how links status →
     IsInputOf octets before.input → IsInputOf octets after.input
 
 -- the run ended with this status, nothing failed and memory was there
@@ -57,14 +58,15 @@ pub record WroteAlike (one other : Output) (status status' : ℕ) : Type 0 where
   pub statuses : status ≡ status'
 
 -- Two runs with the same words over fresh and equal objects in memory, which both go well, write the same, where no line of the
--- input is one of a script that lets its disk stop. The words are no session's and no load's: what these answer stands on the
--- clock and on the memory that each call finds.
+-- input is one of a script that lets its disk stop. The words are no session's, no server's and no load's: what these answer
+-- stands on the clock and on the memory that each call finds.
 abbrev pub RunsAlike : Type 0
 RunsAlike =
     (words : List (List ℕ)) (memory : Memory) (a b c d : Environment)
-    (returned returned' : Option SeenDisk) (how how' : Option How) (status status' : ℕ) →
-    AreDecided words → IsNoSession words → IsNoLoad words → HaveNoStops memory.octets →
+    (returned returned' : Option SeenDisk) (how how' : Option How) (links links' : SeenLinks)
+    (status status' : ℕ) →
+    AreDecided words → IsNoSession words → IsNoServe words → IsNoLoad words → HaveNoStops memory.octets →
     IsFreshMemory memory a → IsFreshMemory memory c →
-    Run words a b returned how status → Run words c d returned' how' status' →
+    Run words a b returned how links status → Run words c d returned' how' links' status' →
     WentWell a b returned status → WentWell c d returned' status' →
     WroteAlike b.output d.output status status'

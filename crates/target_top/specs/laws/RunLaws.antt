@@ -20,6 +20,7 @@ use Rattle.target_top.specs.declared.ending.Ending.TheVariants.{Done, NoMemory, 
 use Rattle.target_top.specs.declared.ending.Ending.TheVariants.{JournalNotEmpty, JournalDamaged}
 use Rattle.target_top.specs.Ending.{exit_status}
 use Rattle.target_top.specs.Environment.{Environment, SeenDisk, GaveText, GaveDisk, files_after_disk, files_after_new_disk}
+use Rattle.target_top.specs.Links.{SeenLinks}
 use Rattle.target_top.specs.CheckRun.{count_line}
 use Rattle.target_top.specs.LogRun.{OnlySynced, damage_line}
 use Rattle.target_top.specs.Commands.{IsCheck, IsScript, IsInit, IsLog}
@@ -50,8 +51,8 @@ CheckedAs (Err fault) old new status =
 abbrev pub CompletesChecks : Type 0
 CompletesChecks =
     (words : List (List ℕ)) (name : List ℕ) (before after : Environment)
-    (returned : Option SeenDisk) (how : Option How) (status : ℕ) →
-    IsCheck words name → Run words before after returned how status →
+    (returned : Option SeenDisk) (how : Option How) (links : SeenLinks) (status : ℕ) →
+    IsCheck words name → Run words before after returned how links status →
     NothingFailed before after returned →
     (status ≡ exit_status NoMemory)
     ⊎ ((text : List ℕ) × GaveText name text before.files after.files
@@ -79,8 +80,8 @@ RanAs (Err fault) limits before after status =
 abbrev pub CompletesScripts : Type 0
 CompletesScripts =
     (words : List (List ℕ)) (name : List ℕ) (limits : Limits) (before after : Environment)
-    (returned : Option SeenDisk) (how : Option How) (status : ℕ) →
-    IsScript words name limits → Run words before after returned how status →
+    (returned : Option SeenDisk) (how : Option How) (links : SeenLinks) (status : ℕ) →
+    IsScript words name limits → Run words before after returned how links status →
     NothingFailed before after returned →
     (status ≡ exit_status NoMemory)
     ⊎ ((text : List ℕ) × GaveText name text before.files after.files
@@ -98,8 +99,8 @@ PreparedAs limits initial final old new status =
 abbrev pub CompletesInits : Type 0
 CompletesInits =
     (words : List (List ℕ)) (name : List ℕ) (limits : Limits) (before after : Environment)
-    (returned : Option SeenDisk) (how : Option How) (status : ℕ) →
-    IsInit words name limits → Run words before after returned how status →
+    (returned : Option SeenDisk) (how : Option How) (links : SeenLinks) (status : ℕ) →
+    IsInit words name limits → Run words before after returned how links status →
     NothingFailed before after returned →
     (status ≡ exit_status NoMemory)
     ⊎ ((initial : SeenDisk) × (final : SeenDisk)
@@ -120,8 +121,8 @@ ListedAs initial old new status =
 abbrev pub CompletesLogs : Type 0
 CompletesLogs =
     (words : List (List ℕ)) (name : List ℕ) (before after : Environment)
-    (returned : Option SeenDisk) (how : Option How) (status : ℕ) →
-    IsLog words name → Run words before after returned how status →
+    (returned : Option SeenDisk) (how : Option How) (links : SeenLinks) (status : ℕ) →
+    IsLog words name → Run words before after returned how links status →
     NothingFailed before after returned →
     (status ≡ exit_status NoMemory)
     ⊎ ((initial : SeenDisk) × (final : SeenDisk)

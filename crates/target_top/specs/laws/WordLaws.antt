@@ -4,6 +4,7 @@ use Rattle.session_core.specs.declared.how.How.{How}
 use Rattle.target_top.specs.declared.ending.Ending.TheVariants.{Done, BadWords}
 use Rattle.target_top.specs.Ending.{exit_status}
 use Rattle.target_top.specs.Environment.{Environment, SeenDisk}
+use Rattle.target_top.specs.Links.{SeenLinks}
 use Rattle.target_top.specs.Commands.{Command, Help, Version, Gives, GivesNone}
 use Rattle.target_top.specs.HelpRun.{help_text, version_text}
 use Rattle.target_top.specs.Run.{Run}
@@ -23,8 +24,8 @@ GiveOneCommand =
 abbrev pub CompletesAlone : Command → List ℕ → Type 0
 CompletesAlone command text =
     (words : List (List ℕ)) (before after : Environment)
-    (returned : Option SeenDisk) (how : Option How) (status : ℕ) →
-    Gives words command → Run words before after returned how status →
+    (returned : Option SeenDisk) (how : Option How) (links : SeenLinks) (status : ℕ) →
+    Gives words command → Run words before after returned how links status →
     NothingFailed before after returned →
     WroteAndEnded text (exit_status Done) before.output after.output status
 
@@ -38,7 +39,7 @@ CompletesVersion = CompletesAlone Version version_text
 abbrev pub CompletesRefusals : Type 0
 CompletesRefusals =
     (words : List (List ℕ)) (before after : Environment)
-    (returned : Option SeenDisk) (how : Option How) (status : ℕ) →
-    GivesNone words → Run words before after returned how status →
+    (returned : Option SeenDisk) (how : Option How) (links : SeenLinks) (status : ℕ) →
+    GivesNone words → Run words before after returned how links status →
     NothingFailed before after returned →
     WroteAndEnded (codes "bad words\n") (exit_status BadWords) before.output after.output status

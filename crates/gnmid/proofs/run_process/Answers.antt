@@ -1,0 +1,9 @@
+use denote.Param.Send.{sendable}
+use Rattle.std.proofs.Crossing.{crosses}
+use Rattle.real_edges.proofs.Crossing.{held_starter_send}
+use Rattle.gnmid.proofs.run_process.Goals as goal
+
+pub run_ready-requires-send-S : goal.run_ready-requires-send-S
+run_ready-requires-send-S g c κs within =
+    let r = c.type_bounds.send-R in
+    search (sendable, crosses, held_starter_send) depth 60 fits 100000
