@@ -11,6 +11,7 @@ import sys
 
 import grpc
 
+sys.dont_write_bytecode = True
 sys.path.insert(0, os.path.join(os.path.dirname(os.path.dirname(os.path.realpath(__file__))), "bin"))
 from gnmi_client import get_request, path, set_request, stream_request, string  # noqa: E402
 
