@@ -9,9 +9,10 @@ use Rattle.base_kinds.specs.declared.schema.Shape.TheVariants as shapes
 use Rattle.base_kinds.specs.declared.value.Value.{Value}
 use Rattle.base_kinds.specs.declared.value.Value.TheVariants as values
 use Rattle.base_kinds.specs.Values.{has_shape, same_scalar}
+use Rattle.plain_texts.specs.Numbers.{natural_of}
 use Rattle.value_core.specs.Base64.{octets_of}
 use Rattle.value_core.specs.Decimals.{decimal_of}
-use Rattle.value_core.specs.Integers.{natural_of, integer_of}
+use Rattle.value_core.specs.Integers.{integer_of}
 
 -- What the data would mean, before its range or the listed texts are looked at. An integer is a number that is one of 64
 -- bits, and at 64 bits also the string of its decimal text. At a decimal an integer stands for its own text.

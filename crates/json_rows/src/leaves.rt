@@ -9,9 +9,10 @@ ghost use Rattle.json_rows.specs.Leaves.{value_of_data, leaf_of, leaf_at};
 
 use crate::texts::{octets_of, text_of};
 use base_kinds::{NoMemory, Shape, Value};
+use plain_texts::natural_of;
 use serde_json::{Number, Value as Json};
 use std::alloc::Global;
-use value_core::{check_value, read_decimal, read_integer, read_natural};
+use value_core::{check_value, read_decimal, read_integer};
 
 fn int_of(width: u8, json: &Json) -> Option<Value>
     ensures { result ≡ value_of_data (shapes.Int width) (view json.now) }
@@ -33,7 +34,7 @@ fn uint_of(width: u8, json: &Json) -> Option<Value>
     match json {
         Json::Number(number) => number.as_u64().map(Value::Uint),
         Json::String(text) => if width == 64 {
-            read_natural(text.as_bytes()).map(Value::Uint)
+            natural_of(text.as_bytes()).map(Value::Uint)
         } else {
             None
         },

@@ -27,13 +27,15 @@ use Rattle.base_kinds.specs.declared.value.Value.TheVariants as values
 use Rattle.base_kinds.specs.Legal.{is_fit_scalar}
 use Rattle.base_kinds.specs.Texts.{dec_text, base64_text}
 use Rattle.base_kinds.specs.Values.{has_shape, fits_signed, same_scalar, all_differ}
+use Rattle.plain_texts.specs.Numbers.{natural_of}
+use Rattle.plain_texts.proofs.Decimals.{natural_read}
 use Rattle.value_core.specs.KeyTexts.{IsStored}
 use Rattle.value_core.proofs.DecimalTexts.{read_back}
 use Rattle.value_core.specs.Base64.{octets_of}
-use Rattle.value_core.specs.Integers.{integer_of, natural_of}
+use Rattle.value_core.specs.Integers.{integer_of}
 use Rattle.json_rows.specs.Leaves.{leaf_of, if_shaped, unless_listed, values_from}
 use Rattle.value_core.proofs.Keys.{bytes_from}
-use Rattle.value_core.proofs.IntegersRead.{natural_read, integer_read}
+use Rattle.value_core.proofs.IntegersRead.{integer_read}
 use Rattle.value_core.proofs.DecimalsRead.{decimal_read}
 use Rattle.json_text.specs.Leaves.{scalar_data}
 use Rattle.json_text.specs.laws.ReadBack.{LeavesReadBack, LeafListsReadBack}

@@ -73,7 +73,8 @@ read_none octets r o plain parsed is = rw is (read octets r plain parsed).1
 
 -- ---- the number that a text is
 
-left_out : {A : Type 0} (test : Bool) (value : A) → (test ≡ true → ⊥) → cond test (Some value) None ≡ None
+-- a value whose test can't hold is left out
+pub left_out : {A : Type 0} (test : Bool) (value : A) → (test ≡ true → ⊥) → cond test (Some value) None ≡ None
 left_out true value never = absurd (never refl)
 left_out false value never = refl
 

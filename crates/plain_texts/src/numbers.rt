@@ -17,6 +17,7 @@ fn begins_plainly(octets: &[u8]) -> bool
 pub fn natural_of(octets: &[u8]) -> Option<u64>
     ensures value { result ≡ natural_of octets.now }
     ensures some { IfSome result (λ number. octets.now ≡ decimal number) }
+    ensures small { IfSome result (λ number. number < 2 ^ 64) }
     ensures none { IfNone result ((number : ℕ) →
         number < 2 ^ 64 → octets.now ≡ decimal number → ⊥) }
 {

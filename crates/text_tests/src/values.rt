@@ -1,10 +1,10 @@
 use base_kinds::{Same, Seq, Shape, Text, Texts, Value};
+use plain_texts::natural_of;
 use std::alloc::Global;
 use std::test::Fail;
 use value_core::{
     ValueFault, check_value, decimals_read_back, functions_give_what_is_spelled, key_text,
-    one_decimal, one_value_a_key, read_base64, read_decimal, read_integer, read_key, read_natural,
-    value_text,
+    one_decimal, one_value_a_key, read_base64, read_decimal, read_integer, read_key, value_text,
 };
 
 fn text_of(alloc: Global, text: &str) -> Result<Text, Fail> {
@@ -163,7 +163,7 @@ fn base64_is_that_of_the_standard(rt: HostRuntime) -> Result<(), Fail> {
 
 #[test]
 fn numbers_are_read(rt: HostRuntime) {
-    assert_eq!(rt; read_natural(b"18446744073709551615"), Some(u64::MAX));
+    assert_eq!(rt; natural_of(b"18446744073709551615"), Some(u64::MAX));
     assert_eq!(rt; read_integer(b"-9223372036854775808"), Some(i64::MIN));
     // RFC 7950 9.3.1: more forms than the canonical one
     let decimals = [

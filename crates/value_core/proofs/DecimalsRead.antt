@@ -9,11 +9,12 @@ use Rattle.std.proofs.lemmas.Bool.{and_parts, and_from, cond-true, lt-ltb, ltb-t
 use Rattle.std.proofs.lemmas.Slice.Eq.{bytes_eq-Decides}
 use Rattle.std.proofs.lemmas.List.{drop-drop}
 use Rattle.base_kinds.specs.Values.{fits_signed}
+use Rattle.plain_texts.proofs.Decimals.{left_out}
 use Rattle.value_core.specs.Decimals.{IsDecimal, point_text, is_point, are_digits, is_decimal, decimal_value, decimal_if, unsigned_part, decimal_of}
 use Rattle.value_core.specs.inner.Cuts.{lacks_point, IsCutAtPoint}
 use Rattle.value_core.specs.laws.Texts.{DecimalsByFunction}
 use Rattle.value_core.proofs.Cuts.{cut_there, same_fronts, at_point}
-use Rattle.value_core.proofs.IntegersRead.{left_out, same_texts, no_minus, let_through}
+use Rattle.value_core.proofs.IntegersRead.{same_texts, no_minus, let_through}
 
 digits_from : (octets : List ℕ) → are_digits octets ≡ true → AllDigits 10 octets
 digits_from [] h = tt

@@ -1,72 +1,12 @@
--- Numbers in decimal: how they begin, and which number a text is.
-use Rattle.std.proofs.Common.{◌≡◌, ℕ, ◌+◌, ◌<◌, ◌≤◌, ◌^◌, zero, suc, List, [], ◌∷◌, ◌++◌, ◌⊎◌, Bool, true, false, not, ◌&&◌, ◌||◌, eqb, ltb, length, get_or, inl, inr, ⊎_elim, sym, ap, subst, refl, ◌∙◌, ℤ, pos, negsuc, IsTrue, arith}
+-- Numbers in decimal, with a sign and without: which number a text is.
+use Rattle.std.proofs.Common.{◌≡◌, ℕ, ◌<◌, ◌^◌, zero, suc, List, [], ◌∷◌, true, false, ltb, sym, ap, subst, refl, ◌∙◌, ℤ, pos, negsuc, IsTrue, arith}
 use Rattle.std.specs.Fmt.{decimal, signed_decimal}
-use Rattle.std.specs.Str.Parse.{AllDigits, digits_value, digits_value_after}
-use Rattle.std.specs.Int.Signed.{mag}
-use Rattle.std.proofs.lemmas.Fmt.{decimal_digit, first_decimal, decimal_nonempty, decimal_is_IsNumeral, decimal_injective, signed_decimal_injective, decimal-digits_value}
-use Rattle.std.proofs.lemmas.Str.Parse.{IsNumeralModel, numerals_by_value, tells_digits}
-use Rattle.std.proofs.lemmas.Bool.{and_parts, and_from, or_cases, or_left, or_right, not-true, not_from_false, eqb-true, eqb-false, ne_eqb, eq-eqb, ltb-true, cases_order, both_ways}
+use Rattle.std.specs.Str.Parse.{AllDigits}
+use Rattle.std.proofs.lemmas.Fmt.{decimal_is_IsNumeral, decimal_injective, signed_decimal_injective}
+use Rattle.std.proofs.lemmas.Bool.{ltb-true, both_ways}
 use Rattle.base_kinds.specs.Values.{fits_signed}
 use Rattle.value_core.specs.Decimals.{signed}
-use Rattle.value_core.specs.inner.Plain.{is_plain}
 use Rattle.value_core.proofs.Ranges.{magnitude}
-
-own : IsNumeralModel (AllDigits 10) (digits_value 10)
-own = numerals_by_value (AllDigits 10) tells_digits
-
-first_digit : (n : ℕ) → n < 2 ^ 64 → (length (decimal n) ≡ 1) ⊎ (48 < get_or (decimal n) 0 0)
-first_digit n small =
-    ⊎_elim
-    (λ none. let e : decimal n ≡ 48 ∷ [] = rw none (decimal_digit 0 (omega arith)) in inl (ap length e))
-    (λ apart. inr (first_decimal n (⊎_elim (λ l. absurd (omega arith)) (λ l. l) apart) small))
-    (cases_order n 0)
-
-plain_from : (n : ℕ) → n < 2 ^ 64 → is_plain (decimal n) ≡ true
-plain_from n small =
-    let some = decimal_nonempty n small in
-    let d = decimal n in
-    let begun : not (eqb (length d) 0) ≡ true = not_from_false (eqb (length d) 0) (ne_eqb (length d) 0 (λ e. absurd (omega arith))) in
-    ⊎_elim
-    (λ one. and_from (not (eqb (length d) 0)) (not (eqb (get_or d 0 0) 48) || eqb (length d) 1) begun
-    (or_right (not (eqb (get_or d 0 0) 48)) (eqb (length d) 1) (eq-eqb (length d) 1 one)))
-    (λ above. and_from (not (eqb (length d) 0)) (not (eqb (get_or d 0 0) 48) || eqb (length d) 1) begun
-    (or_left (not (eqb (get_or d 0 0) 48)) (eqb (length d) 1) (not_from_false (eqb (get_or d 0 0) 48) (ne_eqb (get_or d 0 0) 48 (λ e. absurd (omega arith))))))
-    (first_digit n small)
-
-pub not_plain : (octets : List ℕ) → is_plain octets ≡ false → (n : ℕ) → n < 2 ^ 64 → octets ≡ decimal n → ⊥
-not_plain octets spare n small e = both_ways (is_plain octets) spare (rw e (plain_from n small))
-
-some_octet : (octets : List ℕ) → is_plain octets ≡ true → 0 < length octets
-some_octet octets plain =
-    let parts = and_parts (not (eqb (length octets) 0)) (not (eqb (get_or octets 0 0) 48) || eqb (length octets) 1) plain in
-    let h = eqb-false (length octets) 0 (not-true (eqb (length octets) 0) parts.0) in
-    positive (length octets) h
-  where
-    positive : (n : ℕ) → (n ≡ 0 → ⊥) → 0 < n
-    positive zero h = absurd (h refl)
-    positive (suc n) h = omega arith
-
-one_zero : (octets : List ℕ) → is_plain octets ≡ true → get_or octets 0 0 ≡ 48 → length octets ≡ 1
-one_zero octets plain is =
-    let parts = and_parts (not (eqb (length octets) 0)) (not (eqb (get_or octets 0 0) 48) || eqb (length octets) 1) plain in
-    ⊎_elim (λ other. absurd (eqb-false (get_or octets 0 0) 48 (not-true (eqb (get_or octets 0 0) 48) other) is)) (λ one. eqb-true (length octets) 1 one) (or_cases (not (eqb (get_or octets 0 0) 48)) (eqb (length octets) 1) parts.1)
-
--- plain digits are what is written of their number
-pub written_so : (octets : List ℕ) (number : ℕ) → is_plain octets ≡ true → AllDigits 10 octets → number ≡ digits_value_after 10 0 octets → number < 2 ^ 64 → octets ≡ decimal number
-written_so octets number plain digits value small =
-    let fits = subst (λ n. n < 2 ^ 64) value small in
-    sym (decimal-digits_value own octets digits (some_octet octets plain) (one_zero octets plain) fits) ∙ ap decimal (sym value)
-
--- digits that are no number of 64 bits are not what is written of one
-pub too_large : (octets : List ℕ) → (AllDigits 10 octets → 2 ^ 64 ≤ digits_value_after 10 0 octets) → (n : ℕ) → n < 2 ^ 64 → octets ≡ decimal n → ⊥
-too_large octets large n small e =
-    let numeral = decimal_is_IsNumeral n small in
-    let digits = subst (AllDigits 10) (sym e) numeral.0.1 in
-    let value : digits_value 10 octets ≡ n = ap (digits_value 10) e ∙ numeral.1 in
-    crossed (digits_value 10 octets) n (large digits) value small
-  where
-    crossed : (v m : ℕ) → 2 ^ 64 ≤ v → v ≡ m → m < 2 ^ 64 → ⊥
-    crossed v m h e k = omega arith
 
 pub decimal_digits : (n : ℕ) → n < 2 ^ 64 → AllDigits 10 (decimal n)
 decimal_digits n small = (decimal_is_IsNumeral n small).0.1

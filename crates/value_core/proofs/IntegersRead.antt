@@ -5,33 +5,16 @@ use Rattle.std.specs.Fmt.{decimal, signed_decimal}
 use Rattle.std.specs.Str.{bytes_eq}
 use Rattle.std.specs.Str.Parse.{AllDigits, digits_value, signed_digits_value}
 use Rattle.std.proofs.lemmas.Fmt.{decimal_is_IsNumeral}
-use Rattle.std.proofs.lemmas.Bool.{and_parts, and_from, cond-true, lt-ltb, ltb-true, ne_eqb}
+use Rattle.std.proofs.lemmas.Bool.{and_parts, and_from, cond-true, ltb-true, ne_eqb}
 use Rattle.std.proofs.lemmas.Slice.Eq.{bytes_eq-Decides}
 use Rattle.base_kinds.specs.Values.{fits_signed}
-use Rattle.value_core.specs.Integers.{natural_if, natural_of, integer_if, integer_of}
+use Rattle.plain_texts.specs.Numbers.{natural_of}
+use Rattle.plain_texts.proofs.Decimals.{left_out, natural_read}
+use Rattle.value_core.specs.Integers.{integer_if, integer_of}
 use Rattle.value_core.specs.laws.Texts.{NaturalsByFunction, IntegersByFunction}
-
--- a value whose test can't hold is left out
-pub left_out : {A : Type 0} (test : Bool) (value : A) → (test ≡ true → ⊥) → cond test (Some value) None ≡ None
-left_out true value never = absurd (never refl)
-left_out false value never = refl
 
 pub same_texts : (a b : List ℕ) → a ≡ b → bytes_eq a b ≡ true
 same_texts a b = (bytes_eq-Decides a b).1
-
-pub natural_read : (text : List ℕ) (number : ℕ) → text ≡ decimal number → number < 2 ^ 64 → natural_of text ≡ Some number
-unfolding natural_of
-natural_read text number is small =
-    let value : digits_value 10 text ≡ number = ap (digits_value 10) is ∙ (decimal_is_IsNumeral number small).1 in
-    ap (natural_if text) value ∙ cond-true (ltb number (2 ^ 64) && bytes_eq text (decimal number)) (Some number) None (and_from (ltb number (2 ^ 64)) (bytes_eq text (decimal number)) (lt-ltb number (2 ^ 64) small) (same_texts text (decimal number) is))
-
-pub natural_refused : (text : List ℕ) → ((number : ℕ) → number < 2 ^ 64 → text ≡ decimal number → ⊥) → natural_of text ≡ None
-unfolding natural_of
-natural_refused text none =
-    let number = digits_value 10 text in
-    left_out (ltb number (2 ^ 64) && bytes_eq text (decimal number)) number (λ both.
-    let parts = and_parts (ltb number (2 ^ 64)) (bytes_eq text (decimal number)) both in
-    none number (ltb-true number (2 ^ 64) parts.0) ((bytes_eq-Decides text (decimal number)).0 parts.1))
 
 -- digits don't begin with another glyph
 plain_head : (digits : List ℕ) (octet : ℕ) → (digit_value octet < 10 → ⊥) → 0 < length digits → AllDigits 10 digits → eqb (get_or digits 0 0) octet ≡ false
@@ -75,10 +58,6 @@ integer_refused text none =
 pub integer_is : (text : List ℕ) (read : Option ℤ) → IfSome read (λ number. text ≡ signed_decimal number) → IfSome read (λ number. IsTrue (fits_signed 64 number)) → IfNone read ((number : ℤ) → IsTrue (fits_signed 64 number) → text ≡ signed_decimal number → ⊥) → read ≡ integer_of text
 integer_is text (Some number) is held none = sym (integer_read text number is held)
 integer_is text None is held none = sym (integer_refused text none)
-
-pub natural_is : (text : List ℕ) (read : Option ℕ) → IfSome read (λ number. text ≡ decimal number) → IfSome read (λ number. number < 2 ^ 64) → IfNone read ((number : ℕ) → number < 2 ^ 64 → text ≡ decimal number → ⊥) → read ≡ natural_of text
-natural_is text (Some number) is small none = sym (natural_read text number is small)
-natural_is text None is small none = sym (natural_refused text none)
 
 -- what a test let through
 pub let_through : {A : Type 0} (test : Bool) (value found : A) → cond test (Some value) None ≡ Some found → (test ≡ true) × (value ≡ found)

@@ -1,5 +1,5 @@
 -- Which value of a shape a key text is.
-use Rattle.std.proofs.Common.{◌≡◌, ℕ, zero, suc, ◌^◌, ◌<◌, List, [], ◌∷◌, arith, Bool, true, false, nat_lt, ℤ, IsTrue, refl, sym, ap, subst, ◌∙◌, Ok}
+use Rattle.std.proofs.Common.{◌≡◌, ℕ, zero, suc, ◌^◌, ◌<◌, List, [], ◌∷◌, arith, Bool, true, false, nat_lt, ℤ, IsTrue, refl, sym, ap, subst, ◌∙◌}
 use Rattle.std.specs.Fmt.{decimal, signed_decimal}
 use Rattle.std.specs.List.{list_all, list_any}
 use Rattle.std.specs.Str.{bytes_eq}
@@ -13,7 +13,6 @@ use Rattle.base_kinds.specs.declared.value.Value as v
 use Rattle.base_kinds.specs.declared.schema.Shape.{Shape}
 use Rattle.base_kinds.specs.declared.schema.Shape.TheVariants as shapes
 use Rattle.base_kinds.specs.Texts.{bool_text, dec_text, base64_text}
-use Rattle.base_kinds.specs.Keys.{key_text}
 use Rattle.base_kinds.specs.Values.{fits_signed, has_shape}
 use Rattle.value_core.specs.KeyTexts.{IsKeyOf}
 use Rattle.value_core.proofs.DecimalTexts.{dec_injective}

@@ -1,6 +1,5 @@
 -- The value that a key text is read as is the one whose key text it is.
-use Rattle.std.proofs.Common.{◌≡◌, ℕ, ◌^◌, ◌<◌, ◌≤◌, List, [], ◌∷◌, Bool, true, false, ◌&&◌, cond, leb, ltb, ℤ, Option, Some, None, IsTrue, refl, sym, ap, subst, ◌∙◌, codes}
-use Rattle.std.specs.List.{list_all}
+use Rattle.std.proofs.Common.{◌≡◌, ℕ, ◌≤◌, List, Bool, true, false, ◌&&◌, leb, ℤ, Option, Some, None, refl, sym, ap, subst, ◌∙◌, codes}
 use Rattle.std.specs.Option.{option_and_then, option_map}
 use Rattle.std.specs.Result.{result_ok}
 use Rattle.std.specs.Str.{bytes_eq}
@@ -17,6 +16,7 @@ use Rattle.base_kinds.specs.Keys.{key_text}
 use Rattle.base_kinds.specs.Legal.{is_fit_scalar}
 use Rattle.base_kinds.specs.Texts.{bool_text, base64_text}
 use Rattle.base_kinds.specs.Values.{has_shape}
+use Rattle.plain_texts.proofs.Decimals.{left_out, natural_read}
 use Rattle.value_core.specs.Base64.{octets_of}
 use Rattle.value_core.specs.Decimals.{IsDecimal}
 use Rattle.value_core.specs.KeyTexts.{is_stored, IsKeyOf}
@@ -24,7 +24,7 @@ use Rattle.value_core.specs.KeyValues.{value_read, is_key_of, if_key_of, key_val
 use Rattle.value_core.specs.laws.Texts.{KeysByFunction}
 use Rattle.value_core.proofs.DecimalTexts.{read_back}
 use Rattle.value_core.proofs.DecimalsRead.{decimal_read}
-use Rattle.value_core.proofs.IntegersRead.{left_out, let_through, natural_read, integer_read}
+use Rattle.value_core.proofs.IntegersRead.{let_through, integer_read}
 use Rattle.value_core.proofs.Keys.{bool_key, int_key, uint_key, dec_key, text_key, bin_key, enum_key, one_value}
 
 truth_back : (is : Bool) → bytes_eq (bool_text is) (codes "true") ≡ is

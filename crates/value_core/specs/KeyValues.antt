@@ -9,9 +9,10 @@ use Rattle.base_kinds.specs.declared.schema.Shape.TheVariants as shapes
 use Rattle.base_kinds.specs.Keys.{key_text}
 use Rattle.base_kinds.specs.Legal.{is_fit_scalar}
 use Rattle.base_kinds.specs.Values.{has_shape}
+use Rattle.plain_texts.specs.Numbers.{natural_of}
 use Rattle.value_core.specs.Base64.{octets_of}
 use Rattle.value_core.specs.Decimals.{decimal_of}
-use Rattle.value_core.specs.Integers.{natural_of, integer_of}
+use Rattle.value_core.specs.Integers.{integer_of}
 use Rattle.value_core.specs.KeyTexts.{is_stored}
 
 -- the only value of this shape whose key text this may be: a key text is one of the forms that are read

@@ -11,9 +11,10 @@ ghost use Rattle.value_core.specs.KeyTexts.{IsKeyOf};
 use crate::base64_texts::read_base64;
 use crate::decimals::read_decimal_key;
 use crate::fault::ValueFault;
-use crate::numbers::{read_integer, read_natural};
+use crate::numbers::read_integer;
 use crate::shapes::{fits_signed, is_below_power, is_listed};
 use base_kinds::{Copied, Shape, Text, Value};
+use plain_texts::natural_of;
 use std::alloc::Global;
 
 /// The value of this shape whose key text this is. There is one at most.
@@ -71,7 +72,7 @@ fn read_uint(width: u8, octets: &[u8]) -> Result<u64, ValueFault>
     ensures err { OnErr result ((number : ℕ) → number < 2 ^ 64 → IsTrue (nat_lt number (2 ^ width))
         → octets.now ≡ decimal number → ⊥) }
 {
-    let Some(number) = read_natural(octets) else {
+    let Some(number) = natural_of(octets) else {
         return Err(ValueFault::BadValue);
     };
     if !is_below_power(number, width) {

@@ -23,6 +23,6 @@ pub use fault::ValueFault;
 pub use key_reading::read_key;
 pub use key_texts::key_text;
 pub use laws::{decimals_read_back, functions_give_what_is_spelled, one_decimal, one_value_a_key};
-pub use numbers::{read_integer, read_natural, with_sign, with_zeros};
+pub use numbers::{read_integer, with_sign, with_zeros};
 pub use shapes::{check_value, is_listed};
 pub use value_texts::value_text;

@@ -1,12 +1,13 @@
 // Numbers in decimal digits, read exactly.
 ghost use Rattle.std.specs.Prelude.{◌≡◌, ℕ, ℤ, ◌+◌, ◌*◌, ◌^◌, ◌<◌, ◌≤◌, List, ◌++◌, IsTrue, IfSome, IfNone, OnSome, MatchOption, true};
 ghost use Rattle.std.specs.Char.{digit_value};
-ghost use Rattle.std.specs.Fmt.{decimal, signed_decimal, sign_text};
+ghost use Rattle.std.specs.Fmt.{signed_decimal, sign_text};
 ghost use Rattle.std.specs.Str.Parse.{AllDigits, digits_value_after};
 ghost use Rattle.base_kinds.specs.Values.{fits_signed};
 ghost use Rattle.value_core.specs.Decimals.{signed, with_sign};
-ghost use Rattle.value_core.specs.Integers.{natural_of, integer_of};
-ghost use Rattle.value_core.specs.inner.Plain.{is_plain};
+ghost use Rattle.value_core.specs.Integers.{integer_of};
+
+use plain_texts::natural_of;
 
 /// The number that an octet makes as the last digit behind those of a number.
 pub(crate) fn with_digit(number: u64, octet: u8) -> Option<u64>
@@ -81,27 +82,6 @@ pub(crate) fn after_minus(octets: &[u8]) -> Option<&[u8]>
     octets.strip_prefix(b"-")
 }
 
-/// The number that the octets spell in decimal, without leading zeros.
-fn natural_in(octets: &[u8]) -> Option<u64>
-    ensures some { IfSome result (λ number. octets.now ≡ decimal number) }
-    ensures small { IfSome result (λ number. number < 2 ^ 64) }
-    ensures none { IfNone result ((number : ℕ) → number < 2 ^ 64 → octets.now ≡ decimal number
-        → ⊥) }
-{
-    if !begins_plainly(octets) {
-        return None;
-    }
-    let number = with_digits(0, octets)?;
-    Some(number)
-}
-
-/// Whether some octet is there, and no zero in front of others.
-fn begins_plainly(octets: &[u8]) -> bool
-    ensures { result ≡ is_plain octets.now }
-{
-    !octets.is_empty() && (octets[0] != b'0' || octets.len() == 1)
-}
-
 /// The number that the octets spell in decimal, with a `-` where it is negative and without leading zeros.
 fn integer_in(octets: &[u8]) -> Option<i64>
     ensures some { IfSome result (λ number. octets.now ≡ signed_decimal number) }
@@ -111,12 +91,12 @@ fn integer_in(octets: &[u8]) -> Option<i64>
 {
     match after_minus(octets) {
         None => {
-            let number = natural_in(octets)?;
+            let number = natural_of(octets)?;
             let value = with_sign(false, number)?;
             Some(value)
         }
         Some(digits) => {
-            let magnitude = natural_in(digits)?;
+            let magnitude = natural_of(digits)?;
             if magnitude == 0 {
                 return None;
             }
@@ -124,17 +104,6 @@ fn integer_in(octets: &[u8]) -> Option<i64>
             Some(negative)
         }
     }
-}
-
-/// The number of 64 bits that the octets spell in decimal, without leading zeros.
-pub fn read_natural(octets: &[u8]) -> Option<u64>
-    ensures value { result ≡ natural_of octets.now }
-    ensures some { IfSome result (λ number. octets.now ≡ decimal number) }
-    ensures small { IfSome result (λ number. number < 2 ^ 64) }
-    ensures none { IfNone result ((number : ℕ) → number < 2 ^ 64 → octets.now ≡ decimal number
-        → ⊥) }
-{
-    natural_in(octets)
 }
 
 /// The number of 64 bits that the octets spell in decimal, with a `-` where it is negative and without leading zeros.

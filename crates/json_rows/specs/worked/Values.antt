@@ -14,8 +14,9 @@ use Rattle.base_kinds.specs.declared.value.Value.TheVariants as values
 use Rattle.base_kinds.specs.Limits.{most_json_depth}
 use Rattle.base_kinds.specs.Schema.{SchemaNode}
 use Rattle.json_rows.specs.declared.fault.RowsFault.TheVariants.{NotInSchema, BadValue}
+use Rattle.plain_texts.specs.Numbers.{natural_of}
 use Rattle.value_core.specs.Decimals.{decimal_of}
-use Rattle.value_core.specs.Integers.{natural_of, integer_of}
+use Rattle.value_core.specs.Integers.{integer_of}
 use Rattle.json_rows.specs.Leaves.{leaf_of}
 use Rattle.json_rows.specs.Members.{module_in, name_in}
 use Rattle.json_rows.specs.Rows.{rows_of_data, rows_of}

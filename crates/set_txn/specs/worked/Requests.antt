@@ -20,8 +20,9 @@ use Rattle.base_kinds.specs.declared.request.UnresolvedSet.{UnresolvedSet}
 use Rattle.base_kinds.specs.declared.refusal.Refusal.TheVariants.{BadPath, NotInSchema, BadValue, Unsupported, BadDuration, MixedAction, BadId}
 use Rattle.base_kinds.specs.Schema.{SchemaNode}
 use Rattle.set_txn.specs.Actions.{duration}
+use Rattle.plain_texts.specs.Numbers.{natural_of}
 use Rattle.value_core.specs.Decimals.{decimal_of}
-use Rattle.value_core.specs.Integers.{natural_of, integer_of}
+use Rattle.value_core.specs.Integers.{integer_of}
 use Rattle.value_core.specs.KeyValues.{key_value}
 use Rattle.set_txn.specs.Resolution.{resolved}
 use Rattle.set_txn.specs.Scalars.{value_in_shape, decimal_with}

@@ -6,8 +6,9 @@ use Rattle.base_kinds.specs.declared.value.Value.{Value}
 use Rattle.base_kinds.specs.Legal.{is_fit_scalar}
 use Rattle.base_kinds.specs.Texts.{dec_text}
 use Rattle.base_kinds.specs.Values.{fits_signed}
+use Rattle.plain_texts.specs.Numbers.{natural_of}
 use Rattle.value_core.specs.Decimals.{IsDecimal, decimal_of}
-use Rattle.value_core.specs.Integers.{natural_of, integer_of}
+use Rattle.value_core.specs.Integers.{integer_of}
 use Rattle.value_core.specs.KeyTexts.{IsKeyOf}
 use Rattle.value_core.specs.KeyValues.{key_value}
 

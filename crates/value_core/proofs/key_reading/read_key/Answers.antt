@@ -1,4 +1,4 @@
-use Rattle.std.proofs.Common.{◌≡◌, sym, ◌∙◌}
+use Rattle.std.proofs.Common.{sym, ◌∙◌}
 use Rattle.value_core.proofs.Keys.{bin_from}
 use Rattle.value_core.proofs.key_reading.read_key.Goals as goal
 

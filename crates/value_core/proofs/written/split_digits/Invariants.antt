@@ -1,4 +1,3 @@
-use Rattle.std.proofs.Common.{◌≡◌, length}
 use Rattle.value_core.proofs.Glyphs.{IsWrittenFrom}
 use Rattle.value_core.proofs.written.split_digits.Given as goal
 
