@@ -41,6 +41,20 @@ next_at Word kind Next octets value rest front line is =
     let same = same_front Word kind octets is.value value is.rest rest is.front front in
     subst (λ (r : List ℕ). Next value r line) same.1 (subst (λ v. Next v is.rest line) same.0 is.next)
 
+-- ---- no line
+
+-- where no such word stands at the front
+pub none_at : {A : Type 0} {Word : List ℕ → A → Type 0} {Next : A → List ℕ → Line → Type 0} {octets : List ℕ} → ((value : A) (rest : List ℕ) → IsFront Word octets value rest → ⊥) → (line : Line) → Then Word Next octets line → ⊥
+none_at none line is = none is.value is.rest is.front
+
+-- where the octets are no such word
+pub none_last : {A : Type 0} {Word : List ℕ → A → Type 0} {make : A → Line} {octets : List ℕ} → ((value : A) → Word octets value → ⊥) → (line : Line) → Last Word make octets line → ⊥
+none_last none line is = none is.value is.is
+
+-- where what is behind the front that was read makes none
+pub none_behind : {A : Type 0} {Word : List ℕ → A → Type 0} {Next : A → List ℕ → Line → Type 0} {octets : List ℕ} {value : A} {rest : List ℕ} → IsWordKind Word → IsFront Word octets value rest → ((line : Line) → Next value rest line → ⊥) → (line : Line) → Then Word Next octets line → ⊥
+none_behind {A} {Word} {Next} {octets} {value} {rest} kind front none line is = none line (next_at Word kind Next octets value rest front line is)
+
 -- ---- octets are one line at most
 
 abbrev pub OneLine : (List ℕ → Line → Type 0) → Type 0
