@@ -5,6 +5,7 @@ use Rattle.std.specs.List.{AllByRecursion}
 use Rattle.std.proofs.lemmas.List.Elements.{All-head, All-tail}
 use Rattle.std.proofs.lemmas.Bool.{eqb-true, eqb-false}
 use Rattle.std.proofs.lemmas.List.{length-take}
+use Rattle.base_lists.specs.Results.{and_then}
 use Rattle.hpack_block.specs.declared.header.Header.{Header}
 use Rattle.hpack_block.specs.declared.header.BlockFault.{BlockFault}
 use Rattle.hpack_block.specs.declared.header.BlockFault.TheVariants as unread
@@ -26,7 +27,7 @@ use Rattle.h2_calls.specs.declared.peer.Peer.{Peer}
 use Rattle.h2_calls.specs.Codes.{has, kind_of, largest_block, most_streams}
 use Rattle.h2_calls.specs.States.{is_idle, state_among, peer_ends, open_stream, opened_and_reset, reset}
 use Rattle.h2_calls.specs.Outcomes.{Outcome, nothing, gives, stream_fault}
-use Rattle.h2_calls.specs.Payloads.{between, padded_content, content, number, with_setting, and_then, with_settings}
+use Rattle.h2_calls.specs.Payloads.{between, padded_content, content, number, with_setting, with_settings}
 use Rattle.h2_calls.specs.Requests.{is_well_formed}
 use Rattle.h2_calls.specs.Blocks.{refused, request, later_block, block_on, headers_mean, BlockMeans}
 use Rattle.h2_calls.specs.Meanings.{Meaning, said, block_ends, data_on, data_with, data_means, with_fragment, longer, headers_with, headers_begin, continuation_means, priority_means, reset_on, rst_stream_means, outcome_of_settings, settings_mean, ping_means, goaway_means, increment_on, increment_means, window_update_means, kind_means, next_means, meaning_of, Comes, Means}
@@ -300,7 +301,7 @@ setting_low name value told le =
     (λ _. either_low (nat_lt largest_window value) (Err flow_control_error) (Ok (record told { window = value })) (λ _. low_fault flow_control_error) (λ e. record { low = grind (arith, e) }))
     (λ _. either_low ((name == 5) && (nat_lt value 16384 || nat_lt 16777215 value)) (Err protocol_error) (Ok told) (λ _. low_fault protocol_error) (λ _. record { low = le }))))
 
-then_low : (rest : Settings → Result Settings ℕ) (told : Result Settings ℕ) → IsLow told → ((s : Settings) → s.window ≤ largest_window → IsLow (rest s)) → IsLow (and_then rest told)
+then_low : (rest : Settings → Result Settings ℕ) (told : Result Settings ℕ) → IsLow told → ((s : Settings) → s.window ≤ largest_window → IsLow (rest s)) → IsLow (and_then told rest)
 then_low rest (Err code) p q = low_fault code
 then_low rest (Ok s) p q = q s p.low
 

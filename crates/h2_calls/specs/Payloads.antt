@@ -1,5 +1,6 @@
 -- Payloads of frames (RFC 9113 section 6).
 use Rattle.std.specs.Prelude.{ℕ, ◌+◌, ◌-◌, ◌*◌, List, [], ◌∷◌, Bool, ◌||◌, ◌&&◌, ◌==◌, nat_lt, length, take, drop, if◌then◌else◌, Result, Ok, Err}
+use Rattle.base_lists.specs.Results.{and_then}
 use Rattle.h2_calls.specs.declared.settings.Settings.{Settings}
 use Rattle.h2_frame.specs.ErrorCodes.{protocol_error, flow_control_error, frame_size_error}
 use Rattle.h2_frame.specs.Kinds.{padded_flag}
@@ -42,13 +43,9 @@ with_setting name value told =
     else if (name == 5) && (nat_lt value 16384 || nat_lt 16777215 value) then Err protocol_error
     else Ok told
 
-abbrev pub and_then : (Settings → Result Settings ℕ) → Result Settings ℕ → Result Settings ℕ
-and_then rest (Err code) = Err code
-and_then rest (Ok told) = rest told
-
 -- Settings are taken in their order, six octets each (section 6.5.1).
 abbrev pub with_settings : List ℕ → Settings → Result Settings ℕ
 with_settings (n1 ∷ n0 ∷ v3 ∷ v2 ∷ v1 ∷ v0 ∷ rest) told =
-    and_then (with_settings rest)
-    (with_setting (number 0 (n1 ∷ n0 ∷ [])) (number 0 (v3 ∷ v2 ∷ v1 ∷ v0 ∷ [])) told)
+    and_then (with_setting (number 0 (n1 ∷ n0 ∷ [])) (number 0 (v3 ∷ v2 ∷ v1 ∷ v0 ∷ [])) told)
+    (with_settings rest)
 with_settings _ told = Ok told
