@@ -1,6 +1,7 @@
 -- What is judged of an ask, case by case.
-use Rattle.std.proofs.Common.{◌≡◌, ℕ, ◌+◌, ◌≤◌, List, true, false, Ok, Err, refl, sym, ap, ◌∙◌, IsTrue, nat_le}
+use Rattle.std.proofs.Common.{◌≡◌, ℕ, ◌+◌, ◌≤◌, List, true, false, Result, Ok, Err, refl, sym, ap, ◌∙◌, IsTrue, nat_le}
 use Rattle.std.proofs.lemmas.Bool.{and_parts, leb-true}
+use Rattle.base_lists.specs.Results.{IsUnlessMemory}
 use Rattle.base_kinds.specs.declared.operation.Op.{Op}
 use Rattle.base_kinds.specs.declared.entry.Ask.TheVariants as asks
 use Rattle.base_kinds.specs.declared.entry.Entry.{Entry}
@@ -22,6 +23,11 @@ use Rattle.commit_core.specs.inner.Refusals.{IsChangeRefusal, IsTrialRefusal}
 -- a duration that a trial may have is at most a day
 pub short : (duration : ℕ) → IsTrue (is_fit_duration duration) → duration ≤ longest_duration
 short duration fit = leb-true duration longest_duration (and_parts (nat_le shortest_duration duration) (nat_le duration longest_duration) fit).1
+
+-- what is defined is it, also where memory may want
+pub exactly : {A E : Type 0} (memory : E) (found defined : Result A E) → found ≡ defined → IsUnlessMemory memory found defined
+exactly memory (Ok a) defined is = sym is
+exactly memory (Err fault) defined is = λ other. sym is
 
 module _ (schema : List SchemaNode) (limits : Limits) (h : List Entry) (now author : ℕ) (ops : List Op) where
   pub apply_refused : (refusal : Refusal) → IsChangeRefusal schema (world_of h) ops refusal → (refusal ≡ refusals.NoMemory → ⊥) → judge (rules_of schema limits) h now author (asks.Apply ops) ≡ Err refusal

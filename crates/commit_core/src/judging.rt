@@ -31,6 +31,7 @@ pub struct Judged<T> {
 
 impl<T: TreeLike + Drop> Core<T> {
     /// What the ask becomes, or why it is refused.
+    #[tactic(auto, using(crate::proofs::Judged::exactly))]
     pub(crate) fn answer(
         &self,
         alloc: Global,
@@ -118,8 +119,8 @@ impl<T: TreeLike + Drop> Core<T> {
     #[tactic(auto, using(crate::proofs::Judged::confirm_refused, crate::proofs::Judged::confirm_accepted))]
     fn answer_confirm(&self, now: u64, author: u32, id: &Text) -> Result<Judged<T>, Refusal>
         ensures judged { let rules = rules_of self.now.schema self.now.limits in
-            IsUnlessMemory Refusal.NoMemory (and_then result (λ judged. Ok judged.entry))
-            (judge rules self.now.entries now author (Ask.Confirm id.now)) }
+            and_then result (λ judged. Ok judged.entry)
+            ≡ judge rules self.now.entries now author (Ask.Confirm id.now) }
         ensures prepared { IfOk result (λ judged.
             IsPreparedFor (preparation_of T.rows judged.prepared)
             (world_of self.now.entries) judged.entry.kind) }
@@ -135,8 +136,8 @@ impl<T: TreeLike + Drop> Core<T> {
     #[tactic(auto, using(crate::proofs::Judged::cancel_refused, crate::proofs::Judged::cancel_accepted))]
     fn answer_cancel(&self, now: u64, author: u32, id: &Text) -> Result<Judged<T>, Refusal>
         ensures judged { let rules = rules_of self.now.schema self.now.limits in
-            IsUnlessMemory Refusal.NoMemory (and_then result (λ judged. Ok judged.entry))
-            (judge rules self.now.entries now author (Ask.Cancel id.now)) }
+            and_then result (λ judged. Ok judged.entry)
+            ≡ judge rules self.now.entries now author (Ask.Cancel id.now) }
         ensures prepared { IfOk result (λ judged.
             IsPreparedFor (preparation_of T.rows judged.prepared)
             (world_of self.now.entries) judged.entry.kind) }
@@ -159,8 +160,8 @@ impl<T: TreeLike + Drop> Core<T> {
     ) -> Result<Judged<T>, Refusal>
         requires { IsTrue (is_fit_duration duration) }
         ensures judged { let rules = rules_of self.now.schema self.now.limits in
-            IsUnlessMemory Refusal.NoMemory (and_then result (λ judged. Ok judged.entry))
-            (judge rules self.now.entries now author (Ask.Extend id.now duration)) }
+            and_then result (λ judged. Ok judged.entry)
+            ≡ judge rules self.now.entries now author (Ask.Extend id.now duration) }
         ensures prepared { IfOk result (λ judged.
             IsPreparedFor (preparation_of T.rows judged.prepared)
             (world_of self.now.entries) judged.entry.kind) }
