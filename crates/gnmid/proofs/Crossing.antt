@@ -7,7 +7,8 @@ use Rattle.plain_tree.specs.contracts.plain_tree.PlainTree as PlainTree
 use Rattle.plain_tree.specs.contracts.plain_tree.PlainTreeTreeLike.TheImpl as trees
 use Rattle.shared_book.specs.contracts.visit.Visit as Visit
 use Rattle.shared_book.proofs.Crossing.{visit_send}
-use Rattle.shared_book.proofs.Sending.{remembered_send, row_send}
+use Rattle.shared_book.proofs.Sending.{remembered_send}
+use Rattle.target_top.proofs.Crossing.{tree_send}
 use Rattle.gnmid.specs.contracts.disks.FileDisk as FileDisk
 use Rattle.gnmid.specs.contracts.disks.FileDiskDisk.TheImpl as disks
 
@@ -16,9 +17,6 @@ tally_send = search (sendable, crosses, remembered_send) depth 40
 
 disk_send : IsSend FileDisk.the_row
 disk_send = search (sendable, crosses, tally_send) depth 60 fits 10000
-
-tree_send : IsSend PlainTree.the_row
-tree_send = search (sendable, crosses, row_send) depth 60
 
 pub book_send : (R : RattleType) → IsSend R → IsSend (Visit.the_row FileDisk.the_row PlainTree.the_row R disks.ghosts trees.ghosts)
 book_send R r = visit_send FileDisk.the_row PlainTree.the_row disks.ghosts trees.ghosts R disk_send tree_send r

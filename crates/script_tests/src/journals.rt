@@ -1,78 +1,19 @@
-use base_lists::{Bytes, Seq, Text, Texts};
+use crate::program::{End, Given, NOTHING, run_with};
+use base_lists::Bytes;
 use disk_model::read_whole;
-use edge_traits::{MemSink, MemSource};
 use memory_disks::{FuseDisk, NO_STOP};
 use std::alloc::Global;
-use std::collections::VecDeque;
 use std::process::Abort;
 use std::sync::Wait;
 use std::thread::Threads;
-use target_top::{DiskFile, Host, Kit, MemFiles, RunEnd, run};
-use thread_traits::{MemDoor, MemStarter};
-use time_traits::{IdlePacer, StepClock};
 
-struct MemKit;
-
-impl Kit for MemKit {
-    type Files = MemFiles;
-
-    type Input = MemSource;
-
-    type Output = MemSink;
-
-    type Door = MemDoor;
-
-    type Clock = StepClock;
-
-    type Pacer = IdlePacer;
-}
-
-fn octets_of(rt: &impl Abort, alloc: Global, octets: &[u8]) -> Bytes {
-    Bytes::of(alloc, octets).expect(rt, "memory")
-}
-
-/// The words, which are separated by a space.
-fn words_of(rt: &impl Abort, alloc: Global, words: &str) -> Vec<String> {
-    let mut list = Vec::new(alloc);
-    for word in words.split_whitespace() {
-        let word = String::from_str(alloc, word).expect(rt, "memory");
-        list.push(word).expect(rt, "memory");
-    }
-    list
-}
-
-/// The status of a run with these words over the file J with these octets, whose disk stops after so many calls, what is
-/// printed, and the disk that is handed back.
-fn run_over<A: Abort + Threads + Wait + Copy + Drop + Send + Sync + 'static>(
-    rt: &A,
-    alloc: Global,
-    words: &str,
-    octets: &[u8],
-    passes: u64,
-) -> (u8, MemSink, Option<FuseDisk>) {
-    let words = words_of(rt, alloc, words);
-    let file = DiskFile {
-        alloc,
-        name: Text::of(alloc, b"J").expect(rt, "a text"),
-        octets: octets_of(rt, alloc, octets),
+/// A disk with these octets, which stops after so many calls.
+fn on_disk<'a>(journal: &'a [u8], passes: u64) -> Given<'a> {
+    Given {
+        journal,
         passes,
-    };
-    let host: Host<MemKit> = Host {
-        files: MemFiles::of(Text::of(alloc, b"S").expect(rt, "a text"), None, Some(file)),
-        input: MemSource::make(octets_of(rt, alloc, b""), Texts::empty(alloc)),
-        output: MemSink::make(alloc, Texts::empty(alloc)),
-        door: MemDoor::make(VecDeque::new(alloc)),
-        clock: StepClock::make(Seq::empty(alloc)),
-        pacer: IdlePacer,
-    };
-    let RunEnd {
-        status,
-        host,
-        disk,
-        ..
-    } = run(rt, alloc, words.as_slice(), &MemStarter::make(0), host);
-    let Host { output, .. } = host;
-    (status, output, disk)
+        ..NOTHING
+    }
 }
 
 /// What a disk holds, and no octets where there is none.
@@ -108,7 +49,12 @@ fn leaves(
     status: u8,
     left: &[u8],
 ) -> bool {
-    let (ended, output, disk) = run_over(rt, alloc, words, octets, passes);
+    let End {
+        status: ended,
+        output,
+        disk,
+        ..
+    } = run_with(rt, alloc, words, &on_disk(octets, passes));
     let held = held(rt, alloc, disk);
     output.octets() == printed.as_bytes() && ended == status && held.items() == left
 }
@@ -136,8 +82,10 @@ fn ends_with_5(
     passes: u64,
     given: bool,
 ) -> bool {
-    let (ended, output, disk) = run_over(rt, alloc, words, octets, passes);
-    output.octets() == b"disk fault\n".as_slice() && ended == 5 && disk.is_some() == given
+    let end = run_with(rt, alloc, words, &on_disk(octets, passes));
+    end.output.octets() == b"disk fault\n".as_slice()
+        && end.status == 5
+        && end.disk.is_some() == given
 }
 
 #[test]

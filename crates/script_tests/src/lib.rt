@@ -12,6 +12,8 @@ mod lines;
 #[cfg(test)]
 mod logs;
 #[cfg(test)]
+mod program;
+#[cfg(test)]
 mod runs;
 #[cfg(test)]
 mod scripts;

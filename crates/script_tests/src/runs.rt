@@ -1,282 +1,73 @@
-ghost use Rattle.std.specs.Prelude.{None};
-ghost use Rattle.edge_traits.specs.Memory.{input_of};
-
 use crate::examples::{HOSTNAME, HOSTNAME_PRINTED, SCHEMA};
-use base_lists::{Bytes, Seq, Text, Texts};
-use edge_traits::{Failed, InputRecord, MemSink, MemSource, Sink, Source};
+use crate::program::{Given, NOTHING, run_with};
 use std::alloc::Global;
-use std::collections::VecDeque;
 use std::process::Abort;
 use std::sync::Wait;
 use std::test::Fail;
 use std::thread::Threads;
-use target_top::{Host, Kit, MemFiles, RunEnd, run};
-use thread_traits::{MemDoor, MemStarter};
-use time_traits::{IdlePacer, StepClock};
-
-/// A source that gives one octet at a time.
-#[derive(Drop)]
-struct Drip {
-    source: MemSource,
-}
-
-impl Source for Drip {
-    ghost seen = { λ d. input_of d.source };
-
-    fn read(&mut self, buffer: &mut [u8]) -> Result<usize, Failed> {
-        if buffer.is_empty() {
-            return Ok(0);
-        }
-        self.source.read(&mut buffer[..1])
-    }
-}
-
-/// A sink that takes one octet at a time.
-#[derive(Drop)]
-struct Trickle {
-    sink: MemSink,
-}
-
-impl Sink for Trickle {
-    ghost seen = { λ t. t.sink.seen };
-
-    fn write(&mut self, piece: &[u8]) -> Result<usize, Failed> {
-        if piece.is_empty() {
-            return Ok(0);
-        }
-        self.sink.write(&piece[..1])
-    }
-}
-
-struct MemKit;
-
-impl Kit for MemKit {
-    type Files = MemFiles;
-
-    type Input = MemSource;
-
-    type Output = MemSink;
-
-    type Door = MemDoor;
-
-    type Clock = StepClock;
-
-    type Pacer = IdlePacer;
-}
-
-/// A source each of whose reads fails.
-#[derive(Drop)]
-struct FailSource {
-    faults: u64,
-    past: InputRecord,
-}
-
-impl FailSource {
-    fn make() -> FailSource {
-        FailSource {
-            faults: 0,
-            past: InputRecord::unread(),
-        }
-    }
-}
-
-impl Source for FailSource {
-    ghost seen = { λ s. record s.past { left = None } };
-
-    fn read(&mut self, buffer: &mut [u8]) -> Result<usize, Failed> {
-        let _ = buffer;
-        self.faults = self.faults.saturating_add(1);
-        self.past.failed();
-        Err(Failed)
-    }
-}
-
-struct FailKit;
-
-impl Kit for FailKit {
-    type Files = MemFiles;
-
-    type Input = FailSource;
-
-    type Output = MemSink;
-
-    type Door = MemDoor;
-
-    type Clock = StepClock;
-
-    type Pacer = IdlePacer;
-}
-
-struct DripKit;
-
-impl Kit for DripKit {
-    type Files = MemFiles;
-
-    type Input = Drip;
-
-    type Output = Trickle;
-
-    type Door = MemDoor;
-
-    type Clock = StepClock;
-
-    type Pacer = IdlePacer;
-}
-
-fn octets_of(rt: &impl Abort, alloc: Global, octets: &[u8]) -> Bytes {
-    Bytes::of(alloc, octets).expect(rt, "memory")
-}
-
-/// The decimal texts of these numbers.
-fn numbers_of(rt: &impl Abort, alloc: Global, numbers: &[u64]) -> Texts {
-    let mut texts = Texts::empty(alloc);
-    for number in numbers {
-        let digits = number.to_string(alloc).expect(rt, "memory");
-        let text = Text::of(alloc, digits.as_bytes()).expect(rt, "a text");
-        texts.push(text).expect(rt, "memory");
-    }
-    texts
-}
-
-/// The words, which are separated by a space.
-fn words_of(rt: &impl Abort, alloc: Global, words: &str) -> Vec<String> {
-    let mut list = Vec::new(alloc);
-    for word in words.split_whitespace() {
-        let word = String::from_str(alloc, word).expect(rt, "memory");
-        list.push(word).expect(rt, "memory");
-    }
-    list
-}
-
-/// The file S with this text, or none.
-fn files_of(rt: &impl Abort, alloc: Global, text: Option<&[u8]>) -> MemFiles {
-    let name = Text::of(alloc, b"S").expect(rt, "a text");
-    match text {
-        Some(octets) => MemFiles::of(name, Some(octets_of(rt, alloc, octets)), None),
-        None => MemFiles::of(name, None, None),
-    }
-}
-
-/// What the words print over this input and this text of a file, and the status, where these writes fail.
-fn run_over<A: Abort + Threads + Wait + Copy + Drop + Send + Sync + 'static>(
-    rt: &A,
-    alloc: Global,
-    words: &str,
-    schema: &str,
-    script: &[u8],
-    writes: &[u64],
-) -> (u8, MemSink) {
-    let words = words_of(rt, alloc, words);
-    let host: Host<MemKit> = Host {
-        files: files_of(rt, alloc, Some(schema.as_bytes())),
-        input: MemSource::make(octets_of(rt, alloc, script), Texts::empty(alloc)),
-        output: MemSink::make(alloc, numbers_of(rt, alloc, writes)),
-        door: MemDoor::make(VecDeque::new(alloc)),
-        clock: StepClock::make(Seq::empty(alloc)),
-        pacer: IdlePacer,
-    };
-    let RunEnd { status, host, .. } = run(rt, alloc, words.as_slice(), &MemStarter::make(0), host);
-    let Host { output, .. } = host;
-    (status, output)
-}
-
-/// What the words print of the file's text over an input that fails at its first read, the status, and the faults of
-/// the files and of the input. With no text the file can't be read.
-fn fails_over<A: Abort + Threads + Wait + Copy + Drop + Send + Sync + 'static>(
-    rt: &A,
-    alloc: Global,
-    words: &str,
-    text: Option<&[u8]>,
-    writes: &[u64],
-) -> (u8, MemSink, u64, u64) {
-    let words = words_of(rt, alloc, words);
-    let host: Host<FailKit> = Host {
-        files: files_of(rt, alloc, text),
-        input: FailSource::make(),
-        output: MemSink::make(alloc, numbers_of(rt, alloc, writes)),
-        door: MemDoor::make(VecDeque::new(alloc)),
-        clock: StepClock::make(Seq::empty(alloc)),
-        pacer: IdlePacer,
-    };
-    let RunEnd { status, host, .. } = run(rt, alloc, words.as_slice(), &MemStarter::make(0), host);
-    let Host {
-        files,
-        input,
-        output,
-        ..
-    } = host;
-    (status, output, files.faults(), input.faults)
-}
-
-/// A script's run, octet by octet.
-fn drip_over<A: Abort + Threads + Wait + Copy + Drop + Send + Sync + 'static>(
-    rt: &A,
-    alloc: Global,
-    script: &[u8],
-    reads: &[u64],
-    writes: &[u64],
-) -> (u8, MemSink) {
-    let words = words_of(rt, alloc, "script S");
-    let host: Host<DripKit> = Host {
-        files: files_of(rt, alloc, Some(SCHEMA.as_bytes())),
-        input: Drip {
-            source: MemSource::make(octets_of(rt, alloc, script), numbers_of(rt, alloc, reads)),
-        },
-        output: Trickle {
-            sink: MemSink::make(alloc, numbers_of(rt, alloc, writes)),
-        },
-        door: MemDoor::make(VecDeque::new(alloc)),
-        clock: StepClock::make(Seq::empty(alloc)),
-        pacer: IdlePacer,
-    };
-    let RunEnd { status, host, .. } = run(rt, alloc, words.as_slice(), &MemStarter::make(0), host);
-    let Host { output, .. } = host;
-    let Trickle { sink } = output;
-    (status, sink)
-}
 
 /// Whether the words print this over this input and this text of a file, where these writes fail, and end so.
-fn prints(
+fn prints<'a>(
     rt: &(impl Abort + Threads + Wait + Copy + Drop + Send + Sync + 'static),
     alloc: Global,
     words: &str,
-    schema: &str,
-    script: &str,
-    writes: &[u64],
+    schema: &'a str,
+    script: &'a str,
+    bad_writes: &'a [u64],
     printed: &str,
     status: u8,
 ) -> bool {
-    let (ended, output) = run_over(rt, alloc, words, schema, script.as_bytes(), writes);
-    output.octets() == printed.as_bytes() && ended == status
+    let given = Given {
+        schema: Some(schema.as_bytes()),
+        input: script.as_bytes(),
+        bad_writes,
+        ..NOTHING
+    };
+    let end = run_with(rt, alloc, words, &given);
+    end.output.octets() == printed.as_bytes() && end.status == status
 }
 
-/// What the words print over an input that fails and this text of a file, where these writes fail, and the status with the
-/// faults of the files and of the input.
-fn fails_so(
+/// Whether the words print this over an input that fails at its first read and this text of a file, where these writes fail, and
+/// end with this status, so many faults of the files and so many reads of the input.
+fn fails_so<'a>(
     rt: &(impl Abort + Threads + Wait + Copy + Drop + Send + Sync + 'static),
     alloc: Global,
     words: &str,
-    text: Option<&[u8]>,
-    writes: &[u64],
+    schema: Option<&'a [u8]>,
+    bad_writes: &'a [u64],
     printed: &str,
-    end: (u8, u64, u64),
+    wanted: (u8, u64, u64),
 ) -> bool {
-    let (ended, output, texts, reads) = fails_over(rt, alloc, words, text, writes);
-    output.octets() == printed.as_bytes() && (ended, texts, reads) == end
+    let given = Given {
+        schema,
+        bad_reads: &[1],
+        bad_writes,
+        ..NOTHING
+    };
+    let end = run_with(rt, alloc, words, &given);
+    end.output.octets() == printed.as_bytes() && (end.status, end.file_faults, end.reads) == wanted
 }
 
 /// Whether a script's run, octet by octet, writes this where these reads and writes fail, and ends so.
-fn drips(
+fn drips<'a>(
     rt: &(impl Abort + Threads + Wait + Copy + Drop + Send + Sync + 'static),
     alloc: Global,
-    script: &str,
-    reads: &[u64],
-    writes: &[u64],
+    script: &'a str,
+    bad_reads: &'a [u64],
+    bad_writes: &'a [u64],
     written: &[u8],
     status: u8,
 ) -> bool {
-    let (ended, output) = drip_over(rt, alloc, script.as_bytes(), reads, writes);
-    output.octets() == written && ended == status
+    let given = Given {
+        schema: Some(SCHEMA.as_bytes()),
+        input: script.as_bytes(),
+        bad_reads,
+        bad_writes,
+        by_octets: true,
+        ..NOTHING
+    };
+    let end = run_with(rt, alloc, "script S", &given);
+    end.output.octets() == written && end.status == status
 }
 
 /// Words, a script, what is printed, and the status.

@@ -1,19 +1,16 @@
 //! The environment of a connection whose peer waits for what is answered before it sends more.
 ghost use Rattle.edge_traits.specs.Memory.{input_of};
-ghost use Rattle.real_edges.specs.HeldStarters.{StartsJob};
 
 use base_lists::{NoMemory, Seq};
 use edge_traits::{Failed, MemSink, MemSource, Sink, Source};
+use gnmi_server::Feeding;
 use memory_disks::MemDisk;
 use plain_tree::PlainTree;
-use real_edges::ThreadStarter;
 use shared_book::Visit;
-use shared_wire::WireVisit;
 use std::alloc::Global;
+use std::sync::Arc;
 use std::sync::atomic::{AtomicU64, Ordering};
-use std::sync::{Arc, Wait};
-use std::thread::{self, Threads};
-use stream_feed::FeedJob;
+use std::thread;
 use thread_traits::{Job, Running, Starter};
 use time_traits::{Pacer, StepClock};
 
@@ -21,13 +18,7 @@ use time_traits::{Pacer, StepClock};
 pub(crate) type TestBook<R> = Visit<MemDisk, PlainTree, R>;
 
 /// The job of a feeder over it.
-pub(crate) type TestJob<R> = FeedJob<
-    TestBook<R>,
-    WireVisit<CountingSink, R>,
-    StepClock,
-    YieldingPacer,
-    R,
->;
+pub(crate) type TestFeeding<R> = Feeding<TestBook<R>, CountingSink, R, StepClock, YieldingPacer>;
 
 /// A pacer that lets other threads go on.
 #[derive(Drop)]
@@ -149,16 +140,6 @@ impl Source for WaitingSource {
             Err(Failed) => Err(Failed),
         }
     }
-}
-
-/// Starts a thread for the job of a feeder.
-pub(crate) fn start_in_thread<R: Threads + Wait + Clone + Drop + Send + Sync + 'static>(
-    threads: &mut ThreadStarter<R>,
-    job: TestJob<R>,
-) -> Result<Running<TestJob<R>>, TestJob<R>>
-    ensures { StartsJob (λ running. running) job result threads.old threads.new }
-{
-    threads.start(job)
 }
 
 /// A starter that counts the jobs that it starts.

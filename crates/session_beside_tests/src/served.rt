@@ -4,14 +4,15 @@ ghost use Rattle.std.specs.Thread.{IsSend};
 ghost use Rattle.real_edges.specs.HeldStarters.{StartsJob};
 
 use crate::edges::{
-    Counter, CountingSink, CountingStarter, Goals, TestBook, TestJob, WaitingSource, YieldingPacer,
-    start_in_thread,
+    Counter, CountingSink, CountingStarter, Goals, TestBook, TestFeeding, WaitingSource,
+    YieldingPacer,
 };
 use base_kinds::Limits;
 use base_lists::{Bytes, Copied, Seq, Text, Texts};
 use book_core::{Book, BookOpening};
 use commit_journal::Ledger;
 use edge_traits::{MemSink, MemSource};
+use gnmi_server::start_feeder;
 use memory_disks::MemDisk;
 use plain_tree::PlainTree;
 use real_edges::{HeldStarter, ReadyStarter, Starting, ThreadStarter};
@@ -186,7 +187,7 @@ fn serve_with<R, S>(
 ) -> SessionEnd<WaitingSource, CountingSink, TestBook<R>, StepClock>
 where
     R: Threads + Wait + Abort + Copy + Drop,
-    S: Starter<TestJob<R>> + Drop,
+    S: Starter<TestFeeding<R>> + Drop,
 {
     let (input, output) = edges(&rt, alloc, given);
     let schema = schema(&rt, alloc);
@@ -215,7 +216,7 @@ fn serve_ready<R, S>(
 ) -> SessionEnd<WaitingSource, CountingSink, TestBook<R>, StepClock>
 where
     R: Threads + Wait + Abort + Copy + Drop,
-    S: Starting<TestJob<R>> + Drop,
+    S: Starting<TestFeeding<R>> + Drop,
     requires { S.ready starting }
 {
     let starter = ReadyStarter::make(starting);
@@ -230,13 +231,13 @@ pub(crate) fn beside<R: Threads + Wait + Abort + Copy + Drop + Send + Sync + 'st
 ) -> Outcome {
     let refused = texts_of(&rt, alloc, given.starts);
     let threads = ThreadStarter::refusing(rt, alloc, refused, Texts::empty(alloc));
-    let start = |threads: &mut ThreadStarter<R>, job: TestJob<R>| -> Result<
-        Running<TestJob<R>>,
-        TestJob<R>,
+    let start = |threads: &mut ThreadStarter<R>, job: TestFeeding<R>| -> Result<
+        Running<TestFeeding<R>>,
+        TestFeeding<R>,
     >
         requires { IsSend R.row }
         ensures { StartsJob (λ running. running) job result threads.old threads.new }
-    { start_in_thread::<R>(threads, job) };
+    { start_feeder::<R, CountingSink, TestBook<R>, StepClock, YieldingPacer>(threads, job) };
     let (started, theirs) = counters(&rt, alloc);
     let starting = HeldStarter::make(threads, start);
     let end = serve_ready(rt, alloc, given, starting, theirs);
