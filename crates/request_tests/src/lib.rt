@@ -2,10 +2,16 @@
 #![tactic(auto)]
 
 #[cfg(test)]
+mod actions;
+#[cfg(test)]
+mod asked;
+#[cfg(test)]
 mod builders;
 #[cfg(test)]
-mod reading;
+mod operations;
 #[cfg(test)]
-mod requests;
+mod paths;
+#[cfg(test)]
+mod reading;
 #[cfg(test)]
 mod writing;

@@ -1,0 +1,154 @@
+//! What a request does beside its operations: durations and ids of trials, and the first cause of a refusal.
+use crate::asked::{SCHEMA, Sent, answer, assert_answer, put, put_number, refused, request};
+use crate::builders::{octets_of, schema_of, text_of};
+use base_kinds::{Action, Bytes, Refusal, Span, Text, UnresolvedSet};
+use std::alloc::Global;
+use std::process::Abort;
+
+fn action_of(word: &str, id: Text, span: Span) -> Action {
+    match word {
+        "trial" => Action::Trial(id, span),
+        "confirm" => Action::Confirm(id),
+        "cancel" => Action::Cancel(id),
+        "extend" => Action::Extend(id, span),
+        "mixed" => Action::Mixed,
+        _ => Action::Plain,
+    }
+}
+
+/// A request with these operations and this action.
+fn acting(
+    rt: &impl Abort,
+    alloc: Global,
+    lines: &[(&str, &str, Sent)],
+    action: Action,
+) -> UnresolvedSet {
+    let mut ask = request(rt, alloc, "/", lines);
+    ask.action = action;
+    ask
+}
+
+/// Spans, and their nanoseconds, which are 0 where they are refused.
+const SPANS: &[(Span, u64)] = &[
+    (Span::Absent, 600_000_000_000),
+    (Span::Of(1, 0), 1_000_000_000),
+    (Span::Of(0, 999_999_999), 0),
+    (Span::Of(0, 1_000_000_000), 0),
+    (Span::Of(1, -1), 0),
+    (Span::Of(2, -1), 0),
+    (Span::Of(1, 999_999_999), 1_999_999_999),
+    (Span::Of(1, 1_000_000_000), 0),
+    (Span::Of(86_399, 999_999_999), 86_399_999_999_999),
+    (Span::Of(86_400, 0), 86_400_000_000_000),
+    (Span::Of(86_400, 1), 0),
+    (Span::Of(86_401, 0), 0),
+    (Span::Of(-1, 0), 0),
+    (Span::Of(i64::MAX, i64::MAX), 0),
+    (Span::Of(i64::MIN, i64::MIN), 0),
+    (Span::Of(18_446_744_074, 0), 0),
+];
+
+fn duration_text(rt: &impl Abort, alloc: Global, word: &str, nanos: u64) -> Bytes {
+    if nanos == 0 {
+        return refused(rt, alloc, Refusal::BadDuration);
+    }
+    let mut text = octets_of(rt, alloc, word.as_bytes());
+    put(rt, &mut text, " t");
+    put_number(rt, alloc, nanos, &mut text);
+    text
+}
+
+#[test]
+fn durations_have_bounds(rt: HostRuntime) {
+    let alloc = rt.alloc();
+    let schema = schema_of(&rt, alloc, SCHEMA);
+    for (span, nanos) in SPANS.iter().copied() {
+        for word in ["trial", "extend"] {
+            let action = action_of(word, text_of(&rt, alloc, "t"), span);
+            let ask = acting(&rt, alloc, &[], action);
+            let answer = answer(&rt, alloc, &schema, &ask);
+            let expected = duration_text(&rt, alloc, word, nanos);
+            assert_eq!(rt; answer, expected, "{word} {span:?}");
+        }
+    }
+}
+
+/// A text of so many octets.
+fn long_text(rt: &impl Abort, alloc: Global, length: usize) -> Text {
+    let mut octets = Bytes::empty(alloc);
+    for _ in 0..length {
+        octets.extend_from_slice(b"i").expect(rt, "memory");
+    }
+    Text::of(alloc, octets.items()).expect(rt, "a text")
+}
+
+#[test]
+fn ids_have_1_to_64_octets(rt: HostRuntime) {
+    let alloc = rt.alloc();
+    let schema = schema_of(&rt, alloc, SCHEMA);
+    for (length, is_taken) in [(0, false), (1, true), (64, true), (65, false)] {
+        for word in ["trial", "confirm", "cancel", "extend"] {
+            let id = long_text(&rt, alloc, length);
+            let ask = acting(&rt, alloc, &[], action_of(word, id, Span::Absent));
+            let answer = answer(&rt, alloc, &schema, &ask);
+            let is_refused = answer.items() == b"refused 15".as_slice();
+            assert_eq!(rt; is_refused, !is_taken, "{word} of {length}");
+        }
+    }
+}
+
+/// Whether something isn't supported, the action, its id, its span, the path of an update, and what becomes of the request.
+const CAUSES: &[(bool, &str, &str, Span, &str, &str)] = &[
+    (true, "extend", "", Span::Of(0, 0), "/none", "refused 9"),
+    (false, "extend", "", Span::Of(0, 0), "/none", "refused 14"),
+    (false, "trial", "", Span::Of(0, 0), "/none", "refused 15"),
+    (false, "trial", "t", Span::Of(0, 0), "/none", "refused 13"),
+    (false, "trial", "t", Span::Absent, "/none", "refused 6"),
+    (
+        false,
+        "trial",
+        "t",
+        Span::Of(2, 1),
+        "/lab/on",
+        "trial t 2000000001; update /lab/on: /lab/on=true",
+    ),
+];
+
+#[test]
+fn the_first_cause_of_a_request_decides(rt: HostRuntime) {
+    let alloc = rt.alloc();
+    let schema = schema_of(&rt, alloc, SCHEMA);
+    for (unsupported, word, id, span, path, expected) in CAUSES.iter().copied() {
+        let lines = [("update", path, Sent::Bool(true))];
+        let action = action_of(word, text_of(&rt, alloc, id), span);
+        let mut ask = acting(&rt, alloc, &lines, action);
+        ask.unsupported = unsupported;
+        assert_answer(&rt, alloc, &schema, &ask, expected);
+    }
+}
+
+/// Actions, and how what becomes of them beside an operation begins.
+const ACTIONS: &[(&str, &str)] = &[
+    ("plain", "apply; "),
+    ("trial", "trial t 600000000000; "),
+    ("confirm", "refused 14"),
+    ("cancel", "refused 14"),
+    ("extend", "refused 14"),
+    ("mixed", "refused 14"),
+];
+
+#[test]
+fn an_action_without_operations_is_mixed_with_any(rt: HostRuntime) {
+    let alloc = rt.alloc();
+    let schema = schema_of(&rt, alloc, SCHEMA);
+    for (word, expected) in ACTIONS.iter().copied() {
+        for act in ["delete", "replace", "update"] {
+            let action = action_of(word, text_of(&rt, alloc, "t"), Span::Absent);
+            let lines = [(act, "/lab/on", Sent::Bool(true))];
+            let ask = acting(&rt, alloc, &lines, action);
+            let answer = answer(&rt, alloc, &schema, &ask);
+            let begins = answer.items().starts_with(expected.as_bytes());
+            assert!(rt; begins, "{word} with {act}");
+        }
+    }
+}
