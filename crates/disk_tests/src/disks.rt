@@ -46,17 +46,22 @@ const IMAGES: &[(u64, &[u8], &[u8], &[u8])] = &[
     ),
 ];
 
+/// So many, and one more where a call failed.
+fn count(failed: usize, answer: Result<(), Failed>) -> usize {
+    match answer {
+        Ok(()) => failed,
+        Err(Failed) => failed.saturating_add(1),
+    }
+}
+
 /// Answers how many of the calls failed.
 fn make_calls<D: Disk>(disk: &mut D) -> usize {
-    let results = [
-        disk.write_at(1, &[5, 6]),
-        disk.sync(),
-        disk.write_at(5, &[7, 8]),
-        disk.cut(6),
-        disk.write_at(6, &[10]),
-        disk.sync(),
-    ];
-    results.iter().filter(|answer| answer.is_err()).count()
+    let failed = count(0, disk.write_at(1, &[5, 6]));
+    let failed = count(failed, disk.sync());
+    let failed = count(failed, disk.write_at(5, &[7, 8]));
+    let failed = count(failed, disk.cut(6));
+    let failed = count(failed, disk.write_at(6, &[10]));
+    count(failed, disk.sync())
 }
 
 fn has_octets(octets: &[u8], pattern: &[u8], filled: u8) -> bool {
@@ -103,11 +108,12 @@ fn a_stop_leaves_what_its_fill_says(rt: HostRuntime) -> Result<(), NoMemory> {
     Ok(())
 }
 
-/// Makes this many calls, and answers which of them passed, as the digit 1.
+/// Makes this many calls, and answers which of them passed, as the digit 1 behind a first 1.
 fn passing<D: Disk>(disk: &mut D, calls: usize) -> u64 {
-    let mut answers = 1;
-    for _ in 0..calls.min(9) {
-        answers = answers % 1000000000 * 10 + disk.len().is_ok() as u64;
+    let mut answers: u64 = 1;
+    for _ in 0..calls {
+        let passed = u64::from(disk.len().is_ok());
+        answers = answers.saturating_mul(10).saturating_add(passed);
     }
     answers
 }

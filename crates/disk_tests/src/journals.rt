@@ -2,18 +2,19 @@
 //! follow.
 ghost use Rattle.base_kinds.specs.Limits.{AreInRange};
 
-use base_kinds::{Act, Bytes, Elem, Entry, Kind, Limits, Op, Ops, Row, Seq, Text, Value};
+use base_kinds::{
+    Act, Bytes, Elem, Entry, Kind, Limits, Op, Ops, Path, Row, Rows, Seq, Text, Value,
+};
 use journal_format::{
-    CLOSED_GATE, JournalFault, OPEN_GATE, read_journal, write_entry, write_header,
+    CLOSED_GATE, Journal, JournalFault, OPEN_GATE, read_journal, write_entry, write_header,
 };
 use std::alloc::Global;
 use std::process::Abort;
-use std::test::Fail;
 
 // The octets, and what is read where one of them is changed, were worked out apart from this
 // program, from the rules alone: a place below 1,000,000 is that of damage, and 1,000,000 and a
 // number that of the entries.
-const FIRST_SET: [u8; 127] = [
+const FIRST_SET: &[u8] = &[
     71, 78, 77, 73, 74, 82, 78, 49, 0, 1, 0, 0, 16, 0, 0, 0, 165, 0, 0, 0, 1, 0, 0, 0, 0, 0, 0, 3,
     232, 1, 0, 0, 0, 1, 3, 0, 3, 0, 0, 0, 6, 115, 121, 115, 116, 101, 109, 0, 0, 0, 0, 0, 6, 99,
     111, 110, 102, 105, 103, 0, 0, 0, 0, 0, 8, 104, 111, 115, 116, 110, 97, 109, 101, 0, 0, 0, 0,
@@ -21,7 +22,7 @@ const FIRST_SET: [u8; 127] = [
     103, 0, 0, 0, 0, 0, 8, 104, 111, 115, 116, 110, 97, 109, 101, 0, 0, 5, 0, 0, 0, 2, 114, 49, 0,
 ];
 
-const THREE: [u8; 80] = [
+const THREE: &[u8] = &[
     71, 78, 77, 73, 74, 82, 78, 49, 0, 1, 0, 0, 16, 0, 0, 0, 165, 0, 0, 0, 1, 0, 0, 0, 0, 0, 0, 3,
     232, 1, 0, 0, 0, 0, 165, 0, 0, 0, 2, 0, 0, 0, 0, 0, 0, 3, 233, 2, 0, 0, 0, 1, 116, 0, 0, 0, 0,
     59, 154, 205, 233, 0, 0, 0, 0, 165, 0, 0, 0, 3, 0, 0, 0, 0, 0, 0, 3, 234, 3, 0,
@@ -55,33 +56,63 @@ const SMALL: Limits = Limits {
     octets: 4096,
 };
 
-fn outcome(alloc: Global, octets: &[u8]) -> Result<u64, Fail> {
+/// What octets are: the place of damage, or 1,000,000 and the number of entries.
+fn outcome(rt: &impl Abort, alloc: Global, octets: &[u8]) -> u64 {
     match read_journal(alloc, octets) {
-        Ok(journal) => Ok((journal.entries.len() as u64).saturating_add(1_000_000)),
-        Err(JournalFault::Damaged(place)) => Ok(place),
-        Err(JournalFault::NoMemory) => Err(Fail::from("no memory")),
+        Ok(journal) => (journal.entries.len() as u64).saturating_add(1_000_000),
+        Err(JournalFault::Damaged(place)) => place,
+        Err(JournalFault::NoMemory) => panic!(rt; "memory"),
+    }
+}
+
+fn push(rt: &impl Abort, out: &mut Bytes, octet: u8) {
+    out.push(octet).expect(rt, "memory");
+}
+
+/// The octets of a journal under these limits, to which entries may be put.
+fn begun(rt: &impl Abort, alloc: Global, limits: &Limits) -> Bytes
+    requires { AreInRange limits.now }
+{
+    let mut out = Seq::empty(alloc);
+    write_header(limits, &mut out).expect(rt, "memory");
+    out
+}
+
+fn put_entry(rt: &impl Abort, alloc: Global, out: &mut Bytes, entry: &Entry) {
+    push(rt, out, OPEN_GATE);
+    write_entry(alloc, entry, out).expect(rt, "memory");
+}
+
+/// A journal written again.
+fn written(rt: &impl Abort, alloc: Global, journal: &Journal) -> Bytes
+    requires { AreInRange journal.now.limits }
+{
+    let mut out = begun(rt, alloc, &journal.limits);
+    for entry in journal.entries.items() {
+        put_entry(rt, alloc, &mut out, entry);
+    }
+    push(rt, &mut out, CLOSED_GATE);
+    out
+}
+
+/// Whether entries are one Set at stamp 1000 by author 1.
+fn are_first(entries: &[Entry]) -> bool {
+    match entries {
+        [entry] => (entry.number, entry.author, entry.stamp) == (1, 1, 1000),
+        _ => false,
     }
 }
 
 #[test]
-fn the_first_set_is_its_127_octets(rt: HostRuntime) -> Result<(), Fail> {
+fn the_first_set_is_its_127_octets(rt: HostRuntime) {
     let alloc = rt.alloc();
-    let journal = match read_journal(alloc, &FIRST_SET) {
+    let journal = match read_journal(alloc, FIRST_SET) {
         Ok(journal) => journal,
-        Err(_) => return Err(Fail::from("no journal")),
+        Err(_) => panic!(&rt; "no journal"),
     };
-    assert_eq!(rt; journal.gate, 126);
-    assert_eq!(rt; journal.limits, GREATEST);
-    let mut out = Seq::empty(alloc);
-    write_header(&journal.limits, &mut out)?;
-    for entry in journal.entries.items() {
-        assert_eq!(rt; (entry.number, entry.author, entry.stamp), (1, 1, 1000));
-        out.push(OPEN_GATE)?;
-        write_entry(alloc, entry, &mut out)?;
-    }
-    out.push(CLOSED_GATE)?;
-    assert_eq!(rt; out.items(), FIRST_SET.as_slice());
-    Ok(())
+    assert_eq!(rt; (journal.gate, journal.limits), (126, GREATEST));
+    assert!(rt; are_first(journal.entries.items()));
+    assert_eq!(rt; written(&rt, alloc, &journal).items(), FIRST_SET);
 }
 
 /// The first octets of the first Set's journal, and what they are.
@@ -95,75 +126,80 @@ const CHANGED: &[(usize, u8, u64)] = &[
     (16, 0x7F, 1_000_000),
 ];
 
-fn changed_first_set(alloc: Global, place: usize, octet: u8) -> Result<u64, Fail> {
-    let mut octets = FIRST_SET;
+/// What octets are with another one at a place.
+fn outcome_with(rt: &impl Abort, alloc: Global, octets: &[u8], place: usize, octet: u8) -> u64 {
+    let mut octets = octets.to_vec(alloc).expect(rt, "memory");
     if let Some(changed) = octets.get_mut(place) {
         *changed = octet;
     }
-    outcome(alloc, &octets)
+    outcome(rt, alloc, &octets)
 }
 
 #[test]
-fn the_first_set_cut_or_changed_is_damaged(rt: HostRuntime) -> Result<(), Fail> {
+fn the_first_set_cut_or_changed_is_damaged(rt: HostRuntime) {
     let alloc = rt.alloc();
     for (length, expected) in CUT.iter().copied() {
         let cut = FIRST_SET.get(..length).unwrap_or_default();
-        assert_eq!(rt; outcome(alloc, cut)?, expected, "{length} octets");
+        assert_eq!(rt; outcome(&rt, alloc, cut), expected, "{length} octets");
     }
     for (place, octet, expected) in CHANGED.iter().copied() {
-        let found = changed_first_set(alloc, place, octet)?;
+        let found = outcome_with(&rt, alloc, FIRST_SET, place, octet);
         assert_eq!(rt; found, expected, "octet {place} as {octet}");
     }
-    Ok(())
-}
-
-fn turned_three(alloc: Global, place: usize, turned: u8) -> Result<u64, Fail> {
-    let mut octets = THREE;
-    if let Some(changed) = octets.get_mut(place) {
-        *changed ^= turned;
-    }
-    outcome(alloc, &octets)
 }
 
 /// Each octet of three entries with these bits turned.
-fn turns_as(rt: &impl Abort, alloc: Global, turned: u8, table: &[u32]) -> Result<(), Fail> {
+fn turns_as(rt: &impl Abort, alloc: Global, turned: u8, table: &[u32]) {
     for (place, expected) in table.iter().enumerate() {
-        let found = turned_three(alloc, place, turned)?;
+        let octet = THREE.get(place).copied().unwrap_or_default() ^ turned;
+        let found = outcome_with(rt, alloc, THREE, place, octet);
         assert_eq!(rt; found, u64::from(*expected), "octet {place} and {turned}");
     }
-    Ok(())
 }
 
 #[test]
-fn each_octet_changed_is_found_at_its_gate(rt: HostRuntime) -> Result<(), Fail> {
-    assert_eq!(rt; outcome(rt.alloc(), &THREE)?, 1_000_003);
-    turns_as(&rt, rt.alloc(), 255, FLIPPED)?;
-    turns_as(&rt, rt.alloc(), 1, LAST_BIT)
+fn each_octet_changed_is_found_at_its_gate(rt: HostRuntime) {
+    assert_eq!(rt; outcome(&rt, rt.alloc(), THREE), 1_000_003);
+    turns_as(&rt, rt.alloc(), 255, FLIPPED);
+    turns_as(&rt, rt.alloc(), 1, LAST_BIT);
 }
 
-// A replace of the root by one row of so many octets: 21 octets and these.
-fn long(alloc: Global, length: usize) -> Result<Ops, Fail> {
+/// A path of one element.
+fn short_path(rt: &impl Abort, alloc: Global) -> Path {
+    let elem = Elem {
+        name: Text::of(alloc, b"a").expect(rt, "a text"),
+        keys: Seq::empty(alloc),
+    };
+    let mut path = Seq::empty(alloc);
+    path.push(elem).expect(rt, "memory");
+    path
+}
+
+/// One row with so many octets.
+fn long_rows(rt: &impl Abort, alloc: Global, length: usize) -> Rows {
     let mut octets = Seq::empty(alloc);
     for _ in 0..length {
-        octets.push(7)?;
+        push(rt, &mut octets, 7);
     }
-    let mut path = Seq::empty(alloc);
-    path.push(Elem {
-        name: Text::of(alloc, b"a")?,
-        keys: Seq::empty(alloc),
-    })?;
-    let mut rows = Seq::empty(alloc);
-    rows.push(Row {
-        path,
+    let row = Row {
+        path: short_path(rt, alloc),
         value: Value::Bin(octets),
-    })?;
-    let mut ops = Seq::empty(alloc);
-    ops.push(Op {
+    };
+    let mut rows = Seq::empty(alloc);
+    rows.push(row).expect(rt, "memory");
+    rows
+}
+
+/// A replace of the root by one row of so many octets: 21 octets and these.
+fn long(rt: &impl Abort, alloc: Global, length: usize) -> Ops {
+    let op = Op {
         act: Act::Replace,
         path: Seq::empty(alloc),
-        rows,
-    })?;
-    Ok(ops)
+        rows: long_rows(rt, alloc, length),
+    };
+    let mut ops = Seq::empty(alloc);
+    ops.push(op).expect(rt, "memory");
+    ops
 }
 
 /// A kind as it stands in a table.
@@ -181,62 +217,62 @@ enum Case {
     Extend(u64),
 }
 
-fn trial(alloc: Global, id: &[u8], ops: Ops, deadline: u64) -> Result<Kind, Fail> {
-    Ok(Kind::Trial(Text::of(alloc, id)?, ops, deadline))
+fn trial(rt: &impl Abort, alloc: Global, id: &[u8], ops: Ops, deadline: u64) -> Kind {
+    Kind::Trial(Text::of(alloc, id).expect(rt, "a text"), ops, deadline)
 }
 
-fn kind_of(alloc: Global, case: Case) -> Result<Kind, Fail> {
+fn kind_of(rt: &impl Abort, alloc: Global, case: Case) -> Kind {
     match case {
-        Case::Apply => Ok(Kind::Apply(Seq::empty(alloc))),
-        Case::Long(length) => Ok(Kind::Apply(long(alloc, length)?)),
-        Case::Trial(id, deadline) => trial(alloc, id, Seq::empty(alloc), deadline),
-        Case::LongTrial(length) => trial(alloc, b"t", long(alloc, length)?, 2_000_000_000),
-        Case::Confirm => Ok(Kind::Confirm),
-        Case::Cancel => Ok(Kind::Cancel),
-        Case::Expire => Ok(Kind::Expire),
-        Case::Restart => Ok(Kind::Restart),
-        Case::Extend(deadline) => Ok(Kind::Extend(deadline)),
+        Case::Apply => Kind::Apply(Seq::empty(alloc)),
+        Case::Long(length) => Kind::Apply(long(rt, alloc, length)),
+        Case::Trial(id, deadline) => trial(rt, alloc, id, Seq::empty(alloc), deadline),
+        Case::LongTrial(length) => {
+            let ops = long(rt, alloc, length);
+            trial(rt, alloc, b"t", ops, 2_000_000_000)
+        }
+        Case::Confirm => Kind::Confirm,
+        Case::Cancel => Kind::Cancel,
+        Case::Expire => Kind::Expire,
+        Case::Restart => Kind::Restart,
+        Case::Extend(deadline) => Kind::Extend(deadline),
     }
 }
 
-fn put(alloc: Global, out: &mut Bytes, author: u32, stamp: u64, case: Case) -> Result<(), Fail> {
-    out.push(OPEN_GATE)?;
+fn put(rt: &impl Abort, alloc: Global, out: &mut Bytes, author: u32, stamp: u64, case: Case) {
     let entry = Entry {
         number: 0,
         author,
         stamp,
-        kind: kind_of(alloc, case)?,
+        kind: kind_of(rt, alloc, case),
     };
-    write_entry(alloc, &entry, out)?;
-    Ok(())
+    put_entry(rt, alloc, out, &entry);
 }
 
 /// What a journal is with one entry at stamp 1000 by author 1.
-fn alone(alloc: Global, case: Case) -> Result<u64, Fail> {
-    let mut out = Seq::empty(alloc);
-    write_header(&SMALL, &mut out)?;
-    put(alloc, &mut out, 1, 1000, case)?;
-    out.push(CLOSED_GATE)?;
-    outcome(alloc, out.items())
+fn alone(rt: &impl Abort, alloc: Global, case: Case) -> u64 {
+    let mut out = begun(rt, alloc, &SMALL);
+    put(rt, alloc, &mut out, 1, 1000, case);
+    push(rt, &mut out, CLOSED_GATE);
+    outcome(rt, alloc, out.items())
 }
 
 /// What it is with another entry behind that one.
 fn behind(
+    rt: &impl Abort,
     alloc: Global,
     limits: &Limits,
     first: Case,
     author: u32,
     stamp: u64,
     case: Case,
-) -> Result<u64, Fail>
+) -> u64
     requires { AreInRange limits.now }
 {
-    let mut out = Seq::empty(alloc);
-    write_header(limits, &mut out)?;
-    put(alloc, &mut out, 1, 1000, first)?;
-    put(alloc, &mut out, author, stamp, case)?;
-    out.push(CLOSED_GATE)?;
-    outcome(alloc, out.items())
+    let mut out = begun(rt, alloc, limits);
+    put(rt, alloc, &mut out, 1, 1000, first);
+    put(rt, alloc, &mut out, author, stamp, case);
+    push(rt, &mut out, CLOSED_GATE);
+    outcome(rt, alloc, out.items())
 }
 
 /// Authors, stamps and kinds behind a plain Set without operations at stamp 1000: the second gate
@@ -263,12 +299,11 @@ const BEHIND_A_SET: &[(u32, u64, Case, u64)] = &[
 ];
 
 #[test]
-fn each_rule_of_an_entry_is_kept(rt: HostRuntime) -> Result<(), Fail> {
+fn each_rule_of_an_entry_is_kept(rt: HostRuntime) {
     for (author, stamp, case, expected) in BEHIND_A_SET.iter().copied() {
-        let found = behind(rt.alloc(), &GREATEST, Case::Apply, author, stamp, case)?;
+        let found = behind(&rt, rt.alloc(), &GREATEST, Case::Apply, author, stamp, case);
         assert_eq!(rt; found, expected, "{author} {stamp} {case:?}");
     }
-    Ok(())
 }
 
 const OPEN_TRIAL: Case = Case::Trial(b"t", 2_000_000_000);
@@ -293,12 +328,11 @@ const BEHIND_A_TRIAL: &[(u32, Case, u64)] = &[
 ];
 
 #[test]
-fn each_rule_of_an_open_trial_is_kept(rt: HostRuntime) -> Result<(), Fail> {
+fn each_rule_of_an_open_trial_is_kept(rt: HostRuntime) {
     for (author, case, expected) in BEHIND_A_TRIAL.iter().copied() {
-        let found = behind(rt.alloc(), &GREATEST, OPEN_TRIAL, author, 1001, case)?;
+        let found = behind(&rt, rt.alloc(), &GREATEST, OPEN_TRIAL, author, 1001, case);
         assert_eq!(rt; found, expected, "{author} {case:?}");
     }
-    Ok(())
 }
 
 /// A plain Set fills a journal of 4,096 octets, or is an octet too long; a trial leaves 14 octets.
@@ -313,13 +347,12 @@ const LENGTHS: &[(Case, u64)] = &[
 const COUNTS: &[(Case, u64)] = &[(Case::Apply, 1_000_002), (OPEN_TRIAL, 34)];
 
 #[test]
-fn both_limits_are_kept(rt: HostRuntime) -> Result<(), Fail> {
+fn both_limits_are_kept(rt: HostRuntime) {
     for (case, expected) in LENGTHS.iter().copied() {
-        assert_eq!(rt; alone(rt.alloc(), case)?, expected, "{case:?}");
+        assert_eq!(rt; alone(&rt, rt.alloc(), case), expected, "{case:?}");
     }
     for (case, expected) in COUNTS.iter().copied() {
-        let found = behind(rt.alloc(), &SMALL, Case::Apply, 1, 1001, case)?;
+        let found = behind(&rt, rt.alloc(), &SMALL, Case::Apply, 1, 1001, case);
         assert_eq!(rt; found, expected, "{case:?}");
     }
-    Ok(())
 }

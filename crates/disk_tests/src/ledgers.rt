@@ -1,5 +1,5 @@
 //! Ledgers: stops and failures at each call of an append, a repair, an opening and a creation.
-ghost use Rattle.std.specs.Prelude.{◌≡◌, [], None, IfSome, OnOk, OnErr};
+ghost use Rattle.std.specs.Prelude.{◌≡◌, [], None, IsSome, IfSome, OnOk, OnErr};
 ghost use Rattle.base_kinds.specs.Limits.{AreInRange};
 
 use base_kinds::{Entry, Fill, Kind, Limits, NoMemory, Seq};
@@ -211,6 +211,24 @@ fn settle(ledger: &mut Ledger<FuseDisk>) -> Result<(), LedgerFault>
     Ok(())
 }
 
+/// Has the next call of the ledger's disk fail.
+fn fail_next(ledger: &mut Ledger<FuseDisk>) -> Result<(), NoMemory>
+    ensures doubt { ledger.new.doubt ≡ ledger.old.doubt }
+    ensures history { ledger.new.history ≡ ledger.old.history }
+    ensures limits { ledger.new.limits ≡ ledger.old.limits }
+{
+    ledger.fail_after(0)
+}
+
+/// Whether a repair fails.
+fn repair_fails(ledger: &mut Ledger<FuseDisk>) -> bool
+    requires { IsSome ledger.old.doubt }
+    ensures history { ledger.new.history ≡ ledger.old.history }
+    ensures limits { ledger.new.limits ≡ ledger.old.limits }
+{
+    ledger.repair().is_err()
+}
+
 /// Where there is a doubt, lets a repair fail.
 fn fail_repair(ledger: &mut Ledger<FuseDisk>) -> Result<bool, NoMemory>
     ensures history { ledger.new.history ≡ ledger.old.history }
@@ -219,8 +237,10 @@ fn fail_repair(ledger: &mut Ledger<FuseDisk>) -> Result<bool, NoMemory>
     if !ledger.in_doubt() {
         return Ok(true);
     }
-    ledger.fail_after(0)?;
-    Ok(ledger.repair().is_err())
+    match fail_next(ledger) {
+        Ok(()) => Ok(repair_fails(ledger)),
+        Err(NoMemory) => Err(NoMemory),
+    }
 }
 
 /// An append that fails in this call, and where it is in doubt a repair that fails and one that

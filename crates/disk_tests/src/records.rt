@@ -1,11 +1,11 @@
 //! Records of entries: their octets, and octets that are none.
-use base_kinds::{Act, Elem, Entry, Kind, Op, Path, Row, Seq, Text, Value};
+use base_kinds::{Act, Bytes, Elem, Entry, Kind, Op, Path, Row, Rows, Seq, Text, Value, Values};
 use journal_record::{RecordFault, put_entry, read_entry, write_entry};
 use std::alloc::Global;
-use std::test::Fail;
+use std::process::Abort;
 
 // Set down by hand after the table of the format.
-const FIRST_SET: [u8; 109] = [
+const FIRST_SET: &[u8] = &[
     0, 0, 0, 1, 0, 0, 0, 0, 0, 0, 3, 232, 1, 0, 0, 0, 1, 3, 0, 3, 0, 0, 0, 6, 115, 121, 115, 116,
     101, 109, 0, 0, 0, 0, 0, 6, 99, 111, 110, 102, 105, 103, 0, 0, 0, 0, 0, 8, 104, 111, 115, 116,
     110, 97, 109, 101, 0, 0, 0, 0, 0, 1, 0, 3, 0, 0, 0, 6, 115, 121, 115, 116, 101, 109, 0, 0, 0,
@@ -13,7 +13,7 @@ const FIRST_SET: [u8; 109] = [
     0, 0, 5, 0, 0, 0, 2, 114, 49,
 ];
 
-const TRIAL: [u8; 209] = [
+const TRIAL: &[u8] = &[
     0, 0, 0, 7, 0, 0, 0, 0, 0, 0, 7, 208, 2, 0, 0, 0, 1, 116, 0, 0, 0, 0, 59, 154, 209, 208, 0, 0,
     0, 2, 1, 0, 1, 0, 0, 0, 1, 97, 0, 2, 0, 0, 0, 1, 107, 0, 0, 0, 1, 118, 0, 0, 0, 1, 108, 0, 0,
     0, 0, 0, 0, 0, 0, 2, 0, 0, 0, 0, 0, 8, 0, 1, 0, 0, 0, 1, 97, 0, 0, 1, 1, 0, 1, 0, 0, 0, 1, 98,
@@ -24,94 +24,132 @@ const TRIAL: [u8; 209] = [
     0, 0, 8, 0, 0, 0, 2, 1, 0, 3, 0, 0, 0, 0, 0, 0, 0, 7,
 ];
 
-fn hostname(alloc: Global) -> Result<Path, Fail> {
-    let mut path = Seq::empty(alloc);
-    for name in ["system", "config", "hostname"] {
-        path.push(Elem {
-            name: Text::of(alloc, name.as_bytes())?,
-            keys: Seq::empty(alloc),
-        })?;
-    }
-    Ok(path)
+fn text_of(rt: &impl Abort, alloc: Global, octets: &[u8]) -> Text {
+    Text::of(alloc, octets).expect(rt, "a text")
 }
 
-fn first_set(alloc: Global) -> Result<Entry, Fail> {
+fn hostname(rt: &impl Abort, alloc: Global) -> Path {
+    let mut path = Seq::empty(alloc);
+    for name in ["system", "config", "hostname"] {
+        let elem = Elem {
+            name: text_of(rt, alloc, name.as_bytes()),
+            keys: Seq::empty(alloc),
+        };
+        path.push(elem).expect(rt, "memory");
+    }
+    path
+}
+
+fn rows(rt: &impl Abort, alloc: Global) -> Rows {
+    let row = Row {
+        path: hostname(rt, alloc),
+        value: Value::Text(text_of(rt, alloc, b"r1")),
+    };
     let mut rows = Seq::empty(alloc);
-    rows.push(Row {
-        path: hostname(alloc)?,
-        value: Value::Text(Text::of(alloc, b"r1")?),
-    })?;
-    let mut ops = Seq::empty(alloc);
-    ops.push(Op {
+    rows.push(row).expect(rt, "memory");
+    rows
+}
+
+fn first_set(rt: &impl Abort, alloc: Global) -> Entry {
+    let op = Op {
         act: Act::Update,
-        path: hostname(alloc)?,
-        rows,
-    })?;
-    Ok(Entry {
+        path: hostname(rt, alloc),
+        rows: rows(rt, alloc),
+    };
+    let mut ops = Seq::empty(alloc);
+    ops.push(op).expect(rt, "memory");
+    Entry {
         number: 1,
         author: 1,
         stamp: 1000,
         kind: Kind::Apply(ops),
-    })
+    }
 }
 
-fn values(alloc: Global) -> Result<Vec<Value>, Fail> {
-    let mut octets = Seq::empty(alloc);
-    octets.extend_from_slice(&[0, 255])?;
-    let mut inner = Seq::empty(alloc);
-    inner.push(Value::Bool(false))?;
-    inner.push(Value::Uint(7))?;
-    let mut all = Vec::new(alloc);
-    all.push(Value::Bool(true))?;
-    all.push(Value::Int(-2))?;
-    all.push(Value::Uint(18_446_744_073_709_551_615))?;
-    all.push(Value::Dec(-150, 2))?;
-    all.push(Value::Text(Text::of(alloc, "\u{e9}".as_bytes())?))?;
-    all.push(Value::Bin(octets))?;
-    all.push(Value::Enum(Text::of(alloc, b"UP")?))?;
-    all.push(Value::List(inner))?;
-    Ok(all)
+/// A list of a Bool and a Uint.
+fn two_values(rt: &impl Abort, alloc: Global) -> Values {
+    let mut values = Seq::empty(alloc);
+    values.push(Value::Bool(false)).expect(rt, "memory");
+    values.push(Value::Uint(7)).expect(rt, "memory");
+    values
 }
 
-#[test]
-fn the_first_set_is_its_109_octets(rt: HostRuntime) -> Result<(), Fail> {
-    let alloc = rt.alloc();
-    let entry = first_set(alloc)?;
+/// The value of the trial's row of this number.
+fn value_of(rt: &impl Abort, alloc: Global, number: usize) -> Value {
+    match number {
+        0 => Value::Bool(true),
+        1 => Value::Int(-2),
+        2 => Value::Uint(18_446_744_073_709_551_615),
+        3 => Value::Dec(-150, 2),
+        4 => Value::Text(text_of(rt, alloc, "\u{e9}".as_bytes())),
+        5 => Value::Bin(Seq::of(alloc, &[0, 255]).expect(rt, "memory")),
+        6 => Value::Enum(text_of(rt, alloc, b"UP")),
+        _ => Value::List(two_values(rt, alloc)),
+    }
+}
+
+/// The octets that an entry is written as.
+fn written(rt: &impl Abort, alloc: Global, entry: &Entry) -> Bytes {
     let mut out = Seq::empty(alloc);
-    write_entry(alloc, &entry, &mut out)?;
-    assert_eq!(rt; out.items(), FIRST_SET.as_slice());
-    let (read, rest) = read_entry(alloc, 1, &FIRST_SET)?;
-    assert_eq!(rt; read, entry);
-    assert_eq!(rt; rest.len(), 0);
-    Ok(())
+    write_entry(alloc, entry, &mut out).expect(rt, "memory");
+    out
+}
+
+/// Whether these octets, and no more than these, are a record of this entry.
+fn reads_as(alloc: Global, octets: &[u8], entry: &Entry) -> bool {
+    match read_entry(alloc, 1, octets) {
+        Ok((read, rest)) => read == *entry && rest.is_empty(),
+        Err(_) => false,
+    }
 }
 
 #[test]
-fn every_kind_of_value_is_read_and_written(rt: HostRuntime) -> Result<(), Fail> {
+fn the_first_set_is_its_109_octets(rt: HostRuntime) {
     let alloc = rt.alloc();
-    let (read, rest) = read_entry(alloc, 2, &TRIAL)?;
-    assert_eq!(rt; (read.number, read.author, read.stamp), (2, 7, 2000));
-    assert_eq!(rt; rest.len(), 0);
-    let Kind::Trial(id, ops, deadline) = &read.kind else {
-        return Err(Fail::from("no trial"));
-    };
-    assert_eq!(rt; id.octets(), b"t".as_slice());
-    assert_eq!(rt; *deadline, 1_000_002_000);
-    let mut read_values = Seq::empty(alloc);
-    for op in ops.items() {
+    let entry = first_set(&rt, alloc);
+    assert_eq!(rt; written(&rt, alloc, &entry).items(), FIRST_SET);
+    assert!(rt; reads_as(alloc, FIRST_SET, &entry));
+}
+
+/// Whether the rows of these operations have the values of the trial's rows, in their order.
+fn have_values(rt: &impl Abort, alloc: Global, ops: &[Op]) -> bool {
+    let mut count = 0;
+    for op in ops {
         for row in op.rows.items() {
-            read_values.push(&row.value)?;
+            if row.value != value_of(rt, alloc, count) {
+                return false;
+            }
+            count = count.saturating_add(1);
         }
     }
-    let expected = values(alloc)?;
-    assert_eq!(rt; read_values.len(), expected.len());
-    for (value, other) in read_values.items().iter().zip(expected.as_slice()) {
-        assert_eq!(rt; *value, other);
-    }
+    count == 8
+}
+
+/// Whether an entry is the trial's.
+fn is_trial(rt: &impl Abort, alloc: Global, entry: &Entry) -> bool {
+    let Kind::Trial(id, ops, deadline) = &entry.kind else {
+        return false;
+    };
+    (entry.number, entry.author, entry.stamp) == (2, 7, 2000)
+        && id.octets() == b"t".as_slice()
+        && *deadline == 1_000_002_000
+        && have_values(rt, alloc, ops.items())
+}
+
+/// The octets that an entry is put as, by the call that takes room that was asked for.
+fn put_as(rt: &impl Abort, alloc: Global, entry: &Entry) -> Vec<u8> {
     let mut out = Vec::new(alloc);
-    put_entry(&read, &mut out)?;
-    assert_eq!(rt; out.as_slice(), TRIAL.as_slice());
-    Ok(())
+    put_entry(entry, &mut out).expect(rt, "memory");
+    out
+}
+
+#[test]
+fn every_kind_of_value_is_read_and_written(rt: HostRuntime) {
+    let alloc = rt.alloc();
+    let (read, rest) = read_entry(alloc, 2, TRIAL).expect(&rt, "a record");
+    assert!(rt; rest.is_empty());
+    assert!(rt; is_trial(&rt, alloc, &read));
+    assert_eq!(rt; put_as(&rt, alloc, &read).as_slice(), TRIAL);
 }
 
 /// The octet of a kind without operations, by the table of the format; 0 for the others.
@@ -125,25 +163,37 @@ fn number_of(kind: &Kind) -> u8 {
     }
 }
 
-const EXTEND: [u8; 22] = [
+const EXTEND: &[u8] = &[
     0, 0, 0, 9, 0, 0, 0, 0, 0, 0, 0, 5, 7, 0, 0, 0, 0, 0, 0, 1, 2, 99,
 ];
 
-#[test]
-fn other_kinds_have_their_numbers(rt: HostRuntime) -> Result<(), Fail> {
-    let alloc = rt.alloc();
-    let mut octets = [0, 0, 0, 9, 0, 0, 0, 0, 0, 0, 0, 5, 0];
-    for number in 3..7 {
-        octets[12] = number;
-        let (read, rest) = read_entry(alloc, 1, &octets)?;
-        assert_eq!(rt; (read.author, read.stamp), (9, 5));
-        assert_eq!(rt; number_of(&read.kind), number);
-        assert_eq!(rt; rest.len(), 0);
+/// Whether octets are a record of an entry of the kind with this number, by the author and at the stamp of the octets below.
+fn has_number(alloc: Global, octets: &[u8], number: u8) -> bool {
+    match read_entry(alloc, 1, octets) {
+        Ok((read, rest)) => {
+            (read.author, read.stamp) == (9, 5)
+                && number_of(&read.kind) == number
+                && rest.is_empty()
+        }
+        Err(_) => false,
     }
-    let (read, rest) = read_entry(alloc, 1, &EXTEND)?;
-    assert_eq!(rt; read.kind, Kind::Extend(258));
-    assert_eq!(rt; rest, [99].as_slice());
-    Ok(())
+}
+
+/// Whether octets are a record that gives a trial this deadline, with this octet behind it.
+fn extends(alloc: Global, octets: &[u8], deadline: u64, last: u8) -> bool {
+    match read_entry(alloc, 1, octets) {
+        Ok((read, rest)) => read.kind == Kind::Extend(deadline) && rest == [last].as_slice(),
+        Err(_) => false,
+    }
+}
+
+#[test]
+fn other_kinds_have_their_numbers(rt: HostRuntime) {
+    for number in 3..7 {
+        let octets = [0, 0, 0, 9, 0, 0, 0, 0, 0, 0, 0, 5, number];
+        assert!(rt; has_number(rt.alloc(), &octets, number), "{number}");
+    }
+    assert!(rt; extends(rt.alloc(), EXTEND, 258, 99));
 }
 
 /// An octet of the trial's record that is another one, so that it is no record: a kind, an act, a
@@ -169,26 +219,29 @@ const CHANGED: &[(usize, u8)] = &[
     (194, 255),
 ];
 
-fn changed_trial(alloc: Global, place: usize, octet: u8) -> Option<RecordFault> {
-    let mut octets = TRIAL;
+/// Whether octets are no record.
+fn is_none(alloc: Global, octets: &[u8]) -> bool {
+    matches!(read_entry(alloc, 1, octets), Err(RecordFault::NoRecord))
+}
+
+/// Whether the trial's record with another octet at a place is none.
+fn is_none_with(rt: &impl Abort, alloc: Global, place: usize, octet: u8) -> bool {
+    let mut octets = TRIAL.to_vec(alloc).expect(rt, "memory");
     if let Some(changed) = octets.get_mut(place) {
         *changed = octet;
     }
-    read_entry(alloc, 1, &octets).err()
+    is_none(alloc, &octets)
 }
 
 #[test]
 fn what_is_no_record_is_refused(rt: HostRuntime) {
     let alloc = rt.alloc();
     for length in 0..TRIAL.len() {
-        let cut = read_entry(alloc, 1, &TRIAL[..length]).err();
-        assert_eq!(rt; cut, Some(RecordFault::NoRecord), "{length} octets");
+        assert!(rt; is_none(alloc, &TRIAL[..length]), "{length} octets");
     }
     for (place, octet) in CHANGED.iter().copied() {
-        let fault = changed_trial(alloc, place, octet);
-        assert_eq!(rt;
-            fault,
-            Some(RecordFault::NoRecord),
+        assert!(rt;
+            is_none_with(&rt, alloc, place, octet),
             "octet {place} as {octet}"
         );
     }
