@@ -46,7 +46,8 @@ pub record IsEndOf {I O P H : Type 0} (number author : ℕ) (left : LinkLeft I O
 
 -- what comes of the job of a connection
 pub record IsDone {I O P S H : Type 0} (of : S → Link I O P) (port : P → PortView)
-    (serves : S → LinkLeft I O P H → Type 0) (unserved : H) (job : LinkJob S I O P) (done : LinkDone I O P H) : Type 0 where
+    (serves : S → LinkLeft I O P H → Type 0) (unserved : H) (job : LinkJob S I O P)
+    (done : LinkDone I O P H) : Type 0 where
   pub left : LinkLeft I O P H
   pub served : IsServed serves unserved job.session left
   pub end : IsEndOf job.number job.author left done.end

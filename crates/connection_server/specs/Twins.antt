@@ -22,7 +22,8 @@ TwinsEnd count (Err faults.Spent) made port new = new ≡ knows_all port
 TwinsEnd count (Err faults.NoMemory) made port new = new ≡ port
 
 pub record MakesTwins {P : Type 0} (port : P → PortView) (count : ℕ)
-    (result : Result (Unit {0}) PassFault) (old : PortView) (twins : List P) (new : PortView) : Type 0 where
+    (result : Result (Unit {0}) PassFault) (old : PortView) (twins : List P) (new : PortView)
+    : Type 0 where
   pub last : PortView
   pub made : AreTwins old (map port twins) last
   pub end : TwinsEnd count result (length twins) last new

@@ -104,7 +104,8 @@ pub fn worked_settings_frames()
         ≡ said (Err 3) }
     ensures settings_frame { meaning_of (frame 4 0 0 (0 ∷ 5 ∷ 0 ∷ 0 ∷ 0x3f ∷ 0xff ∷ [])) busy
         ≡ said (Err 1) }
-    ensures settings_first_fault { meaning_of (frame 4 0 0 (0 ∷ 4 ∷ 0x80 ∷ 0 ∷ 0 ∷ 0 ∷ 0 ∷ 2 ∷ 0 ∷ 0 ∷ 0 ∷ 2 ∷ [])) busy
+    ensures settings_first_fault { meaning_of
+        (frame 4 0 0 (0 ∷ 4 ∷ 0x80 ∷ 0 ∷ 0 ∷ 0 ∷ 0 ∷ 2 ∷ 0 ∷ 0 ∷ 0 ∷ 2 ∷ [])) busy
         ≡ said (Err 3) }
     ensures settings_table { meaning_of
         (frame 4 0 0 (0 ∷ 1 ∷ 0 ∷ 0 ∷ 0 ∷ 0 ∷ 0 ∷ 4 ∷ 0 ∷ 0 ∷ 1 ∷ 0 ∷ [])) busy

@@ -28,7 +28,8 @@ pub fn within_the_stream()
         (after : List Stream)
         → AllByRecursion (λ t. nat_eq t.id s.id ≡ false) before
         → AllByRecursion (λ t. nat_eq t.id s.id ≡ false) after
-        → (n : ℕ) × Passing (is_data_on s.id) (window_of initial s) (window_of initial (after_sending n s))
+        → (n : ℕ)
+        × Passing (is_data_on s.id) (window_of initial s) (window_of initial (after_sending n s))
         (sent initial window (before ++ s ∷ after)).frames }
     ensures others { (initial id : ℕ) (window own : ℤ) (streams : List Stream)
         → AllByRecursion (λ t. nat_eq t.id id ≡ false) streams

@@ -97,7 +97,8 @@ fn updates_in<'a>(octets: &'a [u8], table: &mut DynamicTable) -> Option<&'a [u8]
 fn fields_in(alloc: Global, octets: &[u8], table: &mut DynamicTable) -> Result<HeaderList, Ended>
     ensures ok { IfOk result (λ list. TakesFields table.old octets.now table.new list) }
     ensures bad { IsErrOf result Ended.Bad
-        → (headers : List HeaderValue) (last : Table) → AreFields table.old octets.now headers last → ⊥ }
+        → (headers : List HeaderValue) (last : Table)
+        → AreFields table.old octets.now headers last → ⊥ }
 {
     let mut list = HeaderList::empty(alloc);
     let mut rest = octets;

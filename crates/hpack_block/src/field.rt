@@ -107,7 +107,8 @@ fn literal_in<'a>(
     ensures ok { IfOk result (λ x. IsLiteral bits table.now octets.now x.0 x.1.now) }
     ensures shorter { IfOk result (λ x. length x.1.now < length octets.now) }
     ensures bad { IsErrOf result Ended.Bad
-        → (header : HeaderValue) (rest : List ℕ) → IsLiteral bits table.now octets.now header rest → ⊥ }
+        → (header : HeaderValue) (rest : List ℕ)
+        → IsLiteral bits table.now octets.now header rest → ⊥ }
 {
     let Some((index, after)) = integer_in(bits, octets) else {
         return Err(Ended::Bad);

@@ -113,7 +113,8 @@ impl Reading {
         ensures ok { OnOk result (at_line number (with_line number self.old (line_of line.now)) ≡
             Ok self.new) }
         ensures refused { IfErr result
-            (λ error. IsFaultOf error (at_line number (with_line number self.old (line_of line.now)))) }
+            (λ error. IsFaultOf error
+            (at_line number (with_line number self.old (line_of line.now)))) }
     {
         match read_line(alloc, line)? {
             None => Err(fault(number, Cause::Syntax)),
@@ -139,7 +140,8 @@ impl Reading {
             ≡ Ok self.new) }
         ensures within { OnOk result (place + length line.now + 1 ≤ most_schema_octets) }
         ensures refused { IfErr result
-            (λ error. IsFaultOf error (at_line number (ended_line number place self.old line.now))) }
+            (λ error. IsFaultOf error
+            (at_line number (ended_line number place self.old line.now))) }
     {
         if is_too_long(line, place, 1) {
             return Err(fault(number, Cause::TooLarge));

@@ -191,7 +191,8 @@ impl ScriptState {
         ensures state { OnOk result
             (self.new ≡ state_after_set (set_event self.old author action) self.old) }
         ensures reply { IfOk result (λ reply. reply
-            ≡ option_map reply_of (event_reply (Some (set_event self.old author action)) self.old)) }
+            ≡ option_map reply_of
+            (event_reply (Some (set_event self.old author action)) self.old)) }
     {
         let pending = std::mem::replace(&mut self.pending, Pending::nothing(alloc));
         let request = pending.into_set(alloc, action)?;

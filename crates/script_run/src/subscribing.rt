@@ -183,11 +183,13 @@ pub fn open(
     requires may_stand { MayStand book.old }
     ensures may_stand { MayStand book.new }
     ensures left { OnOk result (IsLeft
-        (left_by_look (open_look asked.name asked.mode asked.only subs calls.old.items) reading book.old)
+        (left_by_look (open_look asked.name asked.mode asked.only subs calls.old.items) reading
+        book.old)
         book.old book.new) }
     ensures step { IfOk result (λ reply. step_with reply calls.new.items
         ≡ open_step asked.author asked.name asked.mode asked.only subs reading
-        (looked_at (open_look asked.name asked.mode asked.only subs calls.old.items) reading book.old)
+        (looked_at (open_look asked.name asked.mode asked.only subs calls.old.items) reading
+        book.old)
         calls.old.items) }
 {
     if call_named(calls, &asked.name).is_some() {
@@ -245,7 +247,8 @@ pub fn turn(
         book.old book.new) }
     ensures step { IfOk result (λ reply. step_with reply calls.new.items
         ≡ turn_step name (call_named name calls.old.items) reading
-        (looked_at (turn_look (call_named name calls.old.items)) reading book.old) calls.old.items) }
+        (looked_at (turn_look (call_named name calls.old.items)) reading book.old)
+        calls.old.items) }
 {
     match call_named(calls, &name) {
         None => Ok(CallReply::NoStream),
@@ -274,7 +277,8 @@ pub fn poll(
         book.old book.new) }
     ensures step { IfOk result (λ reply. step_with reply calls.new.items
         ≡ poll_step name (call_named name calls.old.items)
-        (looked_at (poll_look (call_named name calls.old.items)) reading book.old) calls.old.items) }
+        (looked_at (poll_look (call_named name calls.old.items)) reading book.old)
+        calls.old.items) }
 {
     match call_named(calls, &name) {
         None => Ok(CallReply::NoStream),

@@ -233,7 +233,8 @@ fn subscribe_over(
     fault: Option<Refusal>,
 ) -> Result<Step, NoMemory>
     ensures { IfOk result (λ step. (step.call ≡ None)
-        × (step.asked ≡ further begun messages ++ subscribe_end (begun || has_message messages) fault ∷ [])) }
+        × (step.asked ≡ further begun messages
+        ++ subscribe_end (begun || has_message messages) fault ∷ [])) }
 {
     let begins = begun || !messages.is_empty();
     let mut asked = further(alloc, begun, messages)?;

@@ -228,11 +228,13 @@ pub record IsDropped (deed : Deed) (old new : Service) : Type 0 where
 -- since the peer opens a stream once).
 abbrev pub IsBegun : List SchemaNode → Plan → ListMode → Deed → Service → Service → Type 0
 IsBegun schema plan modes.Once deed old new = IsOnce schema plan deed old new
-IsBegun schema plan modes.Other deed old new = IsPlain (told (Err Unsupported)) old.calls deed old new
+IsBegun schema plan modes.Other deed old new =
+    IsPlain (told (Err Unsupported)) old.calls deed old new
 IsBegun schema plan mode deed old new =
     IsPlain [] (others_than deed.stream old.calls ++ new_served deed.stream plan ∷ []) deed old new
 
-abbrev pub IsFirst : List SchemaNode → Result SubscribeStep Refusal → Deed → Service → Service → Type 0
+abbrev pub IsFirst : List SchemaNode → Result SubscribeStep Refusal → Deed → Service → Service
+    → Type 0
 IsFirst schema (Ok (Begin plan)) deed old new = IsBegun schema plan plan.mode deed old new
 IsFirst schema (Ok Poll) deed old new = ⊥
 IsFirst schema (Err refusal) deed old new = IsPlain (told (Err refusal)) old.calls deed old new
@@ -266,7 +268,8 @@ IsEnding modes.Poll (suc polls) served others later deed old new =
     IsPlain [] (others ++ record served { ended = true } ∷ [] ++ later) deed old new
 IsEnding mode polls served others later deed old new = IsPlain [] old.calls deed old new
 
-abbrev pub IsHeardBy : Later → Served → List Served → List Served → Deed → Service → Service → Type 0
+abbrev pub IsHeardBy : Later → Served → List Served → List Served → Deed → Service → Service
+    → Type 0
 IsHeardBy (later.Message body) served others more deed old new =
     IsNext (subscribe_step (Some served.call.plan.mode) body) served others more deed old new
     ⊎ IsEndedBy NoMemory others more deed old new

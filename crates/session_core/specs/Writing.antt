@@ -33,7 +33,8 @@ pub record BreaksInput (inputs : List Input) (old new : Output) : Type 0 where
   pub split : inputs ≡ before ++ last ∷ []
   pub between : Output
   pub wrote : Wrote (octets_of (frames_of before)) old between
-  pub failed : FailedWithin (octets_of (handled last (line_after first_line before)).frames) between new
+  pub failed : FailedWithin (octets_of (handled last (line_after first_line before)).frames)
+      between new
 
 -- The GOAWAY of a connection error couldn't be written whole.
 pub record BreaksGoaway (octets : List ℕ) (moments : List Moment) (inputs : List Input)

@@ -34,7 +34,8 @@ Does (Script schema limits) before after returned how links ending =
     WithoutDisk (ScriptRun schema limits before after ending) returned
 Does (Init journal limits) before after returned how links ending =
     InitRun journal limits before after returned ending
-Does (Log journal) before after returned how links ending = LogRun journal before after returned ending
+Does (Log journal) before after returned how links ending =
+    LogRun journal before after returned ending
 Does (Session schema journal) before after returned how links ending =
     SessionCommand schema journal before after returned how ending
 Does (Serve schema journal address sessions) before after returned how links ending =

@@ -213,8 +213,8 @@ pub record IsServing (fed : List ℕ) (schema : List SchemaNode) (before : Outsi
 
 -- a session that goes on no more
 pub record HasStopped (how : How) (fed : List ℕ) (schema : List SchemaNode) (before : Outside)
-    (source : Source) (sending : Progress) (side : FeederState) (port : PortView) (readings : List ℕ)
-    : Type 0 where
+    (source : Source) (sending : Progress) (side : FeederState) (port : PortView)
+    (readings : List ℕ) : Type 0 where
   pub octets : List ℕ
   pub given : IsGiven how octets before.input source
   pub ended : HasEnded how fed (start_of schema before) octets before.output sending side port
@@ -222,8 +222,8 @@ pub record HasStopped (how : How) (fed : List ℕ) (schema : List SchemaNode) (b
 
 -- a session whose sending half was ended
 pub record HasFinished (how : How) (fed : List ℕ) (schema : List SchemaNode) (before : Outside)
-    (source : Source) (sending : Progress) (side : FeederState) (port : PortView) (readings : List ℕ)
-    : Type 0 where
+    (source : Source) (sending : Progress) (side : FeederState) (port : PortView)
+    (readings : List ℕ) : Type 0 where
   pub octets : List ℕ
   pub moments : List Moment
   pub inputs : List Input

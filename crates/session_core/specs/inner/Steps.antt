@@ -44,9 +44,11 @@ use Rattle.session_core.specs.inner.Sending.{Starves}
 -- what a receiver makes of a piece that is no longer than it wants
 abbrev pub Makes : Reader → List ℕ → Next → State → Type 0
 Makes old piece (nexts.Event event) recv =
-    (frame : Frame) × (now : Reader) × Reads old piece (read frame (Some event) ∷ []) now × (recv ≡ Ok now)
+    (frame : Frame) × (now : Reader) × Reads old piece (read frame (Some event) ∷ []) now
+    × (recv ≡ Ok now)
 Makes old piece nexts.Nothing recv =
-    (moments : List Moment) × (now : Reader) × Reads old piece moments now × (reads_of moments ≡ []) × (recv ≡ Ok now)
+    (moments : List Moment) × (now : Reader) × Reads old piece moments now
+    × (reads_of moments ≡ []) × (recv ≡ Ok now)
 Makes old piece (nexts.Ends (hows.Protocol code)) recv =
     Faults old piece [] code ⊎ Astray old piece [] code
 Makes old piece (nexts.Ends hows.NoMemory) recv = ⊤
@@ -65,8 +67,8 @@ EndsSo hows.Cut recv = EndsFrame recv → ⊥
 EndsSo _ recv = ⊥
 
 -- so many octets were read, and these frames are made of them
-pub record HasRead (start : Source) (octets : List ℕ) (moments : List Moment) (source : Source) (recv : State)
-    (count : ℕ) : Type 0 where
+pub record HasRead (start : Source) (octets : List ℕ) (moments : List Moment) (source : Source)
+    (recv : State) (count : ℕ) : Type 0 where
   pub all : Read octets start source
   pub counted : count ≡ length octets
   pub reader : Reader
@@ -137,8 +139,8 @@ abbrev pub service : PortView → List Served → Service
 service port calls = record { port = port; calls = calls }
 
 -- Something that was asked on a stream is answered with this reply, at readings of the clock.
-pub record IsReplied (schema : List SchemaNode) (stream : ℕ) (asked : Asked) (reply : Reply) (old new : Service)
-    (before after : List ℕ) : Type 0 where
+pub record IsReplied (schema : List SchemaNode) (stream : ℕ) (asked : Asked) (reply : Reply)
+    (old new : Service) (before after : List ℕ) : Type 0 where
   pub readings : List ℕ
   pub turn : Option Turn
   pub failed : Bool
@@ -171,27 +173,30 @@ list_of None = []
 list_of (Some served) = served ∷ []
 
 -- A call took a turn, whatever other calls there are, and this is left of it.
-pub record IsTurned (schema : List SchemaNode) (served : Served) (reply : Reply) (left : Option Served) (old new : PortView)
-    (before after : List ℕ) : Type 0 where
+pub record IsTurned (schema : List SchemaNode) (served : Served) (reply : Reply)
+    (left : Option Served) (old new : PortView) (before after : List ℕ) : Type 0 where
   pub readings : List ℕ
   pub turn : Option Turn
   pub failed : Bool
   pub clock : after ≡ before ++ readings
   pub deed : (others later : List Served) (given : List Input)
       → ready_on served.stream (line_after first_line given).streams ≡ Free
-      → IsCallTurn schema (deed_with served.stream Turning given readings turn failed (said_in reply))
+      → IsCallTurn schema
+      (deed_with served.stream Turning given readings turn failed (said_in reply))
       (service old (others ++ served ∷ later)) (service new (others ++ list_of left ++ later))
 
 -- What was asked behind the first message of a call is answered, whatever other calls there are, and this is left of the call.
 abbrev pub IsLaterDone : Later → Served → Reply → Option Served → Type 0
 IsLaterDone what served reply left =
     (others later : List Served) (given : List Input) (port : PortView)
-    → IsHeard what (deed_with served.stream (Answering (asks.Later what)) given [] None false (said_in reply))
+    → IsHeard what
+    (deed_with served.stream (Answering (asks.Later what)) given [] None false (said_in reply))
     (service port (others ++ served ∷ later)) (service port (others ++ list_of left ++ later))
 
 -- ---- the calls that are served
 
 -- The one on the stream, if there is one, and those before and behind it.
 abbrev pub IsFound : ℕ → List Served → Option Served → List Served → List Served → Type 0
-IsFound stream before None after calls = AreElsewhere stream before × (after ≡ []) × (calls ≡ before)
+IsFound stream before None after calls =
+    AreElsewhere stream before × (after ≡ []) × (calls ≡ before)
 IsFound stream before (Some served) after calls = IsAmong stream served before after calls

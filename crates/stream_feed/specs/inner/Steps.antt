@@ -40,12 +40,15 @@ pub record HasFed (schema : List SchemaNode) (stream : ℕ) (plan : Plan) (more 
   pub speaks : SpeaksOn stream more (length turns) from.wire (map piece.Message taken) [] to.wire
 
 -- it goes on, or has ended
-abbrev pub Comes : List SchemaNode → ℕ → Plan → Option FeedEnd → Ports → Option CallView → List (List ℕ) → Ports → Type 0
-Comes schema stream plan None from call waiting to = HasFed schema stream plan 0 from call waiting to
+abbrev pub Comes : List SchemaNode → ℕ → Plan → Option FeedEnd → Ports → Option CallView
+    → List (List ℕ) → Ports → Type 0
+Comes schema stream plan None from call waiting to =
+    HasFed schema stream plan 0 from call waiting to
 Comes schema stream plan (Some end) from call waiting to = Feeds schema stream plan end from to
 
 -- what a turn leaves of a call, and what waits then
-abbrev pub Leaves : Result (List (List ℕ)) Refusal → CallView → Option CallView → List (List ℕ) → Type 0
+abbrev pub Leaves : Result (List (List ℕ)) Refusal → CallView → Option CallView
+    → List (List ℕ) → Type 0
 Leaves (Ok octets) turned call waiting = (call ≡ Some turned) × (waiting ≡ octets)
 Leaves (Err refusals.DiskFault) turned call waiting = (call ≡ Some turned) × (waiting ≡ [])
 Leaves (Err refusals.NoMemory) turned call waiting = call ≡ None
@@ -89,7 +92,8 @@ pub record HasAsked (answer : Ready) (old new : WireView) : Type 0 where
       → said_so_far other new.progress ≡ said_so_far other old.progress
 
 -- and an offer
-pub record HasOffered (stream : ℕ) (answer : Took) (piece : Piece) (old new : WireView) : Type 0 where
+pub record HasOffered (stream : ℕ) (answer : Took) (piece : Piece) (old new : WireView)
+    : Type 0 where
   pub connection : new.connection ≡ old.connection
   pub authors : new.authors ≡ old.authors
   pub counts : new.counts ≡ noted answer (stream, piece) old.counts

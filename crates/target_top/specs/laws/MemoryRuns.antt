@@ -65,7 +65,8 @@ RunsAlike =
     (words : List (List ℕ)) (memory : Memory) (a b c d : Environment)
     (returned returned' : Option SeenDisk) (how how' : Option How) (links links' : SeenLinks)
     (status status' : ℕ) →
-    AreDecided words → IsNoSession words → IsNoServe words → IsNoLoad words → HaveNoStops memory.octets →
+    AreDecided words → IsNoSession words → IsNoServe words → IsNoLoad words →
+    HaveNoStops memory.octets →
     IsFreshMemory memory a → IsFreshMemory memory c →
     Run words a b returned how links status → Run words c d returned' how' links' status' →
     WentWell a b returned status → WentWell c d returned' status' →

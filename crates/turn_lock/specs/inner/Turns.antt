@@ -17,7 +17,9 @@ pub record SeatKnows (served drawn : ℕ) (owner : ℕ → ℕ) (j : ℕ) (v : T
 
 -- numbers other than 0 differ, and are small
 abbrev pub NumbersDiffer : List Turn → Type 0
-NumbersDiffer vs = (j k : ℕ) (v w : Turn) → get_elem? vs j ≡ some v → get_elem? vs k ≡ some w → v.number ≡ w.number → 0 < v.number → j ≡ k
+NumbersDiffer vs =
+    (j k : ℕ) (v w : Turn) → get_elem? vs j ≡ some v → get_elem? vs k ≡ some w
+    → v.number ≡ w.number → 0 < v.number → j ≡ k
 
 abbrev pub NumbersAreSmall : List Turn → Type 0
 NumbersAreSmall vs = (j : ℕ) (v : Turn) → get_elem? vs j ≡ some v → v.number ≤ 4294967295
@@ -29,7 +31,8 @@ NoneFound vs = (j : ℕ) (v : Turn) → get_elem? vs j ≡ some v → v.found �
 abbrev pub HasTicket : List Turn → ℕ → ℕ → Type 0
 HasTicket vs j t = (v : Turn) × (get_elem? vs j ≡ some v) × (v.ticket ≡ Some t)
 
-pub record KeepsTurns {V : Type 0} (Fits : V → Type 0) (words : List ℕ) (homes : List (maybe.Option (Option V))) (vs : List Turn) : Type 0 where
+pub record KeepsTurns {V : Type 0} (Fits : V → Type 0) (words : List ℕ)
+    (homes : List (maybe.Option (Option V))) (vs : List Turn) : Type 0 where
   pub served : ℕ
   pub drawn : ℕ
   pub owner : ℕ → ℕ
@@ -40,7 +43,8 @@ pub record KeepsTurns {V : Type 0} (Fits : V → Type 0) (words : List ℕ) (hom
   pub each_ticket : (t : ℕ) → served ≤ t → t < drawn → HasTicket vs (owner t) t
   pub each_seat : (j : ℕ) (v : Turn) → get_elem? vs j ≡ some v → SeatKnows served drawn owner j v
   pub single : length homes ≡ 1
-  pub hollow : (j : ℕ) (v : Turn) → get_elem? vs j ≡ some v → v.hollow ≡ true → (v.found ≡ true) × (homes ≡ some None ∷ [])
+  pub hollow : (j : ℕ) (v : Turn) → get_elem? vs j ≡ some v → v.hollow ≡ true
+      → (v.found ≡ true) × (homes ≡ some None ∷ [])
   pub home : NoneFound vs → (x : V) × (homes ≡ some (Some x) ∷ []) × Fits x
 
 abbrev pub turn_outside : ℕ → Turn
