@@ -1,5 +1,5 @@
 // Paths: texts, patterns, order, prefixes.
-use base_kinds::{Bytes, Elem, Keys, Path, Text};
+use base_kinds::{Bytes, Elem, Keys, Path, Same, Text};
 use path_core::{
     PathFault, cmp_paths, covers, join_prefix, matches, read_path_text, read_value_text,
     write_path_text, write_value_text,
@@ -145,22 +145,25 @@ fn read(rt: &impl Abort, alloc: Global, text: &str) -> Path {
     read_path_text(alloc, text.as_bytes()).expect(rt, "a path text")
 }
 
+/// Whether the path's text is added behind what is there.
+fn is_written_as(rt: &impl Abort, alloc: Global, path: &Path, text: &str) -> bool {
+    let mut out = Bytes::of(alloc, b">").expect(rt, "memory");
+    write_path_text(alloc, path, &mut out).expect(rt, "memory");
+    out.items().split_first() == Some((&b'>', text.as_bytes()))
+}
+
+/// Whether the text is that of the path of these elements.
+fn is_text_of(rt: &impl Abort, alloc: Global, text: &str, elems: &[(&str, Pairs)]) -> bool {
+    let path = path_of(rt, alloc, elems);
+    let read = read(rt, alloc, text);
+    read.same(&path) && is_written_as(rt, alloc, &path, text)
+}
+
 #[test]
-fn texts_are_read_and_written_back(rt: HostRuntime) -> Result<(), Fail> {
-    let alloc = rt.alloc();
+fn texts_are_read_and_written_back(rt: HostRuntime) {
     for (text, elems) in TAKEN.iter().copied() {
-        let path = path_of(&rt, alloc, elems);
-        assert_eq!(rt; read(&rt, alloc, text), path, "{text}");
-        let mut out = Bytes::empty(alloc);
-        out.push(b'>')?;
-        write_path_text(alloc, &path, &mut out)?;
-        assert_eq!(rt;
-            out.items().split_first(),
-            Some((&b'>', text.as_bytes())),
-            "{text}"
-        );
+        assert!(rt; is_text_of(&rt, rt.alloc(), text, elems), "{text}");
     }
-    Ok(())
 }
 
 #[test]
@@ -199,26 +202,34 @@ const NO_VALUES: &[&[u8]] = &[
     b"\x7f",
 ];
 
+/// Whether the value is written as this text.
+fn is_value_written_as(rt: &impl Abort, alloc: Global, value: &Text, text: &str) -> bool {
+    let mut written = Bytes::empty(alloc);
+    write_value_text(alloc, value, &mut written).expect(rt, "memory");
+    written.items() == text.as_bytes()
+}
+
+/// Whether the text is that of this value alone.
+fn is_text_of_value(rt: &impl Abort, alloc: Global, text: &str, value: &str) -> bool {
+    let value = text_of(rt, alloc, value);
+    match read_value_text(alloc, text.as_bytes()) {
+        Ok(read) => read.same(&value) && is_value_written_as(rt, alloc, &value, text),
+        Err(_) => false,
+    }
+}
+
+/// Whether the octets are no value's text.
+fn is_no_value(alloc: Global, text: &[u8]) -> bool {
+    matches!(read_value_text(alloc, text), Err(PathFault::BadPath))
+}
+
 #[test]
 fn values_are_read_and_written_alone(rt: HostRuntime) {
-    let alloc = rt.alloc();
     for (text, value) in VALUES.iter().copied() {
-        let value = text_of(&rt, alloc, value);
-        let mut written = Bytes::empty(alloc);
-        write_value_text(alloc, &value, &mut written).expect(&rt, "memory");
-        assert_eq!(rt; written.items(), text.as_bytes(), "{text}");
-        assert_eq!(rt;
-            read_value_text(alloc, text.as_bytes()),
-            Ok(value),
-            "{text}"
-        );
+        assert!(rt; is_text_of_value(&rt, rt.alloc(), text, value), "{text}");
     }
     for text in NO_VALUES.iter().copied() {
-        assert_eq!(rt;
-            read_value_text(alloc, text),
-            Err(PathFault::BadPath),
-            "{text:?}"
-        );
+        assert!(rt; is_no_value(rt.alloc(), text), "{text:?}");
     }
 }
 
@@ -263,13 +274,19 @@ const PATTERNS: &[(&str, &str, bool, bool)] = &[
     ("/...[k=x]/m", "/l[k=y]/m", true, true),
 ];
 
+/// Whether the pattern matches the path, and whether it covers it.
+fn found_by(rt: &impl Abort, alloc: Global, pattern: &str, path: &str) -> (bool, bool) {
+    let pattern = read(rt, alloc, pattern);
+    let path = read(rt, alloc, path);
+    (matches(&pattern, &path), covers(&pattern, &path))
+}
+
 #[test]
 fn patterns_match_and_cover(rt: HostRuntime) {
     let alloc = rt.alloc();
     for (pattern, path, is_match, is_covered) in PATTERNS.iter().copied() {
-        let (p, q) = (read(&rt, alloc, pattern), read(&rt, alloc, path));
-        assert_eq!(rt; matches(&p, &q), is_match, "{pattern} matches {path}");
-        assert_eq!(rt; covers(&p, &q), is_covered, "{pattern} covers {path}");
+        let found = found_by(&rt, alloc, pattern, path);
+        assert_eq!(rt; found, (is_match, is_covered), "{pattern} and {path}");
     }
 }
 
@@ -318,24 +335,38 @@ const LENGTHS: &[(usize, usize, Option<PathFault>)] = &[
     (32, 32, Some(PathFault::BadPath)),
 ];
 
-#[test]
-fn a_prefix_and_a_path_have_32_elements_at_most(rt: HostRuntime) -> Result<(), Fail> {
-    let alloc = rt.alloc();
-    let joined = join_prefix(
-        alloc,
-        &read(&rt, alloc, "/l[k=x]"),
-        &read(&rt, alloc, "/m/n"),
-    )?;
-    assert_eq!(rt; joined, read(&rt, alloc, "/l[k=x]/m/n"));
-    for (before, after, fault) in LENGTHS.iter().copied() {
-        let (prefix, path) = (
-            same_elems(&rt, alloc, before),
-            same_elems(&rt, alloc, after),
-        );
-        let joined = join_prefix(alloc, &prefix, &path);
-        assert_eq!(rt; joined.err(), fault, "{before} and {after}");
+/// Whether the paths of the first two texts together are that of the third.
+fn joins(rt: &impl Abort, alloc: Global, prefix: &str, path: &str, whole: &str) -> bool {
+    let prefix = read(rt, alloc, prefix);
+    let path = read(rt, alloc, path);
+    let whole = read(rt, alloc, whole);
+    match join_prefix(alloc, &prefix, &path) {
+        Ok(joined) => joined.same(&whole),
+        Err(_) => false,
     }
-    Ok(())
+}
+
+/// What is told of a prefix and a path of so many elements.
+fn join_fault(rt: &impl Abort, alloc: Global, before: usize, after: usize) -> Option<PathFault> {
+    join_prefix(
+        alloc,
+        &same_elems(rt, alloc, before),
+        &same_elems(rt, alloc, after),
+    )
+    .err()
+}
+
+#[test]
+fn a_prefix_and_a_path_have_32_elements_at_most(rt: HostRuntime) {
+    let alloc = rt.alloc();
+    assert!(rt; joins(&rt, alloc, "/l[k=x]", "/m/n", "/l[k=x]/m/n"));
+    for (before, after, fault) in LENGTHS.iter().copied() {
+        assert_eq!(rt;
+            join_fault(&rt, alloc, before, after),
+            fault,
+            "{before} and {after}"
+        );
+    }
 }
 
 #[test]

@@ -3,7 +3,6 @@ use base_kinds::{Copied, Elem, Keys, MOST_SCHEMA_NODES, Path, Same, Shape, Text,
 use schema_core::{Node, NodeId, Schema};
 use std::alloc::Global;
 use std::process::Abort;
-use std::test::Fail;
 
 /// The module, the names and the sort or the shape of each node: parts of two OpenConfig modules, and the other shapes.
 const EXAMPLE: &[(&str, &str, &str)] = &[
@@ -161,30 +160,41 @@ fn a_name_has_its_place_below_an_inner_node(rt: HostRuntime) {
     }
 }
 
-#[test]
-fn a_child_has_one_name_more(rt: HostRuntime) {
-    let alloc = rt.alloc();
-    let schema = example(&rt, alloc);
+fn finds_children(schema: &Schema) -> bool {
     let above = schema.child_of(None, b"interfaces");
-    assert_eq!(rt; above, Some(NodeId(4)));
     let list = schema.child_of(above, b"interface");
-    assert_eq!(rt; list, Some(NodeId(5)));
-    assert_eq!(rt; schema.child_of(list, b"name"), Some(NodeId(6)));
-    assert_eq!(rt; schema.child_of(list, b"mtu"), None);
-    assert_eq!(rt; schema.child_of(None, b"name"), None);
+    above == Some(NodeId(4))
+        && list == Some(NodeId(5))
+        && schema.child_of(list, b"name") == Some(NodeId(6))
+        && schema.child_of(list, b"mtu").is_none()
+        && schema.child_of(None, b"name").is_none()
 }
 
 #[test]
-fn a_copy_has_all_of_each_node(rt: HostRuntime) -> Result<(), Fail> {
+fn a_child_has_one_name_more(rt: HostRuntime) {
+    let schema = example(&rt, rt.alloc());
+    assert!(rt; finds_children(&schema));
+}
+
+/// The node of this name below `lab`.
+fn node_of_lab<'a>(rt: &impl Abort, schema: &'a Schema, name: &[u8]) -> &'a Node {
+    let lab = schema.child_of(None, b"lab");
+    schema.node(schema.child_of(lab, name).expect(rt, "a node"))
+}
+
+fn refers_to(rt: &impl Abort, alloc: Global, node: &Node, names: &str) -> bool {
+    match node.reference() {
+        Some(reference) => reference.same(&texts_of(rt, alloc, names)),
+        None => false,
+    }
+}
+
+#[test]
+fn a_copy_has_all_of_each_node(rt: HostRuntime) {
     let alloc = rt.alloc();
-    let copy = example(&rt, alloc).copy(alloc)?;
-    let lab = copy.child_of(None, b"lab");
-    let via = copy.node(copy.child_of(lab, b"via").ok_or("via")?);
-    assert!(rt; via.is_mandatory());
-    let reference = via.reference().ok_or("a reference")?;
-    assert!(rt; reference.same(&texts_of(&rt, alloc, "interfaces interface name")));
-    let tags = copy.node(copy.child_of(lab, b"tags").ok_or("tags")?);
-    assert_eq!(rt; tags.maximum(), Some(9));
-    assert!(rt; !tags.is_mandatory());
-    Ok(())
+    let copy = example(&rt, alloc).copy(alloc).expect(&rt, "memory");
+    let via = node_of_lab(&rt, &copy, b"via");
+    assert!(rt; via.is_mandatory() && refers_to(&rt, alloc, via, "interfaces interface name"));
+    let tags = node_of_lab(&rt, &copy, b"tags");
+    assert!(rt; !tags.is_mandatory() && tags.maximum() == Some(9));
 }
