@@ -1,41 +1,44 @@
 #!/usr/bin/env python3
-"""A first Set, Get and Subscribe, with grpcio (Debian's python3-grpcio, or pip's grpcio).
+"""A first Set, Get and Subscribe, with Python alone.
 
-    examples/first_client.py ADDRESS
+    examples/first_client.py HOST:PORT
 
 It asks for the server's capabilities, subscribes to changes below /system, sets /system/config/hostname, gets it, waits until
-the stream has told it, and prints each message as it came: protocol buffers of gnmi.proto, which this client makes by hand.
+the stream has told it, and prints each message as it came: protocol buffers of gnmi.proto, which bin/gnmi_client.py makes by
+hand. A client of one's own will rather use a library for gRPC.
 """
 import os
 import sys
 
-import grpc
-
 sys.dont_write_bytecode = True
 sys.path.insert(0, os.path.join(os.path.dirname(os.path.dirname(os.path.realpath(__file__))), "bin"))
-from gnmi_client import get_request, path, set_request, stream_request, string  # noqa: E402
+from gnmi_client import (answered, connected, get_request, path, set_request, stream_request, string,  # noqa: E402
+                         take_until)
 
 HOSTNAME = path(b"system", b"config", b"hostname")
-
-
-def same(message):
-    return message
+# a SubscribeResponse with sync_response: what follows are changes
+SYNC = b"\x18\x01"
 
 
 def main():
-    if len(sys.argv) != 2:
+    if len(sys.argv) != 2 or ":" not in sys.argv[1]:
         raise SystemExit(__doc__)
-    channel = grpc.insecure_channel(sys.argv[1])
-    print("capabilities:", channel.unary_unary("/gnmi.gNMI/Capabilities", same, same)(b""))
-    stream = channel.stream_stream("/gnmi.gNMI/Subscribe", same, same)(iter([stream_request(path(b"system"))]))
-    for message in stream:
+    host, port = sys.argv[1].rsplit(":", 1)
+    try:
+        connection = connected((host.strip("[]"), int(port)))
+    except OSError as fault:
+        raise SystemExit(f"nobody answers at {sys.argv[1]}: {fault.strerror}") from None
+    print("capabilities:", answered(connection, b"Capabilities", b""))
+    stream = connection.call(b"Subscribe", stream_request(path(b"system")), last=False)
+    take_until([connection], lambda: SYNC in stream.messages, 5)
+    for message in stream.messages:
         print("the state:", message)
-        if message == b"\x18\x01":
-            break  # sync_response: what follows are changes
-    print("set:", channel.unary_unary("/gnmi.gNMI/Set", same, same)(set_request((HOSTNAME, string(b"r1")))))
-    print("get:", channel.unary_unary("/gnmi.gNMI/Get", same, same)(get_request(HOSTNAME)))
-    print("a change:", next(stream))
-    stream.cancel()
+    known = len(stream.messages)
+    print("set:", answered(connection, b"Set", set_request((HOSTNAME, string(b"r1")))))
+    print("get:", answered(connection, b"Get", get_request(HOSTNAME)))
+    take_until([connection], lambda: len(stream.messages) > known, 5)
+    print("a change:", *stream.messages[known:])
+    connection.close()
     return 0
 
 
