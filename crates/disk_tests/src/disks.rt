@@ -5,7 +5,6 @@ use disk_model::{Armed, Disk, put_synced, read_part, read_whole};
 use edge_traits::{Failed, ReadFault};
 use memory_disks::{FuseDisk, MemDisk, NO_STOP};
 use std::alloc::Global;
-use std::process::Abort;
 
 /// What stands for the octet of the fill in a table.
 const FILLED: u8 = 255;
@@ -73,37 +72,40 @@ fn has_octets(octets: &[u8], pattern: &[u8], filled: u8) -> bool {
 
 /// A stop in the call of this number: how many calls fail, whether the disk has stopped, and what it leaves.
 fn leaves(
-    rt: &impl Abort,
     alloc: Global,
     passes: u64,
     fill: Fill,
     pattern: &[u8],
     filled: u8,
-) -> bool {
-    let inner = MemDisk::of(alloc, &[1, 2, 3, 4]).expect(rt, "memory");
+) -> Result<bool, NoMemory> {
+    let inner = MemDisk::of(alloc, &[1, 2, 3, 4])?;
     let mut disk = FuseDisk::make(inner, passes, fill);
     let failed = make_calls(&mut disk);
+    if disk.starved() {
+        return Err(NoMemory);
+    }
     let counted = passes.checked_add(failed as u64) == Some(6) && disk.stopped() == (passes < 6);
-    counted && has_octets(disk.image().octets(), pattern, filled)
+    Ok(counted && has_octets(disk.image().octets(), pattern, filled))
 }
 
 #[test]
-fn a_stop_leaves_what_its_fill_says(rt: HostRuntime) {
+fn a_stop_leaves_what_its_fill_says(rt: HostRuntime) -> Result<(), NoMemory> {
     let alloc = rt.alloc();
     for (passes, old, new, filled) in IMAGES.iter().copied() {
         assert!(rt;
-            leaves(&rt, alloc, passes, Fill::Old, old, 0),
+            leaves(alloc, passes, Fill::Old, old, 0)?,
             "at {passes}, old"
         );
         assert!(rt;
-            leaves(&rt, alloc, passes, Fill::New, new, 0),
+            leaves(alloc, passes, Fill::New, new, 0)?,
             "at {passes}, new"
         );
-        for octet in [0, 127, 165].iter().copied() {
-            let as_told = leaves(&rt, alloc, passes, Fill::Octet(octet), filled, octet);
+        for octet in [0, 127, 165] {
+            let as_told = leaves(alloc, passes, Fill::Octet(octet), filled, octet)?;
             assert!(rt; as_told, "at {passes}, {octet}");
         }
     }
+    Ok(())
 }
 
 /// Makes this many calls, and answers which of them passed, as the digit 1 behind a first 1.
@@ -181,45 +183,39 @@ fn want_of_memory_is_told(rt: HostRuntime) -> Result<(), NoMemory> {
     Ok(())
 }
 
-/// For a stop after so many calls: which of the next four pass, as `passing` answers.
-const STOPS: &[(u64, u64)] = &[(0, 10000), (1, 11000), (2, 11100)];
-
-/// Whether a disk that is told to stop after so many calls passes the next four like this.
-fn stops_where_it_is_told(rt: &impl Abort, alloc: Global, passes: u64, passed: u64) -> bool {
-    let mut disk = FuseDisk::make(MemDisk::make(alloc), NO_STOP, Fill::Old);
-    let before = passing(&mut disk, 2);
-    disk.stop_after(passes, Fill::New).expect(rt, "memory");
-    let behind = passing(&mut disk, 4);
-    before == 111 && behind == passed && disk.stopped() && !disk.starved()
-}
-
 /// A disk that is made without a stop is armed from its next call on.
 #[test]
-fn a_disk_without_a_stop_stops_where_it_is_told(rt: HostRuntime) {
-    for (passes, passed) in STOPS.iter().copied() {
-        assert!(rt;
-            stops_where_it_is_told(&rt, rt.alloc(), passes, passed),
-            "at {passes}"
-        );
+fn a_disk_without_a_stop_stops_where_it_is_told(rt: HostRuntime) -> Result<(), NoMemory> {
+    for passes in 0..3 {
+        let mut disk = FuseDisk::make(MemDisk::make(rt.alloc()), NO_STOP, Fill::Old);
+        assert_eq!(rt; passing(&mut disk, 2), 111);
+        disk.stop_after(passes, Fill::New)?;
+        for call in 0..4 {
+            assert_eq!(rt; disk.len().is_ok(), call < passes, "at {passes}, {call}");
+        }
+        assert!(rt; disk.stopped() && !disk.starved());
     }
+    Ok(())
 }
 
 /// Whether a disk of so many octets is read whole where it fails in the call after so many.
-fn reads_whole(rt: &impl Abort, alloc: Global, octets: &[u8], passes: u64) -> bool {
-    let inner = MemDisk::of(alloc, octets).expect(rt, "memory");
-    let mut disk = FuseDisk::make(inner, NO_STOP, Fill::Old);
-    disk.fail_after(passes).expect(rt, "memory");
+fn reads_whole(alloc: Global, octets: &[u8], passes: u64) -> Result<bool, NoMemory> {
+    let mut disk = FuseDisk::make(MemDisk::of(alloc, octets)?, NO_STOP, Fill::Old);
+    disk.fail_after(passes)?;
     match read_whole(alloc, &mut disk) {
-        Ok(read) => read.items() == octets,
-        Err(_) => false,
+        Ok(read) => Ok(read.items() == octets),
+        Err(ReadFault::Failed) => Ok(false),
+        Err(ReadFault::NoMemory) => Err(NoMemory),
     }
 }
 
 /// Whether a disk of so many octets is read in this many calls, and not in one less.
-fn is_read_in(rt: &impl Abort, alloc: Global, length: usize, calls: u64) -> bool {
-    let octets = vec![in alloc; 7u8; length].expect(rt, "memory");
-    !reads_whole(rt, alloc, &octets, calls.saturating_sub(1))
-        && reads_whole(rt, alloc, &octets, calls)
+fn is_read_in(alloc: Global, length: usize, calls: u64) -> Result<bool, NoMemory> {
+    let octets = vec![in alloc; 7u8; length]?;
+    Ok(
+        !reads_whole(alloc, &octets, calls.saturating_sub(1))?
+            && reads_whole(alloc, &octets, calls)?,
+    )
 }
 
 /// Lengths of disks, and the calls in which each is read.
@@ -227,38 +223,30 @@ const READINGS: &[(usize, u64)] = &[(0, 1), (1, 2), (65536, 2), (65537, 3)];
 
 /// A reading asks for the length, and then for each 65,536 octets that are begun.
 #[test]
-fn a_reading_makes_a_call_for_each_piece(rt: HostRuntime) {
+fn a_reading_makes_a_call_for_each_piece(rt: HostRuntime) -> Result<(), NoMemory> {
     for (length, calls) in READINGS.iter().copied() {
-        assert!(rt; is_read_in(&rt, rt.alloc(), length, calls), "at {length}");
+        assert!(rt; is_read_in(rt.alloc(), length, calls)?, "at {length}");
     }
-}
-
-/// Places and sizes, and what is read of `abcdef` there.
-const PARTS: &[(u32, u32, &[u8])] = &[
-    (0, 6, b"abcdef"),
-    (2, 3, b"cde"),
-    (4, 9, b"ef"),
-    (6, 1, b""),
-    (9, 2, b""),
-    (3, 0, b""),
-];
-
-fn has_part(alloc: Global, disk: &mut MemDisk, place: u32, size: u32, part: &[u8]) -> bool {
-    match read_part(alloc, disk, u64::from(place), u64::from(size)) {
-        Ok(octets) => octets.items() == part,
-        Err(_) => false,
-    }
+    Ok(())
 }
 
 #[test]
-fn a_part_is_read_up_to_the_end(rt: HostRuntime) {
-    let mut disk = MemDisk::of(rt.alloc(), b"abcdef").expect(&rt, "memory");
-    for (place, size, part) in PARTS.iter().copied() {
-        assert!(rt;
-            has_part(rt.alloc(), &mut disk, place, size, part),
-            "at {place}"
-        );
+fn a_part_is_read_up_to_the_end(rt: HostRuntime) -> Result<(), NoMemory> {
+    let mut disk = MemDisk::of(rt.alloc(), b"abcdef")?;
+    for (place, size, part) in [
+        (0, 6, b"abcdef".as_slice()),
+        (2, 3, b"cde"),
+        (4, 9, b"ef"),
+        (6, 1, b""),
+        (9, 2, b""),
+        (3, 0, b""),
+    ] {
+        match read_part(rt.alloc(), &mut disk, place, size) {
+            Ok(octets) => assert_eq!(rt; octets.items(), part, "at {place}"),
+            Err(_) => return Err(NoMemory),
+        }
     }
+    Ok(())
 }
 
 fn failure_prints(alloc: Global, text: &str) -> bool {

@@ -7,7 +7,6 @@ use commit_journal::{CreateFault, Ledger, LedgerFault, Opening};
 use disk_model::Armed;
 use memory_disks::{FuseDisk, MemDisk, NO_STOP};
 use std::alloc::Global;
-use std::process::Abort;
 use std::test::Fail;
 
 const LIMITS: Limits = Limits {
@@ -308,13 +307,14 @@ fn only_an_empty_disk_takes_a_new_journal(rt: HostRuntime) -> Result<(), CreateF
 
 /// An append on a disk for which nothing waits, told to stop after so many calls: whether it was
 /// made, and whether the disk has stopped.
-fn told_to_stop(rt: &impl Abort, alloc: Global, passes: u64) -> (bool, bool) {
-    let journal = new_journal(alloc).expect(rt, "a journal");
-    let disk = FuseDisk::make(journal, NO_STOP, Fill::Old);
-    let mut ledger = open_empty(alloc, disk).expect(rt, "a ledger");
-    ledger.stop_after(passes, Fill::New).expect(rt, "memory");
+fn told_to_stop(alloc: Global, passes: u64) -> Result<Option<(bool, bool)>, CreateFault> {
+    let disk = FuseDisk::make(new_journal(alloc)?, NO_STOP, Fill::Old);
+    let Some(mut ledger) = open_empty(alloc, disk) else {
+        return Ok(None);
+    };
+    ledger.stop_after(passes, Fill::New)?;
     let appended = append_first(alloc, &mut ledger).is_ok();
-    (appended, ledger.stopped())
+    Ok(Some((appended, ledger.stopped())))
 }
 
 /// The append has four calls.
@@ -325,14 +325,12 @@ const TOLD_TO_STOP: &[(u64, (bool, bool))] = &[
 ];
 
 #[test]
-fn a_disk_that_is_not_armed_stops_where_it_is_told(rt: HostRuntime) {
+fn a_disk_that_is_not_armed_stops_where_it_is_told(rt: HostRuntime) -> Result<(), CreateFault> {
     for (passes, expected) in TOLD_TO_STOP.iter().copied() {
-        assert_eq!(rt;
-            told_to_stop(&rt, rt.alloc(), passes),
-            expected,
-            "after {passes}"
-        );
+        let found = told_to_stop(rt.alloc(), passes)?;
+        assert_eq!(rt; found, Some(expected), "after {passes}");
     }
+    Ok(())
 }
 
 #[test]
