@@ -275,7 +275,7 @@ const PATTERNS: &[(&str, &str, bool, bool)] = &[
 ];
 
 /// Whether the pattern matches the path, and whether it covers it.
-fn found_by(rt: &impl Abort, alloc: Global, pattern: &str, path: &str) -> (bool, bool) {
+fn matches_and_covers(rt: &impl Abort, alloc: Global, pattern: &str, path: &str) -> (bool, bool) {
     let pattern = read(rt, alloc, pattern);
     let path = read(rt, alloc, path);
     (matches(&pattern, &path), covers(&pattern, &path))
@@ -285,7 +285,7 @@ fn found_by(rt: &impl Abort, alloc: Global, pattern: &str, path: &str) -> (bool,
 fn patterns_match_and_cover(rt: HostRuntime) {
     let alloc = rt.alloc();
     for (pattern, path, is_match, is_covered) in PATTERNS.iter().copied() {
-        let found = found_by(&rt, alloc, pattern, path);
+        let found = matches_and_covers(&rt, alloc, pattern, path);
         assert_eq!(rt; found, (is_match, is_covered), "{pattern} and {path}");
     }
 }
@@ -336,7 +336,7 @@ const LENGTHS: &[(usize, usize, Option<PathFault>)] = &[
 ];
 
 /// Whether the paths of the first two texts together are that of the third.
-fn joins(rt: &impl Abort, alloc: Global, prefix: &str, path: &str, whole: &str) -> bool {
+fn are_joined(rt: &impl Abort, alloc: Global, prefix: &str, path: &str, whole: &str) -> bool {
     let prefix = read(rt, alloc, prefix);
     let path = read(rt, alloc, path);
     let whole = read(rt, alloc, whole);
@@ -359,7 +359,7 @@ fn join_fault(rt: &impl Abort, alloc: Global, before: usize, after: usize) -> Op
 #[test]
 fn a_prefix_and_a_path_have_32_elements_at_most(rt: HostRuntime) {
     let alloc = rt.alloc();
-    assert!(rt; joins(&rt, alloc, "/l[k=x]", "/m/n", "/l[k=x]/m/n"));
+    assert!(rt; are_joined(&rt, alloc, "/l[k=x]", "/m/n", "/l[k=x]/m/n"));
     for (before, after, fault) in LENGTHS.iter().copied() {
         assert_eq!(rt;
             join_fault(&rt, alloc, before, after),

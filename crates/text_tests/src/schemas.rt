@@ -160,7 +160,7 @@ fn a_name_has_its_place_below_an_inner_node(rt: HostRuntime) {
     }
 }
 
-fn finds_children(schema: &Schema) -> bool {
+fn children_are_found(schema: &Schema) -> bool {
     let above = schema.child_of(None, b"interfaces");
     let list = schema.child_of(above, b"interface");
     above == Some(NodeId(4))
@@ -173,7 +173,7 @@ fn finds_children(schema: &Schema) -> bool {
 #[test]
 fn a_child_has_one_name_more(rt: HostRuntime) {
     let schema = example(&rt, rt.alloc());
-    assert!(rt; finds_children(&schema));
+    assert!(rt; children_are_found(&schema));
 }
 
 /// The node of this name below `lab`.

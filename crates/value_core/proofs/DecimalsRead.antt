@@ -11,9 +11,10 @@ use Rattle.std.proofs.lemmas.List.{drop-drop}
 use Rattle.base_kinds.specs.Values.{fits_signed}
 use Rattle.plain_texts.proofs.Decimals.{left_out}
 use Rattle.value_core.specs.Decimals.{IsDecimal, point_text, is_point, are_digits, is_decimal, decimal_value, decimal_if, unsigned_part, decimal_of}
-use Rattle.value_core.specs.inner.Cuts.{lacks_point, IsCutAtPoint}
+use Rattle.plain_texts.specs.Splits.{lacks, IsCut}
 use Rattle.value_core.specs.laws.Texts.{DecimalsByFunction}
-use Rattle.value_core.proofs.Cuts.{cut_there, same_fronts, at_point}
+use Rattle.plain_texts.proofs.Cuts.{cut_there, same_parts}
+use Rattle.value_core.proofs.Cuts.{at_point}
 use Rattle.value_core.proofs.IntegersRead.{same_texts, no_minus, let_through}
 
 digits_from : (octets : List ℕ) → are_digits octets ≡ true → AllDigits 10 octets
@@ -70,10 +71,10 @@ tested places text digits is =
 no_point : digit_value 46 < 10 → ⊥
 no_point h = omega (arith, h)
 
-digits_lack_point : (octets : List ℕ) → AllDigits 10 octets → IsTrue (lacks_point octets)
+digits_lack_point : (octets : List ℕ) → AllDigits 10 octets → IsTrue (lacks 46 octets)
 digits_lack_point [] h = refl
 digits_lack_point (x ∷ xs) h =
-    and_from (not (eqb x 46)) (lacks_point xs) (not_from_false (eqb x 46) (ne_eqb x 46 (λ e. no_point (subst (λ y. digit_value y < 10) e h.0)))) (digits_lack_point xs h.1)
+    and_from (not (eqb x 46)) (lacks 46 xs) (not_from_false (eqb x 46) (ne_eqb x 46 (λ e. no_point (subst (λ y. digit_value y < 10) e h.0)))) (digits_lack_point xs h.1)
 
 unsigned_at : (unsigned : List ℕ) (minus : Bool) → eqb (get_or unsigned 0 0) 45 ≡ minus → minus ≡ false → (starts_with_minus unsigned ≡ false) × (unsigned_part unsigned ≡ unsigned)
 unsigned_at unsigned minus is off =
@@ -99,8 +100,8 @@ cut_at : (whole behind : List ℕ) → AllDigits 10 whole → (before_first is_p
 cut_at whole behind all =
     let octets = whole ++ point_text behind in
     let n = position_or_len is_point octets in
-    let cut : IsCutAtPoint octets (take n octets) (drop n octets) = cut_there octets in
-    let same = same_fronts whole (point_text behind) (take n octets) (drop n octets) cut.joined (digits_lack_point whole all) (at_point behind) cut.lacking cut.begins in
+    let cut : IsCut 46 octets (take n octets) (drop n octets) = cut_there 46 octets in
+    let same = same_parts 46 whole (point_text behind) (take n octets) (drop n octets) cut.whole (digits_lack_point whole all) (at_point behind) cut.lacking cut.begins in
     (sym same.0, behind_cut n octets behind same.1)
 
 pub decimal_read : (places : ℕ) (text : List ℕ) (digits : ℤ) → IsDecimal places text digits → decimal_of places text ≡ Some digits

@@ -6,7 +6,8 @@ use Rattle.std.specs.Str.Parse.{AllDigits, digits_value, digits_value_after}
 use Rattle.std.proofs.lemmas.Bool.{and_from, not_from_false, ne_eqb}
 use Rattle.base_kinds.specs.Values.{fits_signed}
 use Rattle.value_core.specs.Decimals.{signed, filled, point_text, IsDecimal}
-use Rattle.value_core.specs.inner.Cuts.{lacks_point, IsCut}
+use Rattle.plain_texts.specs.Splits.{lacks}
+use Rattle.value_core.specs.inner.Cuts.{HasParts}
 use Rattle.value_core.proofs.Cuts.{one_cut}
 use Rattle.value_core.proofs.Digits.{value_append, value_ge}
 use Rattle.value_core.proofs.Ranges.{held_small}
@@ -25,9 +26,9 @@ not_point octet digit e =
     let point = subst (λ o. digit_value o < 10) e digit in
     absurd (omega (arith, point))
 
-digits_lack : (digits : List ℕ) → AllDigits 10 digits → IsTrue (lacks_point digits)
+digits_lack : (digits : List ℕ) → AllDigits 10 digits → IsTrue (lacks 46 digits)
 digits_lack [] all = refl
-digits_lack (d ∷ ds) all = and_from (not (eqb d 46)) (lacks_point ds) (not_from_false (eqb d 46) (ne_eqb d 46 (not_point d all.0))) (digits_lack ds all.1)
+digits_lack (d ∷ ds) all = and_from (not (eqb d 46)) (lacks 46 ds) (not_from_false (eqb d 46) (ne_eqb d 46 (not_point d all.0))) (digits_lack ds all.1)
 
 digits_signless : (digits after rest : List ℕ) → 0 < length digits → AllDigits 10 digits → digits ++ after ≡ 45 ∷ rest → ⊥
 digits_signless [] after rest some all e = absurd (omega arith)
@@ -40,14 +41,14 @@ no_sign_of : (negative : Bool) (octets digits after : List ℕ) → 0 < length d
 no_sign_of true octets digits after some all is e rest f = absurd (cc)
 no_sign_of false octets digits after some all is e rest f = digits_signless digits after rest some all (sym is ∙ f)
 
-pub cut_of : (places : ℕ) (octets : List ℕ) (digits : ℤ) (d : IsDecimal places octets digits) → IsCut octets d.negative d.whole d.behind
+pub cut_of : (places : ℕ) (octets : List ℕ) (digits : ℤ) (d : IsDecimal places octets digits) → HasParts octets d.negative d.whole d.behind
 cut_of places octets digits d = record {
   spelled = d.spelled;
   lacking = digits_lack d.whole d.whole_digits;
   signless = no_sign_of d.negative octets d.whole (point_text d.behind) d.some d.whole_digits d.spelled;
 }
 
-pub means : (places : ℕ) (octets : List ℕ) (negative : Bool) (whole behind : List ℕ) (digits : ℤ) → IsCut octets negative whole behind → IsDecimal places octets digits → Means places negative whole behind digits
+pub means : (places : ℕ) (octets : List ℕ) (negative : Bool) (whole behind : List ℕ) (digits : ℤ) → HasParts octets negative whole behind → IsDecimal places octets digits → Means places negative whole behind digits
 means places octets negative whole behind digits cut d =
     let same = one_cut octets d.negative negative d.whole d.behind whole behind (cut_of places octets digits d) cut in
     let own : Means places d.negative d.whole d.behind digits = record { some = d.some; whole_digits = d.whole_digits; behind_digits = d.behind_digits; few = d.few; meaning = d.meaning; held = d.held } in
@@ -55,7 +56,7 @@ means places octets negative whole behind digits cut d =
     (subst (λ w. Means places negative w d.behind digits) same.1.0
     (subst (λ n. Means places n d.whole d.behind digits) same.0 own))
 
-pub decimal_from : (places : ℕ) (octets : List ℕ) (negative : Bool) (whole behind : List ℕ) (digits : ℤ) → IsCut octets negative whole behind → Means places negative whole behind digits → IsDecimal places octets digits
+pub decimal_from : (places : ℕ) (octets : List ℕ) (negative : Bool) (whole behind : List ℕ) (digits : ℤ) → HasParts octets negative whole behind → Means places negative whole behind digits → IsDecimal places octets digits
 decimal_from places octets negative whole behind digits cut m = record {
   negative = negative;
   whole = whole;
@@ -129,10 +130,10 @@ read_so places negative whole behind number digits some few all all' value is he
   held = held;
 }
 
-pub uncut : (places : ℕ) (octets : List ℕ) → ((negative : Bool) (whole behind : List ℕ) → IsCut octets negative whole behind → ⊥) → (digits : ℤ) → IsDecimal places octets digits → ⊥
+pub uncut : (places : ℕ) (octets : List ℕ) → ((negative : Bool) (whole behind : List ℕ) → HasParts octets negative whole behind → ⊥) → (digits : ℤ) → IsDecimal places octets digits → ⊥
 uncut places octets none digits d = none d.negative d.whole d.behind (cut_of places octets digits d)
 
-pub meaningless : (places : ℕ) (octets : List ℕ) (negative : Bool) (whole behind : List ℕ) → IsCut octets negative whole behind → ((digits : ℤ) → Means places negative whole behind digits → ⊥) → (digits : ℤ) → IsDecimal places octets digits → ⊥
+pub meaningless : (places : ℕ) (octets : List ℕ) (negative : Bool) (whole behind : List ℕ) → HasParts octets negative whole behind → ((digits : ℤ) → Means places negative whole behind digits → ⊥) → (digits : ℤ) → IsDecimal places octets digits → ⊥
 meaningless places octets negative whole behind cut none digits d = none digits (means places octets negative whole behind digits cut d)
 
 pub some_from : (octets : List ℕ) → eqb (length octets) 0 ≡ false → 0 < length octets

@@ -1,16 +1,17 @@
 // Decimal numbers, read in all their forms.
-ghost use Rattle.std.specs.Prelude.{◌≡◌, ℕ, ℤ, ◌++◌, List, [], ◌∷◌, ◌==◌, Bool, false, not, length, IsTrue, IfSome, IfNone, IfOk, IsErrOf, MatchOption, codes};
+ghost use Rattle.std.specs.Prelude.{◌≡◌, ℕ, ℤ, ◌++◌, List, [], ◌∷◌, ◌==◌, Bool, false, IsTrue, IfSome, IfNone, IfOk, IsErrOf, MatchOption, codes};
 ghost use Rattle.base_kinds.specs.Texts.{dec_text};
 ghost use Rattle.base_kinds.specs.Values.{fits_signed};
-ghost use Rattle.std.specs.List.{prefix_len};
 ghost use Rattle.std.specs.Fmt.{sign_text};
 ghost use Rattle.value_core.specs.Decimals.{IsDecimal, decimal_of, point_text};
-ghost use Rattle.value_core.specs.inner.Cuts.{IsCut, IsCutAtPoint, IsAtPoint};
+ghost use Rattle.plain_texts.specs.Splits.{BeginsOrEnds};
+ghost use Rattle.value_core.specs.inner.Cuts.{HasParts};
 
 use crate::fault::ValueFault;
 use crate::numbers::{after_minus, read_integer, with_digits, with_sign, with_zeros};
 use crate::written::put_decimal;
 use base_kinds::Seq;
+use plain_texts::cut_before;
 use std::alloc::Global;
 
 /// The parts of a decimal: whether a `-` stands first, the digits before the point, and those behind it.
@@ -23,10 +24,10 @@ struct Parts<'a> {
 
 /// Cuts the octets at a `-` at their front and at their first point. Behind a point something has to stand.
 fn parts_of(octets: &[u8]) -> Option<Parts<'_>>
-    ensures some { IfSome result (λ parts. IsCut octets.now parts.negative parts.whole.now
+    ensures some { IfSome result (λ parts. HasParts octets.now parts.negative parts.whole.now
         parts.behind.now) }
     ensures none { IfNone result ((negative : Bool) (whole behind : List ℕ)
-        → IsCut octets.now negative whole behind → ⊥) }
+        → HasParts octets.now negative whole behind → ⊥) }
 {
     match after_minus(octets) {
         None => unsigned_parts(false, octets),
@@ -36,12 +37,12 @@ fn parts_of(octets: &[u8]) -> Option<Parts<'_>>
 
 fn unsigned_parts(negative: bool, octets: &[u8]) -> Option<Parts<'_>>
     requires { negative ≡ false → (rest : List ℕ) → octets.now ≡ 45 ∷ rest → ⊥ }
-    ensures some { IfSome result (λ parts. IsCut (sign_text negative ++ octets.now) parts.negative
+    ensures some { IfSome result (λ parts. HasParts (sign_text negative ++ octets.now) parts.negative
         parts.whole.now parts.behind.now) }
     ensures none { IfNone result ((other : Bool) (whole behind : List ℕ)
-        → IsCut (sign_text negative ++ octets.now) other whole behind → ⊥) }
+        → HasParts (sign_text negative ++ octets.now) other whole behind → ⊥) }
 {
-    let (whole, rest) = cut_at_point(octets);
+    let (whole, rest) = cut_before(octets, b'.');
     let behind = behind_point(rest)?;
     Some(Parts {
         negative,
@@ -50,25 +51,9 @@ fn unsigned_parts(negative: bool, octets: &[u8]) -> Option<Parts<'_>>
     })
 }
 
-/// What stands before the first point, and what is left from there on.
-fn cut_at_point(octets: &[u8]) -> (&[u8], &[u8])
-    ensures { IsCutAtPoint octets.now result.0.now result.1.now }
-{
-    octets.split_at(length_before_point(octets))
-}
-
-fn length_before_point(octets: &[u8]) -> usize
-    ensures { result ≡ prefix_len (λ octet. not (octet == 46)) octets.now }
-{
-    octets
-        .iter()
-        .position(|octet| *octet == b'.')
-        .unwrap_or(octets.len())
-}
-
 /// What stands behind the point, where something does.
 fn behind_point(rest: &[u8]) -> Option<&[u8]>
-    requires { IsAtPoint rest.now }
+    requires { BeginsOrEnds 46 rest.now }
     ensures some { IfSome result (λ behind. rest.now ≡ point_text behind.now) }
     ensures none { IfNone result ((behind : List ℕ) → rest.now ≡ point_text behind → ⊥) }
 {

@@ -6,5 +6,5 @@ use Rattle.value_core.proofs.decimals.unsigned_parts.Goals as goal
 
 pub returns-in_err-behind-clause-none : goal.returns-in_err-behind-clause-none
 returns-in_err-behind-clause-none c =
-    none_from _ _ (no_parts (sign_text c.args.negative ++ c.args.octets.now) c.args.octets.now c.cut_at_point.result.0.now c.cut_at_point.result.1.now c.args.negative refl
-    (signless_behind c.args.negative c.args.octets.now c.requires) c.cut_at_point.ensures c.in_err-behind.ensures.none)
+    none_from _ _ (no_parts (sign_text c.args.negative ++ c.args.octets.now) c.args.octets.now c.cut_before.result.0.now c.cut_before.result.1.now c.args.negative refl
+    (signless_behind c.args.negative c.args.octets.now c.requires) c.cut_before.ensures c.in_err-behind.ensures.none)
