@@ -4,7 +4,6 @@ ghost use Rattle.std.specs.Prelude.{◌^◌, ◌<◌};
 use base_lists::{Bytes, NoMemory, Seq};
 use h2_frame::{Got, Head, head_octets, read_frame, write_frame};
 use std::alloc::Global;
-use std::test::Fail;
 
 const MAX: u32 = 16_384;
 
@@ -31,84 +30,97 @@ fn written_again(alloc: Global, octets: &[u8]) -> Result<Bytes, NoMemory> {
     Ok(out)
 }
 
-// Frames that hyperframe wrote.
-#[test]
-fn frames_of_another_library(rt: HostRuntime) -> Result<(), Fail> {
-    let rows: [(&[u8], Head); 7] = [
-        (
-            [0, 0, 4, 8, 0, 0, 0, 0, 0, 0x24, 0x71, 0x7e, 0x9f].as_slice(),
-            head(4, 8, 0, 0),
-        ),
-        (
-            [
-                0, 0, 8, 6, 1, 0, 0, 0, 0, 2, 0xc3, 0x19, 0x9e, 0x94, 0x60, 9, 0xcb,
-            ]
-            .as_slice(),
-            head(8, 6, 1, 0),
-        ),
-        (
-            [0, 0, 1, 1, 5, 0x7f, 0xff, 0xff, 0xff, 0x79].as_slice(),
-            head(1, 1, 5, 2_147_483_647),
-        ),
-        (
-            [0, 0, 9, 0, 9, 0, 0, 0, 2, 7, 0xbd, 0, 0, 0, 0, 0, 0, 0].as_slice(),
-            head(9, 0, 9, 2),
-        ),
-        ([0, 0, 0, 4, 1, 0, 0, 0, 0].as_slice(), head(0, 4, 1, 0)),
-        (
-            [0, 0, 4, 3, 0, 0x0d, 0x4a, 0xa8, 0xb0, 0, 0, 0, 4].as_slice(),
-            head(4, 3, 0, 222_996_656),
-        ),
-        (
-            [
-                0, 0, 5, 2, 0, 0x76, 0x94, 0xf4, 0x2d, 0x9b, 0xd8, 0xad, 0x9c, 2,
-            ]
-            .as_slice(),
-            head(5, 2, 0, 1_989_473_325),
-        ),
-    ];
-    for (octets, head) in rows {
-        assert_eq!(rt; read_frame(octets, MAX), Got::Frame(head, octets.len()));
-        assert_eq!(rt; written_again(rt.alloc(), octets)?.items(), octets);
-    }
-    Ok(())
+fn is_written_again(alloc: Global, octets: &[u8]) -> bool {
+    written_again(alloc, octets).is_ok_and(|again| again.items() == octets)
 }
 
-// Of such frames too, and the library drops the bit.
+/// A frame's octets, and the length, the kind, the flags and the stream of its head.
+type Frame = (&'static [u8], (u32, u8, u8, u32));
+
+/// Frames that hyperframe wrote.
+const FRAMES: &[Frame] = &[
+    (
+        [0, 0, 4, 8, 0, 0, 0, 0, 0, 0x24, 0x71, 0x7e, 0x9f].as_slice(),
+        (4, 8, 0, 0),
+    ),
+    (
+        [
+            0, 0, 8, 6, 1, 0, 0, 0, 0, 2, 0xc3, 0x19, 0x9e, 0x94, 0x60, 9, 0xcb,
+        ]
+        .as_slice(),
+        (8, 6, 1, 0),
+    ),
+    (
+        [0, 0, 1, 1, 5, 0x7f, 0xff, 0xff, 0xff, 0x79].as_slice(),
+        (1, 1, 5, 2_147_483_647),
+    ),
+    (
+        [0, 0, 9, 0, 9, 0, 0, 0, 2, 7, 0xbd, 0, 0, 0, 0, 0, 0, 0].as_slice(),
+        (9, 0, 9, 2),
+    ),
+    ([0, 0, 0, 4, 1, 0, 0, 0, 0].as_slice(), (0, 4, 1, 0)),
+    (
+        [0, 0, 4, 3, 0, 0x0d, 0x4a, 0xa8, 0xb0, 0, 0, 0, 4].as_slice(),
+        (4, 3, 0, 222_996_656),
+    ),
+    (
+        [
+            0, 0, 5, 2, 0, 0x76, 0x94, 0xf4, 0x2d, 0x9b, 0xd8, 0xad, 0x9c, 2,
+        ]
+        .as_slice(),
+        (5, 2, 0, 1_989_473_325),
+    ),
+];
+
+/// Whether these octets are one frame with this head.
+fn is_frame(octets: &[u8], (length, kind, flags, stream): (u32, u8, u8, u32)) -> bool {
+    read_frame(octets, MAX) == Got::Frame(head(length, kind, flags, stream), octets.len())
+}
+
 #[test]
-fn reserved_bit_is_ignored_and_written_as_zero(rt: HostRuntime) -> Result<(), Fail> {
-    let rows = [
-        (
-            [
-                0, 0, 5, 10, 0x93, 0x97, 0x3d, 0xf0, 0x39, 0xd4, 0x72, 0x63, 0x32, 0x0f,
-            ]
-            .as_slice(),
-            head(5, 10, 147, 389_935_161),
-        ),
-        (
-            [0, 0, 3, 0, 0xbc, 0xd0, 0x89, 0x90, 0x9d, 0x31, 0x16, 0xf3].as_slice(),
-            head(3, 0, 188, 1_351_192_733),
-        ),
-        (
-            [
-                0, 0, 3, 0xff, 0x13, 0x8d, 0xa9, 0xa4, 0x0b, 0x53, 0x80, 0x2f,
-            ]
-            .as_slice(),
-            head(3, 255, 19, 229_221_387),
-        ),
-    ];
-    for (octets, head) in rows {
-        assert_eq!(rt; read_frame(octets, MAX), Got::Frame(head, octets.len()));
+fn frames_of_another_library(rt: HostRuntime) {
+    for (octets, head) in FRAMES.iter().copied() {
+        assert!(rt; is_frame(octets, head), "{octets:?}");
+        assert!(rt; is_written_again(rt.alloc(), octets), "{octets:?}");
+    }
+}
+
+/// Of such frames too, and the library drops the bit.
+const RESERVED: &[Frame] = &[
+    (
+        [
+            0, 0, 5, 10, 0x93, 0x97, 0x3d, 0xf0, 0x39, 0xd4, 0x72, 0x63, 0x32, 0x0f,
+        ]
+        .as_slice(),
+        (5, 10, 147, 389_935_161),
+    ),
+    (
+        [0, 0, 3, 0, 0xbc, 0xd0, 0x89, 0x90, 0x9d, 0x31, 0x16, 0xf3].as_slice(),
+        (3, 0, 188, 1_351_192_733),
+    ),
+    (
+        [
+            0, 0, 3, 0xff, 0x13, 0x8d, 0xa9, 0xa4, 0x0b, 0x53, 0x80, 0x2f,
+        ]
+        .as_slice(),
+        (3, 255, 19, 229_221_387),
+    ),
+];
+
+#[test]
+fn reserved_bit_is_ignored_and_written_as_zero(rt: HostRuntime) {
+    for (octets, head) in RESERVED.iter().copied() {
+        assert!(rt; is_frame(octets, head), "{octets:?}");
     }
     let again = written_again(
         rt.alloc(),
         &[0, 0, 1, 10, 0x93, 0x97, 0x3d, 0xf0, 0x39, 0xd4],
-    )?;
+    )
+    .expect(&rt, "memory");
     assert_eq!(rt;
         again.items(),
         [0, 0, 1, 10, 0x93, 0x17, 0x3d, 0xf0, 0x39, 0xd4].as_slice()
     );
-    Ok(())
 }
 
 #[test]
@@ -123,32 +135,41 @@ fn front_of_a_ping_is_no_frame_yet(rt: HostRuntime) {
     assert_eq!(rt; read_frame(&PING, MAX), Got::Frame(head(8, 6, 0, 0), 17));
 }
 
+const EMPTY: Head = Head {
+    length: 0,
+    kind: 0,
+    flags: 0,
+    stream: 1,
+};
+
+/// Octets, the most that a payload may have, and what stands first.
+const LENGTHS: &[(&[u8], u32, Got)] = &[
+    (
+        [0, 0, 0, 0, 0, 0, 0, 0, 1, 7].as_slice(),
+        MAX,
+        Got::Frame(EMPTY, 9),
+    ),
+    ([0, 0x40, 0, 0, 0, 0, 0, 0, 1, 7].as_slice(), MAX, Got::More),
+    (
+        [0, 0x40, 1, 0, 0, 0, 0, 0, 1, 7].as_slice(),
+        MAX,
+        Got::Bad(6),
+    ),
+    ([0, 0x40, 1].as_slice(), MAX, Got::Bad(6)),
+    ([0, 0x40].as_slice(), MAX, Got::More),
+    ([0, 0x41].as_slice(), MAX, Got::Bad(6)),
+    ([1].as_slice(), MAX, Got::Bad(6)),
+    ([0, 0, 1, 0, 0, 0, 0, 0, 1, 7].as_slice(), 0, Got::Bad(6)),
+    (
+        [0xff, 0xff, 0xff, 0, 0, 0, 0, 0, 1, 7].as_slice(),
+        16_777_215,
+        Got::More,
+    ),
+];
+
 #[test]
 fn lengths_against_the_most_that_is_allowed(rt: HostRuntime) {
-    let rows = [
-        (
-            [0, 0, 0, 0, 0, 0, 0, 0, 1, 7].as_slice(),
-            MAX,
-            Got::Frame(head(0, 0, 0, 1), 9),
-        ),
-        ([0, 0x40, 0, 0, 0, 0, 0, 0, 1, 7].as_slice(), MAX, Got::More),
-        (
-            [0, 0x40, 1, 0, 0, 0, 0, 0, 1, 7].as_slice(),
-            MAX,
-            Got::Bad(6),
-        ),
-        ([0, 0x40, 1].as_slice(), MAX, Got::Bad(6)),
-        ([0, 0x40].as_slice(), MAX, Got::More),
-        ([0, 0x41].as_slice(), MAX, Got::Bad(6)),
-        ([1].as_slice(), MAX, Got::Bad(6)),
-        ([0, 0, 1, 0, 0, 0, 0, 0, 1, 7].as_slice(), 0, Got::Bad(6)),
-        (
-            [0xff, 0xff, 0xff, 0, 0, 0, 0, 0, 1, 7].as_slice(),
-            16_777_215,
-            Got::More,
-        ),
-    ];
-    for (octets, max, got) in rows {
+    for (octets, max, got) in LENGTHS.iter().copied() {
         assert_eq!(rt; read_frame(octets, max), got, "{octets:?}");
     }
 }
@@ -170,15 +191,14 @@ fn frame_of_zeros(alloc: Global, length: u32) -> Result<Bytes, NoMemory>
 }
 
 #[test]
-fn longest_frame_that_is_allowed(rt: HostRuntime) -> Result<(), Fail> {
-    let frame = frame_of_zeros(rt.alloc(), MAX)?;
+fn longest_frame_that_is_allowed(rt: HostRuntime) {
+    let frame = frame_of_zeros(rt.alloc(), MAX).expect(&rt, "memory");
     assert_eq!(rt;
         read_frame(frame.items(), MAX),
         Got::Frame(head(MAX, 0, 0, 1), 16_393)
     );
-    let longer = frame_of_zeros(rt.alloc(), MAX + 1)?;
+    let longer = frame_of_zeros(rt.alloc(), MAX + 1).expect(&rt, "memory");
     assert_eq!(rt; read_frame(longer.items(), MAX), Got::Bad(6));
-    Ok(())
 }
 
 #[test]

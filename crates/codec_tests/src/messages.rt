@@ -110,40 +110,56 @@ fn outside_messages_are_read_or_refused(rt: HostRuntime) {
     }
 }
 
+/// Octets of a message with one varint under 1, and the varint.
+const VARINTS: &[(&[u8], u64)] = &[
+    (b"\x08\x00", 0),
+    (b"\x08\x7f", 127),
+    (b"\x08\x80\x01", 128),
+    (b"\x08\x80\x80\x80\x80\x80\x80\x80\x80\x80\x01", 1 << 63),
+    (b"\x08\xff\xff\xff\xff\xff\xff\xff\xff\xff\x01", u64::MAX),
+    // more octets than are needed
+    (b"\x08\x80\x00", 0),
+    (b"\x08\xff\x80\x80\x00", 127),
+    (b"\x88\x80\x00\x96\x81\x00", 150),
+];
+
+/// Octets in which no varint ends within ten octets and 64 bits.
+const NO_VARINTS: &[&[u8]] = &[
+    // eleven octets, and 65 bits in ten
+    b"\x08\x80\x80\x80\x80\x80\x80\x80\x80\x80\x80\x00",
+    b"\x08\xff\xff\xff\xff\xff\xff\xff\xff\xff\x02",
+    b"\x08\x80\x80\x80\x80\x80\x80\x80\x80\x80\x03",
+    b"\x08\x80",
+];
+
+/// Whether these octets are a message with this varint under 1 alone.
+fn is_varint(alloc: Global, octets: &[u8], value: u64) -> bool {
+    let wanted = [Field {
+        number: 1,
+        body: Body::Varint(value),
+    }];
+    fields_of(alloc, octets).is_ok_and(|fields| fields.items() == wanted.as_slice())
+}
+
 #[test]
 fn varints_are_read_up_to_their_limits(rt: HostRuntime) {
-    let spelled: [(&[u8], u64); 8] = [
-        (b"\x08\x00", 0),
-        (b"\x08\x7f", 127),
-        (b"\x08\x80\x01", 128),
-        (b"\x08\x80\x80\x80\x80\x80\x80\x80\x80\x80\x01", 1 << 63),
-        (b"\x08\xff\xff\xff\xff\xff\xff\xff\xff\xff\x01", u64::MAX),
-        // more octets than are needed
-        (b"\x08\x80\x00", 0),
-        (b"\x08\xff\x80\x80\x00", 127),
-        (b"\x88\x80\x00\x96\x81\x00", 150),
-    ];
-    for (octets, value) in spelled {
-        let wanted = [Field {
-            number: 1,
-            body: Body::Varint(value),
-        }];
-        match fields_of(rt.alloc(), octets) {
-            Ok(fields) => assert_eq!(rt; fields.items(), wanted.as_slice()),
-            Err(_) => panic!(rt; "a varint is read"),
-        }
+    for (octets, value) in VARINTS.iter().copied() {
+        assert!(rt; is_varint(rt.alloc(), octets, value), "{value}");
     }
-    let refused: [&[u8]; 4] = [
-        // eleven octets, and 65 bits in ten
-        b"\x08\x80\x80\x80\x80\x80\x80\x80\x80\x80\x80\x00",
-        b"\x08\xff\xff\xff\xff\xff\xff\xff\xff\xff\x02",
-        b"\x08\x80\x80\x80\x80\x80\x80\x80\x80\x80\x03",
-        b"\x08\x80",
-    ];
-    for octets in refused {
+    for octets in NO_VARINTS.iter().copied() {
         assert!(rt; is_bad(rt.alloc(), octets));
     }
 }
+
+/// Octets whose tag has no field number or no wire type.
+const NO_TAGS: &[&[u8]] = &[
+    b"\x00\x01",
+    b"\x80\x80\x80\x80\x10\x05",
+    b"\x0b",
+    b"\x0c",
+    b"\x0e\x00",
+    b"\x0f\x00",
+];
 
 #[test]
 fn tags_are_read_up_to_their_limits(rt: HostRuntime) {
@@ -153,15 +169,7 @@ fn tags_are_read_up_to_their_limits(rt: HostRuntime) {
         Ok(fields) => assert_eq!(rt; last_varint(fields.items(), 536_870_911), Some(5)),
         Err(_) => panic!(rt; "the last number is read"),
     }
-    let refused: [&[u8]; 6] = [
-        b"\x00\x01",
-        b"\x80\x80\x80\x80\x10\x05",
-        b"\x0b",
-        b"\x0c",
-        b"\x0e\x00",
-        b"\x0f\x00",
-    ];
-    for octets in refused {
+    for octets in NO_TAGS.iter().copied() {
         assert!(rt; is_bad(rt.alloc(), octets));
     }
 }
@@ -266,47 +274,48 @@ fn the_last_text_wins_and_a_varint_is_none(rt: HostRuntime) {
     }
 }
 
+/// Members of a oneof, and how many fields it holds.
+const MEMBERS: &[(&[(u32, u8)], usize)] = &[
+    (&[(1, 2), (2, 2)], 2),
+    (&[(1, 2)], 4),
+    (&[(2, 2), (1, 0)], 1),
+    (&[(9, 2)], 4),
+];
+
 // protobuf.dev, "Encoding", "Oneofs": the last member that was written is what a oneof holds.
 #[test]
 fn a_oneof_holds_the_run_of_its_last_member(rt: HostRuntime) {
-    let cases: [(&[(u32, u8)], usize); 4] = [
-        (&[(1, 2), (2, 2)], 2),
-        (&[(1, 2)], 4),
-        (&[(2, 2), (1, 0)], 1),
-        (&[(9, 2)], 4),
-    ];
-    for (members, count) in cases {
-        match fields_of(rt.alloc(), TEXTS) {
-            Ok(fields) => assert_eq!(rt; one_of(fields.items(), members).len(), count),
-            Err(_) => panic!(rt; "the texts are read"),
-        }
+    let fields = fields_of(rt.alloc(), TEXTS).expect(&rt, "the texts");
+    for (members, count) in MEMBERS.iter().copied() {
+        assert_eq!(rt; one_of(fields.items(), members).len(), count);
     }
 }
+
+/// Entries of a map, each with its key and its value.
+const ENTRIES: &[(&[u8], &[u8], &[u8])] = &[
+    (b"\x0a\x01k\x12\x01v", b"k", b"v"),
+    (b"\x12\x01v\x0a\x01k", b"k", b"v"),
+    (b"\x12\x01v", b"", b"v"),
+    (b"", b"", b""),
+];
 
 #[test]
 fn an_entry_without_its_key_or_value_has_an_empty_one(rt: HostRuntime) {
-    let cases: [(&[u8], &[u8], &[u8]); 4] = [
-        (b"\x0a\x01k\x12\x01v", b"k", b"v"),
-        (b"\x12\x01v\x0a\x01k", b"k", b"v"),
-        (b"\x12\x01v", b"", b"v"),
-        (b"", b"", b""),
-    ];
-    for (entry, key, value) in cases {
-        match fields_of(rt.alloc(), entry) {
-            Ok(fields) => {
-                let (found_key, found_value) = entry_of(entry, fields.items());
-                assert_eq!(rt; found_key, key);
-                assert_eq!(rt; found_value, value);
-            }
-            Err(_) => panic!(rt; "an entry is read"),
-        }
+    for (entry, key, value) in ENTRIES.iter().copied() {
+        let fields = fields_of(rt.alloc(), entry).expect(&rt, "an entry");
+        assert_eq!(rt; entry_of(entry, fields.items()), (key, value));
     }
 }
 
+/// Where each field of the message begins, and where it ends.
+const PLACES: &[(usize, usize)] = &[(0, 3), (3, 12), (12, 18), (18, 27)];
+
+/// No field begins at the end; and 96 01 is 150, whose lowest three bits are no wire type.
+const NO_PLACES: &[usize] = &[27, 1];
+
 #[test]
 fn fields_are_read_one_at_a_time(rt: HostRuntime) {
-    let cases: [(usize, usize); 4] = [(0, 3), (3, 12), (12, 18), (18, 27)];
-    for (place, end) in cases {
+    for (place, end) in PLACES.iter().copied() {
         if place > MESSAGE.len() {
             panic!(rt; "a place past the end");
         }
@@ -315,9 +324,7 @@ fn fields_are_read_one_at_a_time(rt: HostRuntime) {
             None => panic!(rt; "a field is read"),
         }
     }
-    // no field at the end; and 96 01 is 150, whose lowest three bits are no wire type
-    let ends: [usize; 2] = [27, 1];
-    for place in ends {
+    for place in NO_PLACES.iter().copied() {
         if place > MESSAGE.len() {
             panic!(rt; "a place past the end");
         }

@@ -88,6 +88,9 @@ fn leaves(
     Ok(counted && has_octets(disk.image().octets(), pattern, filled))
 }
 
+/// Octets to fill with.
+const OCTETS: &[u8] = &[0, 127, 165];
+
 #[test]
 fn a_stop_leaves_what_its_fill_says(rt: HostRuntime) -> Result<(), NoMemory> {
     let alloc = rt.alloc();
@@ -100,7 +103,7 @@ fn a_stop_leaves_what_its_fill_says(rt: HostRuntime) -> Result<(), NoMemory> {
             leaves(alloc, passes, Fill::New, new, 0)?,
             "at {passes}, new"
         );
-        for octet in [0, 127, 165] {
+        for octet in OCTETS.iter().copied() {
             let as_told = leaves(alloc, passes, Fill::Octet(octet), filled, octet)?;
             assert!(rt; as_told, "at {passes}, {octet}");
         }
@@ -230,21 +233,29 @@ fn a_reading_makes_a_call_for_each_piece(rt: HostRuntime) -> Result<(), NoMemory
     Ok(())
 }
 
+/// Places and sizes, and the part of `abcdef` that is read there.
+const PARTS: &[(u64, u64, &[u8])] = &[
+    (0, 6, b"abcdef"),
+    (2, 3, b"cde"),
+    (4, 9, b"ef"),
+    (6, 1, b""),
+    (9, 2, b""),
+    (3, 0, b""),
+];
+
+/// Whether this part is read.
+fn reads_part(alloc: Global, place: u64, size: u64, part: &[u8]) -> Result<bool, NoMemory> {
+    let mut disk = MemDisk::of(alloc, b"abcdef")?;
+    match read_part(alloc, &mut disk, place, size) {
+        Ok(octets) => Ok(octets.items() == part),
+        Err(_) => Err(NoMemory),
+    }
+}
+
 #[test]
 fn a_part_is_read_up_to_the_end(rt: HostRuntime) -> Result<(), NoMemory> {
-    let mut disk = MemDisk::of(rt.alloc(), b"abcdef")?;
-    for (place, size, part) in [
-        (0, 6, b"abcdef".as_slice()),
-        (2, 3, b"cde"),
-        (4, 9, b"ef"),
-        (6, 1, b""),
-        (9, 2, b""),
-        (3, 0, b""),
-    ] {
-        match read_part(rt.alloc(), &mut disk, place, size) {
-            Ok(octets) => assert_eq!(rt; octets.items(), part, "at {place}"),
-            Err(_) => return Err(NoMemory),
-        }
+    for (place, size, part) in PARTS.iter().copied() {
+        assert!(rt; reads_part(rt.alloc(), place, size, part)?, "at {place}");
     }
     Ok(())
 }

@@ -10,8 +10,6 @@ mod numbers;
 mod reading;
 mod records;
 mod streams;
-#[cfg(test)]
-mod tests;
 mod writing;
 
 pub use mem_sink::MemSink;

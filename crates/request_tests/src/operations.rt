@@ -339,19 +339,21 @@ fn a_scalar_stands_for_a_value_of_its_leaf(rt: HostRuntime) {
     }
 }
 
+/// How many scalars there are, the number of the last one, and whether they are taken.
+const COUNTS: &[(u64, u64, bool)] = &[
+    (16, 15, true),
+    (16, 0, false),
+    (17, 16, true),
+    (17, 0, false),
+    (300, 299, true),
+    (300, 0, false),
+];
+
 #[test]
 fn of_many_scalars_no_two_are_equal(rt: HostRuntime) {
     let alloc = rt.alloc();
     let schema = schema_of(&rt, alloc, SCHEMA);
-    let table = [
-        (16, 15, true),
-        (16, 0, false),
-        (17, 16, true),
-        (17, 0, false),
-        (300, 299, true),
-        (300, 0, false),
-    ];
-    for (count, last, is_taken) in table.iter().copied() {
+    for (count, last, is_taken) in COUNTS.iter().copied() {
         let lines = [("update", "/lab/tag", Sent::Words(count, last))];
         let ask = request(&rt, alloc, "/", &lines);
         let is_ok = resolve(alloc, &schema, &ask).is_ok();

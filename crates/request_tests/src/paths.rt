@@ -16,20 +16,22 @@ fn long_path(rt: &impl Abort, alloc: Global, name: &str, length: usize) -> Path 
     path
 }
 
+/// A name, how many elements of it stand in the prefix and in the path, and whether they are taken.
+const LENGTHS: &[(&str, usize, usize, bool)] = &[
+    ("a", 0, 0, true),
+    ("a", 16, 16, true),
+    ("a", 16, 17, false),
+    ("a", 33, 0, false),
+    ("a", 0, 33, false),
+    ("", 0, 1, false),
+    ("", 1, 0, false),
+];
+
 #[test]
 fn a_path_has_at_most_32_named_elements(rt: HostRuntime) {
     let alloc = rt.alloc();
     let schema = schema_of(&rt, alloc, SCHEMA);
-    let table = [
-        ("a", 0, 0, true),
-        ("a", 16, 16, true),
-        ("a", 16, 17, false),
-        ("a", 33, 0, false),
-        ("a", 0, 33, false),
-        ("", 0, 1, false),
-        ("", 1, 0, false),
-    ];
-    for (name, above, below, is_taken) in table.iter().copied() {
+    for (name, above, below, is_taken) in LENGTHS.iter().copied() {
         let mut ask = nothing(&rt, alloc);
         ask.prefix = long_path(&rt, alloc, name, above);
         let path = long_path(&rt, alloc, name, below);

@@ -392,20 +392,22 @@ fn words(rt: &impl Abort, alloc: Global, count: u32, last: u32) -> Bytes {
     json
 }
 
+/// How many values there are, the number of the last one, and whether they are taken.
+const COUNTS: &[(u64, u64, bool)] = &[
+    (16, 15, true),
+    (16, 0, false),
+    (17, 16, true),
+    (17, 0, false),
+    (300, 299, true),
+    (300, 0, false),
+];
+
 #[test]
 fn of_many_values_no_two_are_equal(rt: HostRuntime) {
     let alloc = rt.alloc();
     let schema = schema_of(&rt, alloc, SCHEMA);
     let path = path_of(&rt, alloc, "/c/tags");
-    let table = [
-        (16, 15, true),
-        (16, 0, false),
-        (17, 16, true),
-        (17, 0, false),
-        (300, 299, true),
-        (300, 0, false),
-    ];
-    for (count, last, is_taken) in table.iter().copied() {
+    for (count, last, is_taken) in COUNTS.iter().copied() {
         let json = words(&rt, alloc, count, last);
         let fault = rows_of(alloc, &schema, &path, json.items()).err();
         let expected = if is_taken {

@@ -95,9 +95,26 @@ fn reopen_once(
     ensures opens { IfOk result (Reopens schema.now reading disk) }
     ensures fewer { IfOk result (HasFewerStops disk) }
 {
+    match schema.copy(alloc) {
+        Ok(schema) => open_left(alloc, disk, schema, reading),
+        Err(NoMemory) => Err(NoMemory),
+    }
+}
+
+/// Opens a book by this schema on what a stop left.
+fn open_left(
+    alloc: Global,
+    disk: FuseDisk,
+    schema: Schema,
+    reading: u64,
+) -> Result<Reopening, NoMemory>
+    requires { IsReopenable schema disk }
+    ensures opens { IfOk result (Reopens schema reading disk) }
+    ensures fewer { IfOk result (HasFewerStops disk) }
+{
     books_reopen::<FuseDisk, PlainTree>();
     let tree = PlainTree::empty(alloc);
-    match Book::reopen(alloc, disk, tree, schema.copy(alloc)?, reading) {
+    match Book::reopen(alloc, disk, tree, schema, reading) {
         BookOpening::Ready(book) => Ok(Reopening::Ready(book)),
         BookOpening::Damaged(_, _) => unreachable!(),
         BookOpening::Unfit(_) => unreachable!(),

@@ -14,7 +14,7 @@ use crate::calls::NamedCall;
 use crate::pending::Pending;
 use crate::reopening::restart;
 use crate::subscribing::{Opening, end, open, poll, turn};
-use base_kinds::{Action, Bytes, Limits, NoMemory, Refusal, Seq, SubLines, Text};
+use base_kinds::{Action, Bytes, Entry, Limits, NoMemory, Refusal, Seq, SubLines, Text};
 use book_core::BookEnd;
 use commit_report::put_log;
 use schema_core::Schema;
@@ -63,13 +63,16 @@ impl ScriptState {
         requires { AreInRange limits }
         ensures { IfOk result (λ state. state ≡ new_state schema limits) }
     {
-        Ok(ScriptState {
-            book: new_book(alloc, schema, limits)?,
-            reading: 0,
-            pending: Pending::nothing(alloc),
-            subs: Seq::empty(alloc),
-            calls: Vec::new(alloc),
-        })
+        match new_book(alloc, schema, limits) {
+            Ok(book) => Ok(ScriptState {
+                book,
+                reading: 0,
+                pending: Pending::nothing(alloc),
+                subs: Seq::empty(alloc),
+                calls: Vec::new(alloc),
+            }),
+            Err(NoMemory) => Err(NoMemory),
+        }
     }
 
     /// Adds the log of the history.
@@ -77,8 +80,7 @@ impl ScriptState {
         ensures { OnOk result (out.new ≡ out.old ++ text_at_end EndsWhole self.history) }
     {
         let BookEnd { entries, .. } = self.book.end();
-        out.extend_from_slice(b"log\n")?;
-        put_log(alloc, entries.items(), out)
+        put_whole_log(alloc, entries.items(), out)
     }
 
     /// Takes the next line, and adds what is printed at it. The answer is whether the script goes on, and it does unless no
@@ -199,4 +201,12 @@ impl ScriptState {
         let reply = set(alloc, &mut self.book, self.reading, author, request)?;
         Ok(Some(Reply::Set(reply)))
     }
+}
+
+/// Adds the line before a log, and the log of these entries.
+fn put_whole_log(alloc: Global, entries: &[Entry], out: &mut Bytes) -> Result<(), NoMemory>
+    ensures { OnOk result (out.new ≡ out.old ++ text_at_end EndsWhole entries.now) }
+{
+    out.extend_from_slice(b"log\n")?;
+    put_log(alloc, entries, out)
 }

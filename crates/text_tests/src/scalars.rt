@@ -1,8 +1,8 @@
 use base_kinds::{Bytes, Text, Value, Values};
 use scalar_order::{all_differ, same_scalar, scalar_of};
 use std::alloc::Global;
+use std::cmp::Ordering;
 use std::process::Abort;
-use std::test::Fail;
 
 fn text_of(rt: &impl Abort, alloc: Global, word: &str) -> Text {
     Text::of(alloc, word.as_bytes()).expect(rt, "a text")
@@ -16,46 +16,58 @@ fn octets_of(rt: &impl Abort, alloc: Global, word: &str) -> Bytes {
     octets
 }
 
-/// Values that rise as scalars, so that no two of them are equal.
-fn rising(rt: &impl Abort, alloc: Global) -> Result<Vec<Value>, Fail> {
-    let values = vec![in alloc;
-        Value::Bool(false),
-        Value::Bool(true),
-        Value::Int(-1),
-        Value::Int(1),
-        Value::Uint(1),
-        Value::Uint(2),
-        Value::Dec(-10, 1),
-        Value::Dec(10, 1),
-        Value::Dec(10, 2),
-        Value::Dec(100, 2),
-        Value::Text(text_of(rt, alloc, "")),
-        Value::Text(text_of(rt, alloc, "a")),
-        Value::Text(text_of(rt, alloc, "ab")),
-        Value::Bin(octets_of(rt, alloc, "a")),
-        Value::Enum(text_of(rt, alloc, "a")),
-        Value::Enum(text_of(rt, alloc, "b")),
-    ]?;
-    Ok(values)
+/// The value of this number. They rise as scalars, so that no two of them are equal.
+fn value_of(rt: &impl Abort, alloc: Global, number: usize) -> Value {
+    match number {
+        0 => Value::Bool(false),
+        1 => Value::Bool(true),
+        2 => Value::Int(-1),
+        3 => Value::Int(1),
+        4 => Value::Uint(1),
+        5 => Value::Uint(2),
+        6 => Value::Dec(-10, 1),
+        7 => Value::Dec(10, 1),
+        8 => Value::Dec(10, 2),
+        9 => Value::Dec(100, 2),
+        10 => Value::Text(text_of(rt, alloc, "")),
+        11 => Value::Text(text_of(rt, alloc, "a")),
+        12 => Value::Text(text_of(rt, alloc, "ab")),
+        13 => Value::Bin(octets_of(rt, alloc, "a")),
+        14 => Value::Enum(text_of(rt, alloc, "a")),
+        _ => Value::Enum(text_of(rt, alloc, "b")),
+    }
+}
+
+fn rising(rt: &impl Abort, alloc: Global) -> Values {
+    let mut values = Values::empty(alloc);
+    for number in 0..16 {
+        values
+            .push(value_of(rt, alloc, number))
+            .expect(rt, "memory");
+    }
+    values
+}
+
+/// Whether two values are scalars in this order, and the same where it says so.
+fn are_in_order(one: &Value, other: &Value, order: Ordering) -> bool {
+    match (scalar_of(one), scalar_of(other)) {
+        (Some(first), Some(second)) => {
+            first.cmp(&second) == order && same_scalar(one, other) == (order == Ordering::Equal)
+        }
+        _ => false,
+    }
 }
 
 #[test]
-fn scalars_are_in_order(rt: HostRuntime) -> Result<(), Fail> {
+fn scalars_are_in_order(rt: HostRuntime) {
     let alloc = rt.alloc();
-    let values = rising(&rt, alloc)?;
-    for (i, one) in values.iter().enumerate() {
-        for (j, other) in values.iter().enumerate() {
-            let first = scalar_of(one).expect(&rt, "a scalar");
-            let second = scalar_of(other).expect(&rt, "a scalar");
-            assert_eq!(rt; first.cmp(&second), i.cmp(&j), "{i} {j}");
-            assert_eq!(rt; same_scalar(one, other), i == j, "{i} {j}");
+    let values = rising(&rt, alloc);
+    for (i, one) in values.items().iter().enumerate() {
+        for (j, other) in values.items().iter().enumerate() {
+            assert!(rt; are_in_order(one, other, i.cmp(&j)), "{i} {j}");
         }
     }
-    assert!(rt;
-        all_differ(alloc, values.as_slice())?,
-        "16 values of all sorts"
-    );
-    Ok(())
+    assert_eq!(rt; all_differ(alloc, values.items()), Ok(true));
 }
 
 /// So many texts, of which that at the second place is the one at the first.
@@ -70,46 +82,53 @@ fn texts(rt: &impl Abort, alloc: Global, count: usize, first: usize, second: usi
     values
 }
 
+/// How many values there are, the places of the two that are equal, where there are such, and whether all differ.
+const DIFFERING: &[(usize, usize, usize, bool)] = &[
+    (0, 0, 0, true),
+    (1, 0, 0, true),
+    (2, 0, 1, false),
+    (16, 0, 0, true),
+    (16, 0, 15, false),
+    (17, 0, 0, true),
+    (17, 0, 16, false),
+    (17, 15, 16, false),
+    (500, 0, 0, true),
+    (500, 0, 499, false),
+    (500, 0, 1, false),
+    (500, 498, 499, false),
+    (500, 100, 400, false),
+];
+
 #[test]
-fn few_and_many_values_differ_or_not(rt: HostRuntime) -> Result<(), Fail> {
+fn few_and_many_values_differ_or_not(rt: HostRuntime) {
     let alloc = rt.alloc();
-    // how many, and the places of the two that are equal, where there are such
-    let table = [
-        (0, 0, 0, true),
-        (1, 0, 0, true),
-        (2, 0, 1, false),
-        (16, 0, 0, true),
-        (16, 0, 15, false),
-        (17, 0, 0, true),
-        (17, 0, 16, false),
-        (17, 15, 16, false),
-        (500, 0, 0, true),
-        (500, 0, 499, false),
-        (500, 0, 1, false),
-        (500, 498, 499, false),
-        (500, 100, 400, false),
-    ];
-    for (count, first, second, differ) in table {
+    for (count, first, second, differ) in DIFFERING.iter().copied() {
         let values = texts(&rt, alloc, count, first, second);
         assert_eq!(rt;
-            all_differ(alloc, values.items())?,
-            differ,
+            all_differ(alloc, values.items()),
+            Ok(differ),
             "{count} {first} {second}"
         );
     }
-    Ok(())
+}
+
+/// Two lists, and texts before them.
+fn lists_behind_texts(rt: &impl Abort, alloc: Global) -> Values {
+    let mut values = texts(rt, alloc, 20, 0, 0);
+    for _ in 0..2 {
+        values
+            .push(Value::List(Values::empty(alloc)))
+            .expect(rt, "memory");
+    }
+    values
 }
 
 #[test]
-fn a_list_is_equal_to_nothing(rt: HostRuntime) -> Result<(), Fail> {
+fn a_list_is_equal_to_nothing(rt: HostRuntime) {
     let alloc = rt.alloc();
     let list = Value::List(Values::empty(alloc));
-    let other = Value::List(Values::empty(alloc));
     assert!(rt; scalar_of(&list).is_none());
-    assert!(rt; !same_scalar(&list, &other));
-    let mut values = texts(&rt, alloc, 20, 0, 0);
-    values.push(list)?;
-    values.push(other)?;
-    assert!(rt; all_differ(alloc, values.items())?);
-    Ok(())
+    assert!(rt; !same_scalar(&list, &list));
+    let values = lists_behind_texts(&rt, alloc);
+    assert_eq!(rt; all_differ(alloc, values.items()), Ok(true));
 }

@@ -1,5 +1,5 @@
-//! Tests of threads and doors, of their traits and of the real ones: work that is started, connections in memory and over TCP, and
-//! pauses.
+//! Tests of the environment, of its traits and of the real one: octets that are read and written, work that is started, connections
+//! in memory and over TCP, and pauses.
 #![tactic(auto)]
 
 #[cfg(test)]
@@ -12,3 +12,5 @@ mod jobs;
 mod pauses;
 #[cfg(test)]
 mod starters;
+#[cfg(test)]
+mod streams;

@@ -1,16 +1,15 @@
 use crate::generator::Generator;
-use base_kinds::{Ops, Path, Paths, Rows, Same, Text, TreeLike};
+use base_kinds::{Op, Ops, Path, Paths, Rows, Same, Text, TreeLike};
 use plain_tree::PlainTree;
 use reference_model::{effect, part_of};
 use std::alloc::Global;
 use std::process::Abort;
-use std::test::Fail;
 
 /// The pattern that covers every row.
-fn root(alloc: Global) -> Result<Paths, Fail> {
+fn root(rt: &impl Abort, alloc: Global) -> Paths {
     let mut patterns = Paths::empty(alloc);
-    patterns.push(Path::empty(alloc))?;
-    Ok(patterns)
+    patterns.push(Path::empty(alloc)).expect(rt, "memory");
+    patterns
 }
 
 fn octets_in(text: &Text) -> u64 {
@@ -35,51 +34,57 @@ fn weight_of(rows: &Rows) -> u64 {
     weight
 }
 
+/// Whether the tree has these rows, as many of them, and as heavy ones.
+fn has_rows<T: TreeLike>(rt: &impl Abort, alloc: Global, tree: &T, model: &Rows) -> bool {
+    let rows = tree.part(alloc, &root(rt, alloc)).expect(rt, "memory");
+    rows.same(model) && tree.count() == model.len() as u64 && tree.weight() == weight_of(model)
+}
+
+/// Whether the part of the tree is that of the rows.
+fn has_part<T: TreeLike>(
+    rt: &impl Abort,
+    alloc: Global,
+    tree: &T,
+    model: &Rows,
+    patterns: &Paths,
+) -> bool {
+    let part = tree.part(alloc, patterns).expect(rt, "memory");
+    part.same(&part_of(alloc, patterns, model).expect(rt, "memory"))
+}
+
+/// The rows behind one operation.
+fn rows_behind(rt: &impl Abort, alloc: Global, op: Op, rows: &Rows) -> Rows {
+    let mut ops = Ops::empty(alloc);
+    ops.push(op).expect(rt, "memory");
+    effect(alloc, &ops, rows).expect(rt, "memory")
+}
+
 /// Applies so many generated operations to both, one after another, and compares the rows, their number and weight,
 /// and a part of them after each.
 /// The most rows that stood are the result.
-fn compare<T: TreeLike>(
-    rt: &impl Abort,
-    alloc: Global,
-    tree: &mut T,
-    rounds: u32,
-) -> Result<usize, Fail> {
+fn compare<T: TreeLike>(rt: &impl Abort, alloc: Global, tree: &mut T, rounds: u32) -> usize {
     let mut generator = Generator::of(1);
     let mut model = Rows::empty(alloc);
     let mut most = 0;
     for round in 0..rounds {
-        let op = generator.op(alloc)?;
-        tree.apply(alloc, &op)?;
-        let mut ops = Ops::empty(alloc);
-        ops.push(op)?;
-        model = effect(alloc, &ops, &model)?;
-        let rows = tree.part(alloc, &root(alloc)?)?;
-        assert!(rt; rows.same(&model), "rows after round {round}");
-        assert_eq!(rt;
-            tree.count(),
-            model.len() as u64,
-            "count after round {round}"
-        );
-        assert_eq!(rt;
-            tree.weight(),
-            weight_of(&model),
-            "weight after round {round}"
-        );
-        let patterns = generator.patterns(alloc)?;
-        let part = tree.part(alloc, &patterns)?;
+        let op = generator.op(rt, alloc);
+        tree.apply(alloc, &op).expect(rt, "memory");
+        model = rows_behind(rt, alloc, op, &model);
         assert!(rt;
-            part.same(&part_of(alloc, &patterns, &model)?),
-            "part after round {round}"
+            has_rows(rt, alloc, tree, &model),
+            "rows after round {round}"
         );
+        let patterns = generator.patterns(rt, alloc);
+        let is_part = has_part(rt, alloc, tree, &model, &patterns);
+        assert!(rt; is_part, "part after round {round}");
         most = most.max(model.len());
     }
-    Ok(most)
+    most
 }
 
 #[test]
-fn a_plain_tree_is_as_the_reference_model(rt: HostRuntime) -> Result<(), Fail> {
+fn a_plain_tree_is_as_the_reference_model(rt: HostRuntime) {
     let alloc = rt.alloc();
-    let most = compare(&rt, alloc, &mut PlainTree::empty(alloc), 300)?;
+    let most = compare(&rt, alloc, &mut PlainTree::empty(alloc), 300);
     assert!(rt; most > 20, "{most} rows at most");
-    Ok(())
 }

@@ -1,12 +1,16 @@
-use base_kinds::{Act, Elem, Keys, Op, Path, Paths, Row, Rows, Text, Value};
+use crate::builders::text_of;
+use base_kinds::{Act, Elem, Keys, Op, Path, Paths, Row, Rows, Value};
 use std::alloc::Global;
-use std::test::Fail;
+use std::process::Abort;
 
 /// Names of elements. Those from the fourth on stand in patterns alone.
-const NAMES: [&str; 5] = ["a", "b", "if", "*", "..."];
+const NAMES: &[&str] = &["a", "b", "if", "*", "..."];
+
+/// Names of keys.
+const KEYS: &[&str] = &["k", "n"];
 
 /// Values of keys. The last one stands in patterns alone.
-const VALUES: [&str; 3] = ["x", "y", "*"];
+const VALUES: &[&str] = &["x", "y", "*"];
 
 /// What a path is made for.
 #[derive(Clone, Copy, PartialEq, Eq)]
@@ -40,69 +44,77 @@ impl Generator {
         words.get(at).copied().unwrap_or("a")
     }
 
-    /// An element whose keys rise by name; in a pattern each key may be left out.
-    fn elem(&mut self, alloc: Global, purpose: Use) -> Result<Elem, Fail> {
-        let is_row = purpose == Use::Row;
-        let name = self.word(if is_row { &NAMES[..3] } else { &NAMES });
+    /// The keys of an element, which rise by name; in a pattern each may be left out.
+    fn keys(&mut self, rt: &impl Abort, alloc: Global, is_row: bool) -> Keys {
         let mut keys = Keys::empty(alloc);
-        if name == "if" {
-            for key in ["k", "n"] {
-                if is_row || self.below(2) == 0 {
-                    let value = self.word(if is_row { &VALUES[..2] } else { &VALUES });
-                    keys.push((text_of(alloc, key)?, text_of(alloc, value)?))?;
-                }
+        for key in KEYS.iter().copied() {
+            if is_row || self.below(2) == 0 {
+                let value = self.word(if is_row { &VALUES[..2] } else { VALUES });
+                keys.push((text_of(rt, alloc, key), text_of(rt, alloc, value)))
+                    .expect(rt, "memory");
             }
         }
-        Ok(Elem {
-            name: text_of(alloc, name)?,
+        keys
+    }
+
+    fn elem(&mut self, rt: &impl Abort, alloc: Global, purpose: Use) -> Elem {
+        let is_row = purpose == Use::Row;
+        let name = self.word(if is_row { &NAMES[..3] } else { NAMES });
+        let keys = if name == "if" {
+            self.keys(rt, alloc, is_row)
+        } else {
+            Keys::empty(alloc)
+        };
+        Elem {
+            name: text_of(rt, alloc, name),
             keys,
-        })
+        }
     }
 
     /// A path of at most four elements; a row's has one at least.
-    pub fn path(&mut self, alloc: Global, purpose: Use) -> Result<Path, Fail> {
+    pub fn path(&mut self, rt: &impl Abort, alloc: Global, purpose: Use) -> Path {
         let least = if purpose == Use::Row { 1 } else { 0 };
         let mut path = Path::empty(alloc);
         for _ in 0..self.below(4).saturating_add(least) {
-            path.push(self.elem(alloc, purpose)?)?;
+            path.push(self.elem(rt, alloc, purpose))
+                .expect(rt, "memory");
         }
-        Ok(path)
+        path
     }
 
-    pub fn patterns(&mut self, alloc: Global) -> Result<Paths, Fail> {
+    pub fn patterns(&mut self, rt: &impl Abort, alloc: Global) -> Paths {
         let mut patterns = Paths::empty(alloc);
         for _ in 0..self.below(4) {
-            patterns.push(self.path(alloc, Use::Pattern)?)?;
+            patterns
+                .push(self.path(rt, alloc, Use::Pattern))
+                .expect(rt, "memory");
         }
-        Ok(patterns)
+        patterns
     }
 
-    fn rows(&mut self, alloc: Global, most: u64) -> Result<Rows, Fail> {
+    fn rows(&mut self, rt: &impl Abort, alloc: Global, most: u64) -> Rows {
         let mut rows = Rows::empty(alloc);
         for _ in 0..self.below(most) {
             rows.push(Row {
-                path: self.path(alloc, Use::Row)?,
+                path: self.path(rt, alloc, Use::Row),
                 value: Value::Uint(self.below(100)),
-            })?;
+            })
+            .expect(rt, "memory");
         }
-        Ok(rows)
+        rows
     }
 
     /// About one delete among three replaces and six updates.
-    pub fn op(&mut self, alloc: Global) -> Result<Op, Fail> {
+    pub fn op(&mut self, rt: &impl Abort, alloc: Global) -> Op {
         let (act, most) = match self.below(10) {
             0 => (Act::Delete, 0),
             1..=3 => (Act::Replace, 4),
             _ => (Act::Update, 8),
         };
-        Ok(Op {
+        Op {
             act,
-            path: self.path(alloc, Use::Pattern)?,
-            rows: self.rows(alloc, most)?,
-        })
+            path: self.path(rt, alloc, Use::Pattern),
+            rows: self.rows(rt, alloc, most),
+        }
     }
-}
-
-fn text_of(alloc: Global, text: &str) -> Result<Text, Fail> {
-    Ok(Text::of(alloc, text.as_bytes())?)
 }
