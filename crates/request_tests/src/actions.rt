@@ -2,6 +2,7 @@
 use crate::asked::{SCHEMA, Sent, answer, assert_answer, put, put_number, refused, request};
 use crate::builders::{octets_of, schema_of, text_of};
 use base_kinds::{Action, Bytes, Refusal, Span, Text, UnresolvedSet};
+use schema_core::Schema;
 use std::alloc::Global;
 use std::process::Abort;
 
@@ -58,18 +59,28 @@ fn duration_text(rt: &impl Abort, alloc: Global, word: &str, nanos: u64) -> Byte
     text
 }
 
+/// Whether the span of an action without operations is so many nanoseconds, or refused where they are 0.
+fn lasts(
+    rt: &impl Abort,
+    alloc: Global,
+    schema: &Schema,
+    word: &str,
+    span: Span,
+    nanos: u64,
+) -> bool {
+    let action = action_of(word, text_of(rt, alloc, "t"), span);
+    let ask = acting(rt, alloc, &[], action);
+    answer(rt, alloc, schema, &ask) == duration_text(rt, alloc, word, nanos)
+}
+
 #[test]
 fn durations_have_bounds(rt: HostRuntime) {
     let alloc = rt.alloc();
     let schema = schema_of(&rt, alloc, SCHEMA);
     for (span, nanos) in SPANS.iter().copied() {
-        for word in ["trial", "extend"] {
-            let action = action_of(word, text_of(&rt, alloc, "t"), span);
-            let ask = acting(&rt, alloc, &[], action);
-            let answer = answer(&rt, alloc, &schema, &ask);
-            let expected = duration_text(&rt, alloc, word, nanos);
-            assert_eq!(rt; answer, expected, "{word} {span:?}");
-        }
+        let is_trial = lasts(&rt, alloc, &schema, "trial", span, nanos);
+        let is_extend = lasts(&rt, alloc, &schema, "extend", span, nanos);
+        assert!(rt; is_trial && is_extend, "{span:?}");
     }
 }
 
@@ -82,16 +93,32 @@ fn long_text(rt: &impl Abort, alloc: Global, length: usize) -> Text {
     Text::of(alloc, octets.items()).expect(rt, "a text")
 }
 
+/// Whether the action with an id of so many octets is refused for that.
+fn id_is_refused(
+    rt: &impl Abort,
+    alloc: Global,
+    schema: &Schema,
+    word: &str,
+    length: usize,
+) -> bool {
+    let id = long_text(rt, alloc, length);
+    let ask = acting(rt, alloc, &[], action_of(word, id, Span::Absent));
+    answer(rt, alloc, schema, &ask).items() == b"refused 15".as_slice()
+}
+
+/// Lengths of ids, and whether they are taken.
+const IDS: &[(usize, bool)] = &[(0, false), (1, true), (64, true), (65, false)];
+
+/// Actions with an id.
+const NAMED: &[&str] = &["trial", "confirm", "cancel", "extend"];
+
 #[test]
 fn ids_have_1_to_64_octets(rt: HostRuntime) {
     let alloc = rt.alloc();
     let schema = schema_of(&rt, alloc, SCHEMA);
-    for (length, is_taken) in [(0, false), (1, true), (64, true), (65, false)] {
-        for word in ["trial", "confirm", "cancel", "extend"] {
-            let id = long_text(&rt, alloc, length);
-            let ask = acting(&rt, alloc, &[], action_of(word, id, Span::Absent));
-            let answer = answer(&rt, alloc, &schema, &ask);
-            let is_refused = answer.items() == b"refused 15".as_slice();
+    for (length, is_taken) in IDS.iter().copied() {
+        for word in NAMED.iter().copied() {
+            let is_refused = id_is_refused(&rt, alloc, &schema, word, length);
             assert_eq!(rt; is_refused, !is_taken, "{word} of {length}");
         }
     }
@@ -137,18 +164,32 @@ const ACTIONS: &[(&str, &str)] = &[
     ("mixed", "refused 14"),
 ];
 
+/// Whether what becomes of the action with this operation begins so.
+fn begins(
+    rt: &impl Abort,
+    alloc: Global,
+    schema: &Schema,
+    word: &str,
+    act: &str,
+    expected: &str,
+) -> bool {
+    let action = action_of(word, text_of(rt, alloc, "t"), Span::Absent);
+    let ask = acting(rt, alloc, &[(act, "/lab/on", Sent::Bool(true))], action);
+    answer(rt, alloc, schema, &ask)
+        .items()
+        .starts_with(expected.as_bytes())
+}
+
+const ACTS: &[&str] = &["delete", "replace", "update"];
+
 #[test]
 fn an_action_without_operations_is_mixed_with_any(rt: HostRuntime) {
     let alloc = rt.alloc();
     let schema = schema_of(&rt, alloc, SCHEMA);
     for (word, expected) in ACTIONS.iter().copied() {
-        for act in ["delete", "replace", "update"] {
-            let action = action_of(word, text_of(&rt, alloc, "t"), Span::Absent);
-            let lines = [(act, "/lab/on", Sent::Bool(true))];
-            let ask = acting(&rt, alloc, &lines, action);
-            let answer = answer(&rt, alloc, &schema, &ask);
-            let begins = answer.items().starts_with(expected.as_bytes());
-            assert!(rt; begins, "{word} with {act}");
+        for act in ACTS.iter().copied() {
+            let is = begins(&rt, alloc, &schema, word, act, expected);
+            assert!(rt; is, "{word} with {act}");
         }
     }
 }

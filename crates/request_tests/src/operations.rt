@@ -340,7 +340,7 @@ fn a_scalar_stands_for_a_value_of_its_leaf(rt: HostRuntime) {
 }
 
 /// How many scalars there are, the number of the last one, and whether they are taken.
-const COUNTS: &[(u64, u64, bool)] = &[
+const COUNTS: &[(u32, u32, bool)] = &[
     (16, 15, true),
     (16, 0, false),
     (17, 16, true),

@@ -2,6 +2,7 @@
 use crate::asked::{SCHEMA, answer, nothing};
 use crate::builders::{schema_of, text_of};
 use base_kinds::{Elem, Keys, Path};
+use schema_core::Schema;
 use std::alloc::Global;
 use std::process::Abort;
 
@@ -14,6 +15,20 @@ fn long_path(rt: &impl Abort, alloc: Global, name: &str, length: usize) -> Path 
         path.push(Elem { name, keys }).expect(rt, "memory");
     }
     path
+}
+
+/// Whether a delete of this path behind this prefix is refused for a bad path.
+fn delete_is_refused(
+    rt: &impl Abort,
+    alloc: Global,
+    schema: &Schema,
+    prefix: Path,
+    path: Path,
+) -> bool {
+    let mut ask = nothing(rt, alloc);
+    ask.prefix = prefix;
+    ask.deletes.push(path).expect(rt, "memory");
+    answer(rt, alloc, schema, &ask).items() == b"refused 5".as_slice()
 }
 
 /// A name, how many elements of it stand in the prefix and in the path, and whether they are taken.
@@ -32,39 +47,39 @@ fn a_path_has_at_most_32_named_elements(rt: HostRuntime) {
     let alloc = rt.alloc();
     let schema = schema_of(&rt, alloc, SCHEMA);
     for (name, above, below, is_taken) in LENGTHS.iter().copied() {
-        let mut ask = nothing(&rt, alloc);
-        ask.prefix = long_path(&rt, alloc, name, above);
+        let prefix = long_path(&rt, alloc, name, above);
         let path = long_path(&rt, alloc, name, below);
-        ask.deletes.push(path).expect(&rt, "memory");
-        let answer = answer(&rt, alloc, &schema, &ask);
-        let is_refused = answer.items() == b"refused 5".as_slice();
+        let is_refused = delete_is_refused(&rt, alloc, &schema, prefix, path);
         assert_eq!(rt; is_refused, !is_taken, "{above} and {below} of {name}");
     }
+}
+
+fn add_key(rt: &impl Abort, alloc: Global, keys: &mut Keys, name: &str) {
+    let key = (text_of(rt, alloc, name), text_of(rt, alloc, "x"));
+    keys.push(key).expect(rt, "memory");
 }
 
 /// A path of an element with two keys of these names.
 fn keyed_path(rt: &impl Abort, alloc: Global, one: &str, other: &str) -> Path {
     let mut keys = Keys::empty(alloc);
-    for name in [one, other] {
-        let key = (text_of(rt, alloc, name), text_of(rt, alloc, "x"));
-        keys.push(key).expect(rt, "memory");
-    }
+    add_key(rt, alloc, &mut keys, one);
+    add_key(rt, alloc, &mut keys, other);
     let name = text_of(rt, alloc, "l");
     let mut path = Path::empty(alloc);
     path.push(Elem { name, keys }).expect(rt, "memory");
     path
 }
 
+/// Names of two keys, and whether they are taken.
+const KEYS: &[(&str, &str, bool)] = &[("a", "b", true), ("b", "a", false), ("a", "a", false)];
+
 #[test]
 fn keys_rise_by_name(rt: HostRuntime) {
     let alloc = rt.alloc();
     let schema = schema_of(&rt, alloc, SCHEMA);
-    for (one, other, is_taken) in [("a", "b", true), ("b", "a", false), ("a", "a", false)] {
-        let mut ask = nothing(&rt, alloc);
+    for (one, other, is_taken) in KEYS.iter().copied() {
         let path = keyed_path(&rt, alloc, one, other);
-        ask.deletes.push(path).expect(&rt, "memory");
-        let answer = answer(&rt, alloc, &schema, &ask);
-        let is_refused = answer.items() == b"refused 5".as_slice();
+        let is_refused = delete_is_refused(&rt, alloc, &schema, Path::empty(alloc), path);
         assert_eq!(rt; is_refused, !is_taken, "{one} and {other}");
     }
 }

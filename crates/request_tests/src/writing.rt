@@ -92,29 +92,38 @@ fn lab_rows(rt: &impl Abort, alloc: Global, tags: &str) -> Rows {
     rows
 }
 
-/// Two interfaces, the first with addresses of another module.
-fn interface_rows(rt: &impl Abort, alloc: Global) -> Rows {
+/// Adds a row of the first interface.
+fn add_first(rt: &impl Abort, alloc: Global, rows: &mut Rows, rest: &str, value: Value) {
+    let line = format!(in alloc; "/interfaces/interface[name=e0]{rest}").expect(rt, "memory");
+    add(rt, alloc, rows, line.as_str(), value);
+}
+
+/// Adds a row of the first interface whose value is a text.
+fn add_word(rt: &impl Abort, alloc: Global, rows: &mut Rows, rest: &str, text: &str) {
+    add_first(rt, alloc, rows, rest, word(rt, alloc, text));
+}
+
+/// The first of two interfaces, with addresses of another module.
+fn first_rows(rt: &impl Abort, alloc: Global) -> Rows {
     let mut rows = Rows::empty(alloc);
-    let first = "/interfaces/interface[name=e0]";
-    for (rest, value) in [
-        ("/config/enabled", Value::Bool(true)),
-        ("/config/mtu", Value::Uint(1500)),
-        ("/ipv4/address[ip=10.0.0.1]/ip", word(rt, alloc, "10.0.0.1")),
-        ("/ipv4/address[ip=10.0.0.1]/prefix", Value::Uint(24)),
-        ("/ipv4/address[ip=10.0.0.2]/ip", word(rt, alloc, "10.0.0.2")),
-        ("/ipv4/note", word(rt, alloc, "q\"\\\n")),
-        ("/name", word(rt, alloc, "e0")),
-    ] {
-        let line = format!(in alloc; "{first}{rest}").expect(rt, "memory");
-        add(rt, alloc, &mut rows, line.as_str(), value);
-    }
-    add(
-        rt,
-        alloc,
-        &mut rows,
-        "/interfaces/interface[name=e1]/name",
-        word(rt, alloc, "e1"),
-    );
+    let out = &mut rows;
+    add_first(rt, alloc, out, "/config/enabled", Value::Bool(true));
+    add_first(rt, alloc, out, "/config/mtu", Value::Uint(1500));
+    add_word(rt, alloc, out, "/ipv4/address[ip=10.0.0.1]/ip", "10.0.0.1");
+    let prefix = Value::Uint(24);
+    add_first(rt, alloc, out, "/ipv4/address[ip=10.0.0.1]/prefix", prefix);
+    add_word(rt, alloc, out, "/ipv4/address[ip=10.0.0.2]/ip", "10.0.0.2");
+    add_word(rt, alloc, out, "/ipv4/note", "q\"\\\n");
+    add_word(rt, alloc, out, "/name", "e0");
+    rows
+}
+
+/// Both interfaces.
+fn interface_rows(rt: &impl Abort, alloc: Global) -> Rows {
+    let mut rows = first_rows(rt, alloc);
+    let name = word(rt, alloc, "e1");
+    let line = "/interfaces/interface[name=e1]/name";
+    add(rt, alloc, &mut rows, line, name);
     rows
 }
 
@@ -155,32 +164,33 @@ fn lists_are_arrays_of_their_entries(rt: HostRuntime) {
 #[test]
 fn an_entry_is_an_object_with_modules_at_its_first_level(rt: HostRuntime) {
     let alloc = rt.alloc();
-    let mut rows = Rows::empty(alloc);
-    for row in interface_rows(&rt, alloc).items() {
-        if row.path.len() > 2 && row.path.items()[1].keys.len() == 1 {
-            if row.path.items()[1].keys.items()[0].1.octets() == b"e0".as_slice() {
-                rows.push(row.copy(alloc).expect(&rt, "memory"))
-                    .expect(&rt, "memory");
-            }
-        }
-    }
+    let rows = first_rows(&rt, alloc);
     let entry =
         "{\"ip:ipv4\":{\"address\":[{\"ip\":\"10.0.0.1\",\"prefix\":24},{\"ip\":\"10.0.0.2\"}],\"net:note\":\"q\\\"\\\\\\n\"},\"net:config\":{\"enabled\":true,\"mtu\":1500},\"net:name\":\"e0\"}";
     assert!(rt; is_written(&rt, alloc, "/interfaces/interface[name=e0]", &rows, entry));
 }
 
+/// Adds a row of the entry whose keys are `a` and this number.
+fn add_peer(rt: &impl Abort, alloc: Global, rows: &mut Rows, vrf: u64, leaf: &str, value: Value) {
+    let line = format!(in alloc; "/peers/peer[name=a][vrf={vrf}]/{leaf}").expect(rt, "memory");
+    add(rt, alloc, rows, line.as_str(), value);
+}
+
+/// Two entries that differ in one of their keys.
+fn peer_rows(rt: &impl Abort, alloc: Global) -> Rows {
+    let mut rows = Rows::empty(alloc);
+    for vrf in 1..3u64 {
+        add_peer(rt, alloc, &mut rows, vrf, "level", Value::Int(-7));
+        add_peer(rt, alloc, &mut rows, vrf, "name", word(rt, alloc, "a"));
+        add_peer(rt, alloc, &mut rows, vrf, "vrf", Value::Uint(vrf));
+    }
+    rows
+}
+
 #[test]
 fn entries_with_several_keys_stand_apart(rt: HostRuntime) {
     let alloc = rt.alloc();
-    let mut rows = Rows::empty(alloc);
-    for (keys, name, vrf) in [("[name=a][vrf=1]", "a", 1u64), ("[name=a][vrf=2]", "a", 2)] {
-        let path = format!(in alloc; "/peers/peer{keys}/level").expect(&rt, "memory");
-        add(&rt, alloc, &mut rows, path.as_str(), Value::Int(-7));
-        let path = format!(in alloc; "/peers/peer{keys}/name").expect(&rt, "memory");
-        add(&rt, alloc, &mut rows, path.as_str(), word(&rt, alloc, name));
-        let path = format!(in alloc; "/peers/peer{keys}/vrf").expect(&rt, "memory");
-        add(&rt, alloc, &mut rows, path.as_str(), Value::Uint(vrf));
-    }
+    let rows = peer_rows(&rt, alloc);
     let json =
         "{\"net:peers\":{\"peer\":[{\"level\":\"-7\",\"name\":\"a\",\"vrf\":1},{\"level\":\"-7\",\"name\":\"a\",\"vrf\":2}]}}";
     assert!(rt; is_written(&rt, alloc, "/", &rows, json));
@@ -198,25 +208,31 @@ fn members_of_another_module_have_its_name(rt: HostRuntime) {
     assert!(rt; is_written(&rt, alloc, "/", &rows, json));
 }
 
+/// Each of those rows, and its value alone.
+const LEAVES: &[(usize, &str, &str)] = &[
+    (0, "/lab/big", "\"18446744073709551615\""),
+    (1, "/lab/blob", "\"AQI=\""),
+    (2, "/lab/rate", "\"1.5\""),
+    (3, "/lab/tags", "[\"y\",\"x\"]"),
+];
+
+/// The row with this number, alone.
+fn one_of(rt: &impl Abort, alloc: Global, rows: &Rows, at: usize) -> Rows {
+    let mut one = Rows::empty(alloc);
+    if let Some(row) = rows.get(at) {
+        one.push(row.copy(alloc).expect(rt, "memory"))
+            .expect(rt, "memory");
+    }
+    one
+}
+
 #[test]
 fn a_leaf_by_itself_is_its_value(rt: HostRuntime) {
     let alloc = rt.alloc();
     let rows = lab_rows(&rt, alloc, "y x");
-    for (at, line, json) in [
-        (0usize, "/lab/big", "\"18446744073709551615\""),
-        (1, "/lab/blob", "\"AQI=\""),
-        (2, "/lab/rate", "\"1.5\""),
-        (3, "/lab/tags", "[\"y\",\"x\"]"),
-    ]
-    .iter()
-    .copied()
-    {
-        let mut one = Rows::empty(alloc);
-        if let Some(row) = rows.get(at) {
-            one.push(row.copy(alloc).expect(&rt, "memory"))
-                .expect(&rt, "memory");
-        }
-        assert!(rt; is_written(&rt, alloc, line, &one, json));
+    for (at, line, json) in LEAVES.iter().copied() {
+        let one = one_of(&rt, alloc, &rows, at);
+        assert!(rt; is_written(&rt, alloc, line, &one, json), "{line}");
     }
 }
 
@@ -237,19 +253,33 @@ fn assert_leaf(rt: &impl Abort, alloc: Global, shape: Shape, value: Value, json:
     assert_eq!(rt; out.items(), whole.as_bytes(), "{json}");
 }
 
+/// The shape of a state.
+fn state(rt: &impl Abort, alloc: Global) -> Shape {
+    let mut names = Texts::empty(alloc);
+    names.push(text_of(rt, alloc, "UP")).expect(rt, "memory");
+    names.push(text_of(rt, alloc, "DOWN")).expect(rt, "memory");
+    Shape::Enum(names)
+}
+
 // RFC 7951 5.1, 5.3 and 6, RFC 8259 7
 #[test]
 fn leaves_are_written_by_their_shapes(rt: HostRuntime) {
     let alloc = rt.alloc();
-    let mut state = Texts::empty(alloc);
-    state.push(text_of(&rt, alloc, "UP")).expect(&rt, "memory");
-    state
-        .push(text_of(&rt, alloc, "DOWN"))
-        .expect(&rt, "memory");
-    let up = Value::Enum(text_of(&rt, alloc, "UP"));
-    let blob = Value::Bin(octets_of(&rt, alloc, b"foobar"));
-    let least = Value::Int(-9_223_372_036_854_775_808);
     let quoted = word(&rt, alloc, "\u{1f}/\u{e9}\t");
+    assert_leaf(&rt, alloc, Shape::Text, quoted, "\"\\u001f/\u{e9}\\t\"");
+    let blob = Value::Bin(octets_of(&rt, alloc, b"foobar"));
+    assert_leaf(&rt, alloc, Shape::Bin, blob, "\"Zm9vYmFy\"");
+    let up = Value::Enum(text_of(&rt, alloc, "UP"));
+    assert_leaf(&rt, alloc, state(&rt, alloc), up, "\"UP\"");
+    assert_leaf(&rt, alloc, Shape::Text, words(&rt, alloc, ""), "[]");
+}
+
+// RFC 7951 6.1 and 6.3
+#[test]
+fn numbers_are_written_by_their_shapes(rt: HostRuntime) {
+    let alloc = rt.alloc();
+    let least = Value::Int(-9_223_372_036_854_775_808);
+    let greatest = Value::Uint(4_294_967_295);
     assert_leaf(&rt, alloc, Shape::Bool, Value::Bool(false), "false");
     assert_leaf(&rt, alloc, Shape::Int(8), Value::Int(-128), "-128");
     assert_leaf(
@@ -266,20 +296,14 @@ fn leaves_are_written_by_their_shapes(rt: HostRuntime) {
         least,
         "\"-9223372036854775808\"",
     );
-    assert_leaf(
-        &rt,
-        alloc,
-        Shape::Uint(32),
-        Value::Uint(4_294_967_295),
-        "4294967295",
-    );
+    assert_leaf(&rt, alloc, Shape::Uint(32), greatest, "4294967295");
     assert_leaf(&rt, alloc, Shape::Uint(64), Value::Uint(0), "\"0\"");
     assert_leaf(&rt, alloc, Shape::Dec(1), Value::Dec(-5, 1), "\"-0.5\"");
     assert_leaf(&rt, alloc, Shape::Dec(2), Value::Dec(0, 2), "\"0.0\"");
-    assert_leaf(&rt, alloc, Shape::Text, quoted, "\"\\u001f/\u{e9}\\t\"");
-    assert_leaf(&rt, alloc, Shape::Bin, blob, "\"Zm9vYmFy\"");
-    assert_leaf(&rt, alloc, Shape::Enum(state), up, "\"UP\"");
-    assert_leaf(&rt, alloc, Shape::Text, words(&rt, alloc, ""), "[]");
+}
+
+#[test]
+fn laws_hold_of_what_is_written() {
     leaves_read_back();
     leaf_lists_read_back();
     trees_read_back();
