@@ -14,7 +14,7 @@ pub enum Codec {
     DataFrames,
 }
 
-pub const CODECS: [Codec; 8] = [
+pub const CODECS: &[Codec] = &[
     Codec::Frames,
     Codec::Huffman,
     Codec::Fields,

@@ -20,7 +20,7 @@ fn main(rt: HostRuntime) -> io::Result<()> {
     let mut words = env::args(&rt)?;
     let _program = words.next();
     let Some(name) = words.next() else {
-        for codec in CODECS {
+        for codec in CODECS.iter().copied() {
             run(rt.alloc(), &rt, codec, 1)?;
         }
         return Ok(());

@@ -40,34 +40,32 @@ type Frame = (&'static [u8], (u32, u8, u8, u32));
 /// Frames that hyperframe wrote.
 const FRAMES: &[Frame] = &[
     (
-        [0, 0, 4, 8, 0, 0, 0, 0, 0, 0x24, 0x71, 0x7e, 0x9f].as_slice(),
+        &[0, 0, 4, 8, 0, 0, 0, 0, 0, 0x24, 0x71, 0x7e, 0x9f],
         (4, 8, 0, 0),
     ),
     (
-        [
+        &[
             0, 0, 8, 6, 1, 0, 0, 0, 0, 2, 0xc3, 0x19, 0x9e, 0x94, 0x60, 9, 0xcb,
-        ]
-        .as_slice(),
+        ],
         (8, 6, 1, 0),
     ),
     (
-        [0, 0, 1, 1, 5, 0x7f, 0xff, 0xff, 0xff, 0x79].as_slice(),
+        &[0, 0, 1, 1, 5, 0x7f, 0xff, 0xff, 0xff, 0x79],
         (1, 1, 5, 2_147_483_647),
     ),
     (
-        [0, 0, 9, 0, 9, 0, 0, 0, 2, 7, 0xbd, 0, 0, 0, 0, 0, 0, 0].as_slice(),
+        &[0, 0, 9, 0, 9, 0, 0, 0, 2, 7, 0xbd, 0, 0, 0, 0, 0, 0, 0],
         (9, 0, 9, 2),
     ),
-    ([0, 0, 0, 4, 1, 0, 0, 0, 0].as_slice(), (0, 4, 1, 0)),
+    (&[0, 0, 0, 4, 1, 0, 0, 0, 0], (0, 4, 1, 0)),
     (
-        [0, 0, 4, 3, 0, 0x0d, 0x4a, 0xa8, 0xb0, 0, 0, 0, 4].as_slice(),
+        &[0, 0, 4, 3, 0, 0x0d, 0x4a, 0xa8, 0xb0, 0, 0, 0, 4],
         (4, 3, 0, 222_996_656),
     ),
     (
-        [
+        &[
             0, 0, 5, 2, 0, 0x76, 0x94, 0xf4, 0x2d, 0x9b, 0xd8, 0xad, 0x9c, 2,
-        ]
-        .as_slice(),
+        ],
         (5, 2, 0, 1_989_473_325),
     ),
 ];
@@ -88,21 +86,19 @@ fn frames_of_another_library(rt: HostRuntime) {
 /// Of such frames too, and the library drops the bit.
 const RESERVED: &[Frame] = &[
     (
-        [
+        &[
             0, 0, 5, 10, 0x93, 0x97, 0x3d, 0xf0, 0x39, 0xd4, 0x72, 0x63, 0x32, 0x0f,
-        ]
-        .as_slice(),
+        ],
         (5, 10, 147, 389_935_161),
     ),
     (
-        [0, 0, 3, 0, 0xbc, 0xd0, 0x89, 0x90, 0x9d, 0x31, 0x16, 0xf3].as_slice(),
+        &[0, 0, 3, 0, 0xbc, 0xd0, 0x89, 0x90, 0x9d, 0x31, 0x16, 0xf3],
         (3, 0, 188, 1_351_192_733),
     ),
     (
-        [
+        &[
             0, 0, 3, 0xff, 0x13, 0x8d, 0xa9, 0xa4, 0x0b, 0x53, 0x80, 0x2f,
-        ]
-        .as_slice(),
+        ],
         (3, 255, 19, 229_221_387),
     ),
 ];
@@ -144,24 +140,16 @@ const EMPTY: Head = Head {
 
 /// Octets, the most that a payload may have, and what stands first.
 const LENGTHS: &[(&[u8], u32, Got)] = &[
+    (&[0, 0, 0, 0, 0, 0, 0, 0, 1, 7], MAX, Got::Frame(EMPTY, 9)),
+    (&[0, 0x40, 0, 0, 0, 0, 0, 0, 1, 7], MAX, Got::More),
+    (&[0, 0x40, 1, 0, 0, 0, 0, 0, 1, 7], MAX, Got::Bad(6)),
+    (&[0, 0x40, 1], MAX, Got::Bad(6)),
+    (&[0, 0x40], MAX, Got::More),
+    (&[0, 0x41], MAX, Got::Bad(6)),
+    (&[1], MAX, Got::Bad(6)),
+    (&[0, 0, 1, 0, 0, 0, 0, 0, 1, 7], 0, Got::Bad(6)),
     (
-        [0, 0, 0, 0, 0, 0, 0, 0, 1, 7].as_slice(),
-        MAX,
-        Got::Frame(EMPTY, 9),
-    ),
-    ([0, 0x40, 0, 0, 0, 0, 0, 0, 1, 7].as_slice(), MAX, Got::More),
-    (
-        [0, 0x40, 1, 0, 0, 0, 0, 0, 1, 7].as_slice(),
-        MAX,
-        Got::Bad(6),
-    ),
-    ([0, 0x40, 1].as_slice(), MAX, Got::Bad(6)),
-    ([0, 0x40].as_slice(), MAX, Got::More),
-    ([0, 0x41].as_slice(), MAX, Got::Bad(6)),
-    ([1].as_slice(), MAX, Got::Bad(6)),
-    ([0, 0, 1, 0, 0, 0, 0, 0, 1, 7].as_slice(), 0, Got::Bad(6)),
-    (
-        [0xff, 0xff, 0xff, 0, 0, 0, 0, 0, 1, 7].as_slice(),
+        &[0xff, 0xff, 0xff, 0, 0, 0, 0, 0, 1, 7],
         16_777_215,
         Got::More,
     ),

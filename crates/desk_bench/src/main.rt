@@ -11,11 +11,14 @@ use std::alloc::Global;
 use std::{env, io};
 use target::answered;
 
+/// The words of all cases.
+const CASES: &[&str] = &["leaf", "interfaces", "set"];
+
 fn main(rt: HostRuntime) -> io::Result<()> {
     let mut words = env::args(&rt)?;
     let _program = words.next();
     let Some(name) = words.next() else {
-        for name in ["leaf", "interfaces", "set"] {
+        for name in CASES.iter().copied() {
             run(rt.alloc(), &rt, name, 100, 1)?;
         }
         return Ok(());

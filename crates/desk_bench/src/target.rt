@@ -46,13 +46,33 @@ fn schema_of(alloc: Global) -> Result<Schema, NoMemory> {
     }
 }
 
+/// A desk under this schema, and a port of a book under it.
+fn target_of(alloc: Global, desk: Desk, schema: Schema) -> Result<Target, NoMemory>
+    requires { desk ≡ schema }
+    ensures { IfOk result (λ target. target.port.book.opened.schema ≡ target.desk) }
+{
+    match new_port(alloc, schema) {
+        Ok(port) => Ok(Target { desk, port }),
+        Err(NoMemory) => Err(NoMemory),
+    }
+}
+
+fn target_under(alloc: Global, schema: Schema) -> Result<Target, NoMemory>
+    ensures { IfOk result (λ target. target.port.book.opened.schema ≡ target.desk) }
+{
+    match schema.copy(alloc) {
+        Ok(copy) => target_of(alloc, Desk::make(copy), schema),
+        Err(NoMemory) => Err(NoMemory),
+    }
+}
+
 fn new_target(alloc: Global) -> Result<Target, NoMemory>
     ensures { IfOk result (λ target. target.port.book.opened.schema ≡ target.desk) }
 {
-    let schema = schema_of(alloc)?;
-    let desk = Desk::make(schema.copy(alloc)?);
-    let port = new_port(alloc, schema)?;
-    Ok(Target { desk, port })
+    match schema_of(alloc) {
+        Ok(schema) => target_under(alloc, schema),
+        Err(NoMemory) => Err(NoMemory),
+    }
 }
 
 impl Target {
@@ -85,11 +105,49 @@ impl Target {
     }
 }
 
+/// Gives the target a tree of so many interfaces.
+fn fill(alloc: Global, target: &mut Target, number: u32) -> Result<(), Fault>
+    requires { target.old.port.book.opened.schema ≡ target.old.desk }
+    ensures { target.new.port.book.opened.schema ≡ target.new.desk }
+{
+    match interfaces(alloc, number) {
+        Ok(tree) => match target.answer(alloc, Method::Set, tree.items()) {
+            Ok(_) => Ok(()),
+            Err(fault) => Err(fault),
+        },
+        Err(NoMemory) => Err(Fault::NoMemory),
+    }
+}
+
+/// How many octets the replies to so many of a case's messages have.
+fn ask(alloc: Global, target: &mut Target, case: Case, rounds: u32) -> Result<u64, Fault>
+    requires { target.old.port.book.opened.schema ≡ target.old.desk }
+{
+    match case.request(alloc) {
+        Ok(request) => target.answer_rounds(alloc, case.method(), request.items(), rounds),
+        Err(NoMemory) => Err(Fault::NoMemory),
+    }
+}
+
+fn fill_and_ask(
+    alloc: Global,
+    target: &mut Target,
+    case: Case,
+    number: u32,
+    rounds: u32,
+) -> Result<u64, Fault>
+    requires { target.old.port.book.opened.schema ≡ target.old.desk }
+{
+    match fill(alloc, target, number) {
+        Ok(()) => ask(alloc, target, case, rounds),
+        Err(fault) => Err(fault),
+    }
+}
+
 /// How many octets the replies to so many messages have, over a tree of so many interfaces.
 pub fn answered(alloc: Global, case: Case, number: u32, rounds: u32) -> Result<u64, Fault> {
-    let tree = interfaces(alloc, number)?;
-    let request = case.request(alloc)?;
-    let mut target = new_target(alloc)?;
-    target.answer(alloc, Method::Set, tree.items())?;
-    target.answer_rounds(alloc, case.method(), request.items(), rounds)
+    match new_target(alloc) {
+        Ok(mut target) => fill_and_ask(alloc, &mut target, case, number, rounds),
+        Err(NoMemory) => Err(Fault::NoMemory),
+    }
 }

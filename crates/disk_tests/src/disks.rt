@@ -70,6 +70,17 @@ fn has_octets(octets: &[u8], pattern: &[u8], filled: u8) -> bool {
             == if *want == FILLED { filled } else { *want })
 }
 
+/// The calls on this disk, which stops in that of this number.
+fn disk_leaves(disk: FuseDisk, passes: u64, pattern: &[u8], filled: u8) -> Result<bool, NoMemory> {
+    let mut disk = disk;
+    let failed = make_calls(&mut disk);
+    if disk.starved() {
+        return Err(NoMemory);
+    }
+    let counted = passes.checked_add(failed as u64) == Some(6) && disk.stopped() == (passes < 6);
+    Ok(counted && has_octets(disk.image().octets(), pattern, filled))
+}
+
 /// A stop in the call of this number: how many calls fail, whether the disk has stopped, and what it leaves.
 fn leaves(
     alloc: Global,
@@ -78,14 +89,10 @@ fn leaves(
     pattern: &[u8],
     filled: u8,
 ) -> Result<bool, NoMemory> {
-    let inner = MemDisk::of(alloc, &[1, 2, 3, 4])?;
-    let mut disk = FuseDisk::make(inner, passes, fill);
-    let failed = make_calls(&mut disk);
-    if disk.starved() {
-        return Err(NoMemory);
+    match MemDisk::of(alloc, &[1, 2, 3, 4]) {
+        Ok(inner) => disk_leaves(FuseDisk::make(inner, passes, fill), passes, pattern, filled),
+        Err(NoMemory) => Err(NoMemory),
     }
-    let counted = passes.checked_add(failed as u64) == Some(6) && disk.stopped() == (passes < 6);
-    Ok(counted && has_octets(disk.image().octets(), pattern, filled))
 }
 
 /// Octets to fill with.
@@ -129,86 +136,165 @@ fn arm<D: Armed>(disk: &mut D) -> Result<(), NoMemory> {
     disk.fail_after(1)
 }
 
-#[test]
-fn further_stops_and_failures_wait(rt: HostRuntime) -> Result<(), NoMemory> {
-    let mut disk = FuseDisk::make(MemDisk::make(rt.alloc()), 2, Fill::Old);
-    arm(&mut disk)?;
+/// Whether the disk that `arm` has armed stops and fails as it is told.
+fn stops_and_fails(disk: FuseDisk) -> bool {
+    let mut disk = disk;
     // It passes, fails, and stops, and then each call fails.
-    assert_eq!(rt; passing(&mut disk, 5), 110000);
-    assert!(rt; disk.stopped());
+    let first = passing(&mut disk, 5) == 110000 && disk.stopped();
     // The second stop is in the first call of the next disk, and counts for the second failure.
     let mut disk = disk.again();
-    assert!(rt; !disk.stopped());
-    assert_eq!(rt; passing(&mut disk, 2), 100);
+    let second = !disk.stopped() && passing(&mut disk, 2) == 100;
     // The second failure is in the first call, and in the third both the last stop and the last failure.
     let mut disk = disk.again();
-    assert_eq!(rt; passing(&mut disk, 4), 10100);
-    assert!(rt; disk.stopped() && !disk.starved());
+    let third = passing(&mut disk, 4) == 10100 && disk.stopped() && !disk.starved();
     let mut disk = disk.again();
-    assert_eq!(rt; passing(&mut disk, 3), 1111);
-    Ok(())
+    first && second && third && passing(&mut disk, 3) == 1111
 }
 
 #[test]
-fn a_disk_in_memory_is_written_and_read(rt: HostRuntime) -> Result<(), NoMemory> {
-    let mut disk = MemDisk::make(rt.alloc());
+fn further_stops_and_failures_wait(rt: HostRuntime) -> Result<(), NoMemory> {
+    let mut disk = FuseDisk::make(MemDisk::make(rt.alloc()), 2, Fill::Old);
+    match arm(&mut disk) {
+        Ok(()) => assert!(rt; stops_and_fails(disk)),
+        Err(NoMemory) => return Err(NoMemory),
+    }
+    Ok(())
+}
+
+/// Whether calls on the disk on which `abcd` stands at 2 answer as they should. The last of them cuts it.
+fn answers(disk: &mut MemDisk) -> bool {
+    let mut into = [9; 4];
+    disk.write_at(9, b"") == Ok(())
+        && disk.len() == Ok(6)
+        && disk.cut(5) == Ok(())
+        && disk.read(3, &mut into) == Ok(2)
+        && into == [b'b', b'c', 9, 9]
+}
+
+/// Whether these octets stand on the disk, and none was lost for want of memory.
+fn holds(disk: &MemDisk, octets: &[u8]) -> bool {
+    disk.octets() == octets && !disk.starved()
+}
+
+/// Whether the disk is read as these octets, and has them.
+fn is_read_back(alloc: Global, disk: MemDisk, octets: &[u8]) -> Result<bool, NoMemory> {
+    let mut disk = FuseDisk::make(disk, NO_STOP, Fill::Old);
+    match is_read(alloc, &mut disk, octets) {
+        Ok(is_read) => Ok(is_read && holds(&disk.image(), octets)),
+        Err(NoMemory) => Err(NoMemory),
+    }
+}
+
+fn is_written_and_read(alloc: Global) -> Result<bool, NoMemory> {
+    let mut disk = MemDisk::make(alloc);
     let put = put_synced(&mut disk, 2, b"abcd");
     if disk.starved() {
         return Err(NoMemory);
     }
-    assert_eq!(rt; put, Ok(()));
-    assert_eq!(rt; disk.write_at(9, b""), Ok(()));
-    assert_eq!(rt; disk.len(), Ok(6));
-    assert_eq!(rt; disk.cut(5), Ok(()));
-    let mut into = [9; 4];
-    assert_eq!(rt; disk.read(3, &mut into), Ok(2));
-    assert_eq!(rt; into, [b'b', b'c', 9, 9]);
-    let mut disk = FuseDisk::make(disk, NO_STOP, Fill::Old);
-    match read_whole(rt.alloc(), &mut disk) {
-        Ok(octets) => assert_eq!(rt; octets.items(), b"\0\0abc".as_slice()),
-        Err(ReadFault::NoMemory) => return Err(NoMemory),
-        Err(ReadFault::Failed) => assert!(rt; false, "a disk that isn't armed failed"),
+    if put != Ok(()) || !answers(&mut disk) {
+        return Ok(false);
     }
-    let disk = disk.image();
-    assert_eq!(rt; disk.octets(), b"\0\0abc".as_slice());
-    assert!(rt; !disk.starved());
+    is_read_back(alloc, disk, b"\0\0abc")
+}
+
+#[test]
+fn a_disk_in_memory_is_written_and_read(rt: HostRuntime) -> Result<(), NoMemory> {
+    assert!(rt; is_written_and_read(rt.alloc())?);
     Ok(())
+}
+
+fn memory_tells(disk: MemDisk) -> bool {
+    let mut disk = disk;
+    (make_calls(&mut disk) > 0) == disk.starved()
+}
+
+fn fuse_tells(disk: FuseDisk) -> bool {
+    let mut disk = disk;
+    (make_calls(&mut disk) > 0) == disk.starved()
+}
+
+/// Whether both disks tell that memory was wanting where a call of theirs fails.
+fn tell_want(one: MemDisk, other: MemDisk) -> bool {
+    memory_tells(one) && fuse_tells(FuseDisk::make(other, NO_STOP, Fill::New))
+}
+
+fn is_told(alloc: Global, disk: MemDisk) -> Result<bool, NoMemory> {
+    match MemDisk::of(alloc, &[1, 2, 3, 4]) {
+        Ok(other) => Ok(tell_want(disk, other)),
+        Err(NoMemory) => Err(NoMemory),
+    }
 }
 
 /// Also where an allocation fails: a call of a disk that isn't armed fails only where the disk then tells that
 /// memory was wanting.
 #[test]
 fn want_of_memory_is_told(rt: HostRuntime) -> Result<(), NoMemory> {
-    let mut disk = MemDisk::of(rt.alloc(), &[1, 2, 3, 4])?;
-    assert_eq!(rt; make_calls(&mut disk) > 0, disk.starved());
-    let mut disk = FuseDisk::make(MemDisk::of(rt.alloc(), &[1, 2, 3, 4])?, NO_STOP, Fill::New);
-    assert_eq!(rt; make_calls(&mut disk) > 0, disk.starved());
+    match MemDisk::of(rt.alloc(), &[1, 2, 3, 4]) {
+        Ok(disk) => assert!(rt; is_told(rt.alloc(), disk)?),
+        Err(NoMemory) => return Err(NoMemory),
+    }
     Ok(())
+}
+
+/// Whether the disk passes so many of its next four calls, those before it stops.
+fn stops_after(disk: &mut FuseDisk, passes: u64) -> bool {
+    let mut is_as_told = true;
+    for call in 0..4 {
+        is_as_told = is_as_told && disk.len().is_ok() == (call < passes);
+    }
+    is_as_told && disk.stopped() && !disk.starved()
+}
+
+/// Whether a disk that is made without a stop passes two calls, and stops where it is told then.
+fn stops_where_told(alloc: Global, passes: u64) -> Result<bool, NoMemory> {
+    let mut disk = FuseDisk::make(MemDisk::make(alloc), NO_STOP, Fill::Old);
+    let is_free = passing(&mut disk, 2) == 111;
+    match disk.stop_after(passes, Fill::New) {
+        Ok(()) => Ok(is_free && stops_after(&mut disk, passes)),
+        Err(NoMemory) => Err(NoMemory),
+    }
 }
 
 /// A disk that is made without a stop is armed from its next call on.
 #[test]
 fn a_disk_without_a_stop_stops_where_it_is_told(rt: HostRuntime) -> Result<(), NoMemory> {
     for passes in 0..3 {
-        let mut disk = FuseDisk::make(MemDisk::make(rt.alloc()), NO_STOP, Fill::Old);
-        assert_eq!(rt; passing(&mut disk, 2), 111);
-        disk.stop_after(passes, Fill::New)?;
-        for call in 0..4 {
-            assert_eq!(rt; disk.len().is_ok(), call < passes, "at {passes}, {call}");
-        }
-        assert!(rt; disk.stopped() && !disk.starved());
+        assert!(rt; stops_where_told(rt.alloc(), passes)?, "at {passes}");
     }
     Ok(())
 }
 
-/// Whether a disk of so many octets is read whole where it fails in the call after so many.
-fn reads_whole(alloc: Global, octets: &[u8], passes: u64) -> Result<bool, NoMemory> {
-    let mut disk = FuseDisk::make(MemDisk::of(alloc, octets)?, NO_STOP, Fill::Old);
-    disk.fail_after(passes)?;
-    match read_whole(alloc, &mut disk) {
+/// Whether a disk is read as these octets.
+fn is_read(alloc: Global, disk: &mut FuseDisk, octets: &[u8]) -> Result<bool, NoMemory> {
+    match read_whole(alloc, disk) {
         Ok(read) => Ok(read.items() == octets),
         Err(ReadFault::Failed) => Ok(false),
         Err(ReadFault::NoMemory) => Err(NoMemory),
+    }
+}
+
+/// Whether a disk is read as these octets where it fails in the call after so many.
+fn is_read_before(
+    alloc: Global,
+    disk: FuseDisk,
+    octets: &[u8],
+    passes: u64,
+) -> Result<bool, NoMemory> {
+    let mut disk = disk;
+    match disk.fail_after(passes) {
+        Ok(()) => is_read(alloc, &mut disk, octets),
+        Err(NoMemory) => Err(NoMemory),
+    }
+}
+
+/// Whether a disk of so many octets is read whole where it fails in the call after so many.
+fn reads_whole(alloc: Global, octets: &[u8], passes: u64) -> Result<bool, NoMemory> {
+    match MemDisk::of(alloc, octets) {
+        Ok(inner) => {
+            let disk = FuseDisk::make(inner, NO_STOP, Fill::Old);
+            is_read_before(alloc, disk, octets, passes)
+        }
+        Err(NoMemory) => Err(NoMemory),
     }
 }
 
@@ -234,7 +320,7 @@ fn a_reading_makes_a_call_for_each_piece(rt: HostRuntime) -> Result<(), NoMemory
 }
 
 /// Places and sizes, and the part of `abcdef` that is read there.
-const PARTS: &[(u64, u64, &[u8])] = &[
+const PARTS: &[(u32, u32, &[u8])] = &[
     (0, 6, b"abcdef"),
     (2, 3, b"cde"),
     (4, 9, b"ef"),
@@ -243,12 +329,26 @@ const PARTS: &[(u64, u64, &[u8])] = &[
     (3, 0, b""),
 ];
 
-/// Whether this part is read.
-fn reads_part(alloc: Global, place: u64, size: u64, part: &[u8]) -> Result<bool, NoMemory> {
-    let mut disk = MemDisk::of(alloc, b"abcdef")?;
-    match read_part(alloc, &mut disk, place, size) {
+/// Whether this part of the disk is read. A disk that isn't armed fails for want of memory alone.
+fn has_part(
+    alloc: Global,
+    disk: MemDisk,
+    place: u32,
+    size: u32,
+    part: &[u8],
+) -> Result<bool, NoMemory> {
+    let mut disk = disk;
+    match read_part(alloc, &mut disk, u64::from(place), u64::from(size)) {
         Ok(octets) => Ok(octets.items() == part),
         Err(_) => Err(NoMemory),
+    }
+}
+
+/// Whether this part is read of `abcdef`.
+fn reads_part(alloc: Global, place: u32, size: u32, part: &[u8]) -> Result<bool, NoMemory> {
+    match MemDisk::of(alloc, b"abcdef") {
+        Ok(disk) => has_part(alloc, disk, place, size, part),
+        Err(NoMemory) => Err(NoMemory),
     }
 }
 

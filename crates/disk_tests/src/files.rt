@@ -71,28 +71,36 @@ impl Disk for FileDisk {
     }
 }
 
+/// Whether `abcd` is written at 2, and only a cut to less than its length shortens the file.
+fn is_written_and_cut(disk: &mut FileDisk) -> bool {
+    put_synced(disk, 2, b"abcd") == Ok(())
+        && disk.cut(9) == Ok(())
+        && disk.cut(5) == Ok(())
+        && disk.sync() == Ok(())
+}
+
+fn is_read(alloc: Global, disk: &mut FileDisk, octets: &[u8]) -> bool {
+    read_whole(alloc, disk).is_ok_and(|read| read.items() == octets)
+}
+
+fn is_read_at(alloc: Global, disk: &mut FileDisk, place: u32, octets: &[u8]) -> bool {
+    read_part(alloc, disk, u64::from(place), 3).is_ok_and(|read| read.items() == octets)
+}
+
 #[test]
 fn a_file_is_written_synced_cut_and_read(rt: HostRuntime) -> io::Result<()> {
+    let file = OpenOptions::new()
+        .read(true)
+        .write(true)
+        .create(true)
+        .truncate(true)
+        .open(&rt, "disk_tests_file_disk")?;
     let mut disk = FileDisk {
-        file: OpenOptions::new()
-            .read(true)
-            .write(true)
-            .create(true)
-            .truncate(true)
-            .open(&rt, "disk_tests_file_disk")?,
+        file,
         faults: Tally::zero(),
     };
-    assert_eq!(rt; put_synced(&mut disk, 2, b"abcd"), Ok(()));
-    assert_eq!(rt; disk.cut(9), Ok(()));
-    assert_eq!(rt; disk.cut(5), Ok(()));
-    assert_eq!(rt; disk.sync(), Ok(()));
-    match read_whole(rt.alloc(), &mut disk) {
-        Ok(octets) => assert_eq!(rt; octets.items(), b"\0\0abc".as_slice()),
-        Err(fault) => assert!(rt; false, "{fault}"),
-    }
-    match read_part(rt.alloc(), &mut disk, 1, 3) {
-        Ok(octets) => assert_eq!(rt; octets.items(), b"\0ab".as_slice()),
-        Err(fault) => assert!(rt; false, "{fault}"),
-    }
+    assert!(rt; is_written_and_cut(&mut disk));
+    assert!(rt; is_read(rt.alloc(), &mut disk, b"\0\0abc"));
+    assert!(rt; is_read_at(rt.alloc(), &mut disk, 1, b"\0ab"));
     fs::remove_file(&rt, "disk_tests_file_disk")
 }

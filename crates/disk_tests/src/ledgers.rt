@@ -32,6 +32,22 @@ fn new_journal(alloc: Global) -> Result<MemDisk, CreateFault> {
     Ok(disk)
 }
 
+/// The ledger, where its journal has no entries.
+fn without_entries(ledger: Ledger<FuseDisk>, entries: &[Entry]) -> Option<Ledger<FuseDisk>>
+    requires history { ledger.history ≡ entries.now }
+    requires settled { ledger.doubt ≡ None }
+    requires range { AreInRange ledger.limits }
+    ensures empty { IfSome result (λ l. l.history ≡ []) }
+    ensures settled { IfSome result (λ l. l.doubt ≡ None) }
+    ensures range { IfSome result (λ l. AreInRange l.limits) }
+{
+    if entries.is_empty() {
+        Some(ledger)
+    } else {
+        None
+    }
+}
+
 /// A ledger on a disk whose journal has no entries.
 fn open_empty(alloc: Global, disk: FuseDisk) -> Option<Ledger<FuseDisk>>
     ensures empty { IfSome result (λ l. l.history ≡ []) }
@@ -39,14 +55,8 @@ fn open_empty(alloc: Global, disk: FuseDisk) -> Option<Ledger<FuseDisk>>
     ensures range { IfSome result (λ l. AreInRange l.limits) }
 {
     match Ledger::reopen(alloc, disk) {
-        Opening::Ready(ledger, entries) => {
-            if entries.is_empty() {
-                Some(ledger)
-            } else {
-                None
-            }
-        }
-        _ => None,
+        Opening::Ready(ledger, entries) => without_entries(ledger, entries.items()),
+        Opening::Damaged(_, _) | Opening::DiskFault(_) | Opening::NoMemory(_) => None,
     }
 }
 
@@ -66,19 +76,33 @@ fn append_first(alloc: Global, ledger: &mut Ledger<FuseDisk>) -> Result<(), Ledg
     })
 }
 
+/// A new disk of what a stop has left, where it was one.
+fn left_by_stop(left: FuseDisk) -> Option<FuseDisk> {
+    if left.stopped() {
+        Some(left.again())
+    } else {
+        None
+    }
+}
+
+/// How many entries the journal has that is opened, or the disk that a stop in that leaves, or neither.
+fn opened(alloc: Global, disk: FuseDisk) -> Result<usize, Option<FuseDisk>> {
+    match Ledger::reopen(alloc, disk) {
+        Opening::Ready(_, entries) => Ok(entries.len()),
+        Opening::DiskFault(left) => Err(left_by_stop(left)),
+        Opening::Damaged(_, _) | Opening::NoMemory(_) => Err(None),
+    }
+}
+
 /// How many entries a journal has that is opened again after each stop in its opening, and how many
 /// stops came.
-fn count_of(alloc: Global, mut disk: FuseDisk) -> Option<(usize, usize)> {
+fn count_of(alloc: Global, disk: FuseDisk) -> Option<(usize, usize)> {
+    let mut disk = disk;
     for stops in 0..9 {
-        match Ledger::reopen(alloc, disk) {
-            Opening::Ready(_, entries) => return Some((entries.len(), stops)),
-            Opening::DiskFault(left) => {
-                if !left.stopped() {
-                    return None;
-                }
-                disk = left.again();
-            }
-            _ => return None,
+        match opened(alloc, disk) {
+            Ok(count) => return Some((count, stops)),
+            Err(Some(left)) => disk = left,
+            Err(None) => return None,
         }
     }
     None
@@ -95,20 +119,44 @@ const STOPPED_APPENDS: &[(u64, &[(usize, usize)])] = &[
     (4, &[(1, 1), (1, 1), (1, 1), (1, 1), (1, 1)]),
 ];
 
+/// A journal without entries, on a disk with this stop.
+fn new_fuse(alloc: Global, passes: u64, fill: Fill) -> Result<FuseDisk, CreateFault> {
+    match new_journal(alloc) {
+        Ok(inner) => Ok(FuseDisk::make(inner, passes, fill)),
+        Err(fault) => Err(fault),
+    }
+}
+
+/// What an append leaves that stops where it isn't made.
+fn left_by_append(alloc: Global, ledger: Ledger<FuseDisk>) -> Option<(usize, usize)>
+    requires empty { ledger.history ≡ [] }
+    requires settled { ledger.doubt ≡ None }
+    requires range { AreInRange ledger.limits }
+{
+    let mut ledger = ledger;
+    let is_made = append_first(alloc, &mut ledger).is_ok();
+    if ledger.stopped() == is_made {
+        return None;
+    }
+    count_of(alloc, ledger.give().again())
+}
+
+fn left_on(alloc: Global, disk: FuseDisk) -> Option<(usize, usize)> {
+    match open_empty(alloc, disk) {
+        Some(ledger) => left_by_append(alloc, ledger),
+        None => None,
+    }
+}
+
 fn stopped_append(
     alloc: Global,
     passes: u64,
     fill: Fill,
 ) -> Result<Option<(usize, usize)>, CreateFault> {
-    let disk = FuseDisk::make(new_journal(alloc)?, passes.saturating_add(OPENING), fill);
-    let Some(mut ledger) = open_empty(alloc, disk) else {
-        return Ok(None);
-    };
-    let appended = append_first(alloc, &mut ledger).is_ok();
-    if ledger.stopped() == appended {
-        return Ok(None);
+    match new_fuse(alloc, passes.saturating_add(OPENING), fill) {
+        Ok(disk) => Ok(left_on(alloc, disk)),
+        Err(fault) => Err(fault),
     }
-    Ok(count_of(alloc, ledger.give().again()))
 }
 
 #[test]
@@ -122,6 +170,20 @@ fn a_stop_leaves_an_append_whole_or_absent(rt: HostRuntime) -> Result<(), Create
     Ok(())
 }
 
+/// What is left on this disk, which stops once more.
+fn left_on_stopping(
+    alloc: Global,
+    disk: FuseDisk,
+    passes: u64,
+    fill: Fill,
+) -> Result<Option<(usize, usize)>, CreateFault> {
+    let mut disk = disk;
+    match disk.stop_after(passes, fill) {
+        Ok(()) => Ok(left_on(alloc, disk)),
+        Err(NoMemory) => Err(CreateFault::NoMemory),
+    }
+}
+
 /// An append whose octet of the open gate is left by a stop, and then a stop in this call of the
 /// opening.
 fn stopped_opening(
@@ -129,13 +191,56 @@ fn stopped_opening(
     passes: u64,
     fill: Fill,
 ) -> Result<Option<(usize, usize)>, CreateFault> {
-    let mut disk = FuseDisk::make(new_journal(alloc)?, OPENING + 2, Fill::New);
-    disk.stop_after(passes, fill)?;
-    let Some(mut ledger) = open_empty(alloc, disk) else {
-        return Ok(None);
-    };
-    let _ = append_first(alloc, &mut ledger);
-    Ok(count_of(alloc, ledger.give().again()))
+    match new_fuse(alloc, OPENING + 2, Fill::New) {
+        Ok(disk) => left_on_stopping(alloc, disk, passes, fill),
+        Err(fault) => Err(fault),
+    }
+}
+
+/// What a repair leaves that stops where it isn't made.
+fn left_by_repair(alloc: Global, ledger: Ledger<FuseDisk>) -> Option<(usize, usize)>
+    requires { IsSome ledger.doubt }
+{
+    let mut ledger = ledger;
+    let is_made = ledger.repair().is_ok();
+    if ledger.stopped() == is_made {
+        return None;
+    }
+    count_of(alloc, ledger.give().again())
+}
+
+/// The same of an append that fails before.
+fn left_by_failed_append(alloc: Global, ledger: Ledger<FuseDisk>) -> Option<(usize, usize)>
+    requires empty { ledger.history ≡ [] }
+    requires settled { ledger.doubt ≡ None }
+    requires range { AreInRange ledger.limits }
+{
+    let mut ledger = ledger;
+    let is_made = append_first(alloc, &mut ledger).is_ok();
+    if is_made || !ledger.in_doubt() {
+        return None;
+    }
+    left_by_repair(alloc, ledger)
+}
+
+fn repair_left_on(alloc: Global, disk: FuseDisk) -> Option<(usize, usize)> {
+    match open_empty(alloc, disk) {
+        Some(ledger) => left_by_failed_append(alloc, ledger),
+        None => None,
+    }
+}
+
+/// What such a repair leaves on this disk, which fails in the call after so many.
+fn repair_left_on_failing(
+    alloc: Global,
+    disk: FuseDisk,
+    calls: u64,
+) -> Result<Option<(usize, usize)>, CreateFault> {
+    let mut disk = disk;
+    match disk.fail_after(calls) {
+        Ok(()) => Ok(repair_left_on(alloc, disk)),
+        Err(NoMemory) => Err(CreateFault::NoMemory),
+    }
 }
 
 /// An append that fails in this call, and a stop in this call of its repair.
@@ -147,20 +252,10 @@ fn stopped_repair(
 ) -> Result<Option<(usize, usize)>, CreateFault> {
     let calls = failing.saturating_add(OPENING);
     let stop = calls.saturating_add(passes).saturating_add(1);
-    let mut disk = FuseDisk::make(new_journal(alloc)?, stop, fill);
-    disk.fail_after(calls)?;
-    let Some(mut ledger) = open_empty(alloc, disk) else {
-        return Ok(None);
-    };
-    let appended = append_first(alloc, &mut ledger);
-    if appended.is_ok() || !ledger.in_doubt() {
-        return Ok(None);
+    match new_fuse(alloc, stop, fill) {
+        Ok(disk) => repair_left_on_failing(alloc, disk, calls),
+        Err(fault) => Err(fault),
     }
-    let repaired = ledger.repair().is_ok();
-    if ledger.stopped() == repaired {
-        return Ok(None);
-    }
-    Ok(count_of(alloc, ledger.give().again()))
 }
 
 /// For a failure in the call of an append of this number, and a stop in this call of its repair:
@@ -211,13 +306,22 @@ fn settle(ledger: &mut Ledger<FuseDisk>) -> Result<(), LedgerFault>
     Ok(())
 }
 
-/// Has the next call of the ledger's disk fail.
-fn fail_next(ledger: &mut Ledger<FuseDisk>) -> Result<(), NoMemory>
+/// Has the call after so many of the ledger's disk fail.
+fn fail_after(ledger: &mut Ledger<FuseDisk>, passes: u64) -> Result<(), NoMemory>
     ensures doubt { ledger.new.doubt ≡ ledger.old.doubt }
     ensures history { ledger.new.history ≡ ledger.old.history }
     ensures limits { ledger.new.limits ≡ ledger.old.limits }
 {
-    ledger.fail_after(0)
+    ledger.fail_after(passes)
+}
+
+/// Has the ledger's disk stop after so many calls.
+fn stop_after(ledger: &mut Ledger<FuseDisk>, passes: u64) -> Result<(), NoMemory>
+    ensures doubt { ledger.new.doubt ≡ ledger.old.doubt }
+    ensures history { ledger.new.history ≡ ledger.old.history }
+    ensures limits { ledger.new.limits ≡ ledger.old.limits }
+{
+    ledger.stop_after(passes, Fill::New)
 }
 
 /// Whether a repair fails.
@@ -229,45 +333,103 @@ fn repair_fails(ledger: &mut Ledger<FuseDisk>) -> bool
     ledger.repair().is_err()
 }
 
-/// Where there is a doubt, lets a repair fail.
-fn fail_repair(ledger: &mut Ledger<FuseDisk>) -> Result<bool, NoMemory>
+/// Lets a repair fail.
+fn fail_repair_of_doubt(ledger: &mut Ledger<FuseDisk>) -> Result<bool, NoMemory>
+    requires { IsSome ledger.old.doubt }
     ensures history { ledger.new.history ≡ ledger.old.history }
     ensures limits { ledger.new.limits ≡ ledger.old.limits }
 {
-    if !ledger.in_doubt() {
-        return Ok(true);
-    }
-    match fail_next(ledger) {
+    match fail_after(ledger, 0) {
         Ok(()) => Ok(repair_fails(ledger)),
         Err(NoMemory) => Err(NoMemory),
     }
 }
 
-/// An append that fails in this call, and where it is in doubt a repair that fails and one that
-/// doesn't, and then the append once more. Answers whether there was a doubt, and what is opened
-/// then.
+/// Where there is a doubt, lets a repair fail.
+fn fail_repair(ledger: &mut Ledger<FuseDisk>) -> Result<bool, NoMemory>
+    ensures history { ledger.new.history ≡ ledger.old.history }
+    ensures limits { ledger.new.limits ≡ ledger.old.limits }
+{
+    if ledger.in_doubt() {
+        fail_repair_of_doubt(ledger)
+    } else {
+        Ok(true)
+    }
+}
+
+/// Whether a repair fails where there is a doubt, one more settles the ledger, and then the append is made.
+fn is_made_behind_repairs(alloc: Global, ledger: &mut Ledger<FuseDisk>) -> Result<bool, CreateFault>
+    requires empty { ledger.old.history ≡ [] }
+    requires range { AreInRange ledger.old.limits }
+{
+    match fail_repair(ledger) {
+        Ok(is_failed) => Ok(
+            is_failed
+                && settle(ledger).is_ok()
+                && !ledger.in_doubt()
+                && append_first(alloc, ledger).is_ok(),
+        ),
+        Err(NoMemory) => Err(CreateFault::NoMemory),
+    }
+}
+
+/// An append that fails, and the same behind repairs. Answers whether there was a doubt, and what is opened then.
+fn append_twice(
+    alloc: Global,
+    ledger: Ledger<FuseDisk>,
+) -> Result<(bool, Option<(usize, usize)>), CreateFault>
+    requires empty { ledger.history ≡ [] }
+    requires settled { ledger.doubt ≡ None }
+    requires range { AreInRange ledger.limits }
+{
+    let mut ledger = ledger;
+    if append_first(alloc, &mut ledger).is_ok() {
+        return Ok((false, None));
+    }
+    let doubt = ledger.in_doubt();
+    match is_made_behind_repairs(alloc, &mut ledger) {
+        Ok(true) => Ok((doubt, count_of(alloc, ledger.give().again()))),
+        Ok(false) => Ok((doubt, None)),
+        Err(fault) => Err(fault),
+    }
+}
+
+fn append_failing(
+    alloc: Global,
+    ledger: Ledger<FuseDisk>,
+    failing: u64,
+) -> Result<(bool, Option<(usize, usize)>), CreateFault>
+    requires empty { ledger.history ≡ [] }
+    requires settled { ledger.doubt ≡ None }
+    requires range { AreInRange ledger.limits }
+{
+    let mut ledger = ledger;
+    match fail_after(&mut ledger, failing) {
+        Ok(()) => append_twice(alloc, ledger),
+        Err(NoMemory) => Err(CreateFault::NoMemory),
+    }
+}
+
+fn failed_append_on(
+    alloc: Global,
+    disk: FuseDisk,
+    failing: u64,
+) -> Result<(bool, Option<(usize, usize)>), CreateFault> {
+    match open_empty(alloc, disk) {
+        Some(ledger) => append_failing(alloc, ledger, failing),
+        None => Ok((false, None)),
+    }
+}
+
+/// An append that fails in this call, and the same behind repairs.
 fn failed_append(
     alloc: Global,
     failing: u64,
 ) -> Result<(bool, Option<(usize, usize)>), CreateFault> {
-    let disk = FuseDisk::make(new_journal(alloc)?, NO_STOP, Fill::Old);
-    let Some(mut ledger) = open_empty(alloc, disk) else {
-        return Ok((false, None));
-    };
-    ledger.fail_after(failing)?;
-    let Err(_) = append_first(alloc, &mut ledger) else {
-        return Ok((false, None));
-    };
-    let doubt = ledger.in_doubt();
-    let failed = fail_repair(&mut ledger)?;
-    let settled = settle(&mut ledger);
-    if !failed || settled.is_err() || ledger.in_doubt() {
-        return Ok((doubt, None));
+    match new_fuse(alloc, NO_STOP, Fill::Old) {
+        Ok(disk) => failed_append_on(alloc, disk, failing),
+        Err(fault) => Err(fault),
     }
-    if append_first(alloc, &mut ledger).is_err() {
-        return Ok((doubt, None));
-    }
-    Ok((doubt, count_of(alloc, ledger.give().again())))
 }
 
 /// For a failure in the call of an append of this number: whether it leaves a doubt.
@@ -282,21 +444,36 @@ fn a_failed_append_can_be_made_again(rt: HostRuntime) -> Result<(), CreateFault>
     Ok(())
 }
 
+fn creation_on(alloc: Global, disk: FuseDisk) -> Result<(), CreateFault> {
+    let mut disk = disk;
+    Ledger::create(alloc, &mut disk, &LIMITS)
+}
+
 /// A creation that fails in this call, on an empty disk.
 fn failed_creation(alloc: Global, failing: u64) -> Result<Result<(), CreateFault>, NoMemory> {
     let mut disk = FuseDisk::make(MemDisk::make(alloc), NO_STOP, Fill::Old);
-    disk.fail_after(failing)?;
-    Ok(Ledger::create(alloc, &mut disk, &LIMITS))
+    match disk.fail_after(failing) {
+        Ok(()) => Ok(creation_on(alloc, disk)),
+        Err(NoMemory) => Err(NoMemory),
+    }
+}
+
+/// Whether the disk has a journal without entries, over which no other one is made.
+fn keeps_its_journal(alloc: Global, disk: MemDisk) -> bool {
+    let mut disk = disk;
+    disk.octets() == b"GNMIJRN1\0\0\0\x02\0\0\x10\0\0".as_slice()
+        && Ledger::create(alloc, &mut disk, &LIMITS) == Err(CreateFault::NotEmpty)
 }
 
 #[test]
 fn only_an_empty_disk_takes_a_new_journal(rt: HostRuntime) -> Result<(), CreateFault> {
-    let mut disk = new_journal(rt.alloc())?;
-    assert_eq!(rt; disk.octets(), b"GNMIJRN1\0\0\0\x02\0\0\x10\0\0".as_slice());
-    assert_eq!(rt;
-        Ledger::create(rt.alloc(), &mut disk, &LIMITS),
-        Err(CreateFault::NotEmpty)
-    );
+    let disk = new_journal(rt.alloc())?;
+    assert!(rt; keeps_its_journal(rt.alloc(), disk));
+    Ok(())
+}
+
+#[test]
+fn a_creation_has_three_calls_that_fail(rt: HostRuntime) -> Result<(), NoMemory> {
     for failing in 0..3 {
         let failed = failed_creation(rt.alloc(), failing)?;
         assert_eq!(rt; failed, Err(CreateFault::DiskFault), "at {failing}");
@@ -305,16 +482,44 @@ fn only_an_empty_disk_takes_a_new_journal(rt: HostRuntime) -> Result<(), CreateF
     Ok(())
 }
 
-/// An append on a disk for which nothing waits, told to stop after so many calls: whether it was
-/// made, and whether the disk has stopped.
+/// An append on a ledger whose disk is told to stop after so many calls: whether it was made, and whether the disk has
+/// stopped.
+fn append_stopping(
+    alloc: Global,
+    ledger: Ledger<FuseDisk>,
+    passes: u64,
+) -> Result<Option<(bool, bool)>, CreateFault>
+    requires empty { ledger.history ≡ [] }
+    requires settled { ledger.doubt ≡ None }
+    requires range { AreInRange ledger.limits }
+{
+    let mut ledger = ledger;
+    match stop_after(&mut ledger, passes) {
+        Ok(()) => {
+            let is_made = append_first(alloc, &mut ledger).is_ok();
+            Ok(Some((is_made, ledger.stopped())))
+        }
+        Err(NoMemory) => Err(CreateFault::NoMemory),
+    }
+}
+
+fn told_to_stop_on(
+    alloc: Global,
+    disk: FuseDisk,
+    passes: u64,
+) -> Result<Option<(bool, bool)>, CreateFault> {
+    match open_empty(alloc, disk) {
+        Some(ledger) => append_stopping(alloc, ledger, passes),
+        None => Ok(None),
+    }
+}
+
+/// The same on a disk for which nothing waits before.
 fn told_to_stop(alloc: Global, passes: u64) -> Result<Option<(bool, bool)>, CreateFault> {
-    let disk = FuseDisk::make(new_journal(alloc)?, NO_STOP, Fill::Old);
-    let Some(mut ledger) = open_empty(alloc, disk) else {
-        return Ok(None);
-    };
-    ledger.stop_after(passes, Fill::New)?;
-    let appended = append_first(alloc, &mut ledger).is_ok();
-    Ok(Some((appended, ledger.stopped())))
+    match new_fuse(alloc, NO_STOP, Fill::Old) {
+        Ok(disk) => told_to_stop_on(alloc, disk, passes),
+        Err(fault) => Err(fault),
+    }
 }
 
 /// The append has four calls.
@@ -333,17 +538,26 @@ fn a_disk_that_is_not_armed_stops_where_it_is_told(rt: HostRuntime) -> Result<()
     Ok(())
 }
 
+/// Whether a ledger tells its limits and takes memory before.
+fn tells(ledger: &mut Ledger<FuseDisk>) -> bool {
+    ledger.limits() == LIMITS
+        && ledger.reserve(17) == Ok(())
+        && !ledger.starved()
+        && !ledger.stopped()
+}
+
+/// Whether the ledger of the journal on this disk does.
+fn ledger_tells(alloc: Global, disk: MemDisk) -> bool {
+    match open_empty(alloc, FuseDisk::make(disk, NO_STOP, Fill::Old)) {
+        Some(mut ledger) => tells(&mut ledger),
+        None => false,
+    }
+}
+
 #[test]
 fn a_ledger_tells_its_limits_and_takes_memory_before(rt: HostRuntime) -> Result<(), CreateFault> {
-    let disk = FuseDisk::make(new_journal(rt.alloc())?, NO_STOP, Fill::Old);
-    match open_empty(rt.alloc(), disk) {
-        Some(mut ledger) => {
-            assert_eq!(rt; ledger.limits(), LIMITS);
-            assert_eq!(rt; ledger.reserve(17), Ok(()));
-            assert!(rt; !ledger.starved() && !ledger.stopped());
-        }
-        None => assert!(rt; false),
-    }
+    let disk = new_journal(rt.alloc())?;
+    assert!(rt; ledger_tells(rt.alloc(), disk));
     Ok(())
 }
 

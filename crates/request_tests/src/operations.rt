@@ -1,6 +1,8 @@
 //! Operations of a request: their rows and key leaves, their refusals, and scalars at leaves.
 use crate::asked::{SCHEMA, Sent, assert_answer, request};
 use crate::builders::schema_of;
+use base_kinds::UnresolvedSet;
+use schema_core::Schema;
 use set_txn::resolve;
 use std::alloc::Global;
 use std::process::Abort;
@@ -349,14 +351,27 @@ const COUNTS: &[(u32, u32, bool)] = &[
     (300, 0, false),
 ];
 
+fn is_taken(alloc: Global, schema: &Schema, ask: &UnresolvedSet) -> bool {
+    resolve(alloc, schema, ask).is_ok()
+}
+
+/// Whether so many texts are taken as a leaf-list, of which the last is that with this number.
+fn words_are_taken(rt: &impl Abort, alloc: Global, schema: &Schema, count: u32, last: u32) -> bool {
+    let ask = request(
+        rt,
+        alloc,
+        "/",
+        &[("update", "/lab/tag", Sent::Words(count, last))],
+    );
+    is_taken(alloc, schema, &ask)
+}
+
 #[test]
 fn of_many_scalars_no_two_are_equal(rt: HostRuntime) {
     let alloc = rt.alloc();
     let schema = schema_of(&rt, alloc, SCHEMA);
-    for (count, last, is_taken) in COUNTS.iter().copied() {
-        let lines = [("update", "/lab/tag", Sent::Words(count, last))];
-        let ask = request(&rt, alloc, "/", &lines);
-        let is_ok = resolve(alloc, &schema, &ask).is_ok();
-        assert_eq!(rt; is_ok, is_taken, "{count} {last}");
+    for (count, last, wanted) in COUNTS.iter().copied() {
+        let is_taken = words_are_taken(&rt, alloc, &schema, count, last);
+        assert_eq!(rt; is_taken, wanted, "{count} {last}");
     }
 }

@@ -1,5 +1,5 @@
 -- Openings behind a stop, one after another.
-use Rattle.std.proofs.Common.{◌≡◌, ℕ, List, [], ◌∷◌, ◌++◌, length, Bool, true, codes, Option, Some, None, refl, sym, ap, ◌∙◌, subst, inl, inr, append_assoc}
+use Rattle.std.proofs.Common.{◌≡◌, ℕ, List, [], ◌∷◌, ◌++◌, length, Bool, codes, Option, Some, None, refl, sym, ap, ◌∙◌, subst, inl, inr, append_assoc}
 use Rattle.std.specs.Fmt.{decimal}
 use Rattle.base_kinds.specs.declared.entry.Entry.{Entry}
 use Rattle.base_kinds.specs.declared.entry.Limits.{Limits}
@@ -14,9 +14,9 @@ use Rattle.book_core.specs.Views.{BookView, history_in}
 use Rattle.book_core.specs.laws.DoubtLaws.{IsRunWith}
 use Rattle.book_core.specs.laws.ReopeningLaws.{CanReopen, RunsCanReopen}
 use Rattle.book_port.specs.Opened.{IsRun, Opened, reopened}
-use Rattle.script_run.specs.inner.ScriptBooks.{IsFailed, IsReady, IsReopenable, IsRestartedIfAny, IsStopped, MayStand, Restarting, RestartsBook, RestartsOn, book_if, image_on}
+use Rattle.script_run.specs.inner.ScriptBooks.{IsFailed, IsLeftByStop, IsReady, IsReopenable, IsRestartedIfAny, IsStopped, MayStand, Restarting, RestartsBook, RestartsOn, book_if, image_on}
 use Rattle.script_run.specs.Restarts.{restart_text, reopened_line}
-use Rattle.script_run.specs.Stops.{Image, IsImageOf, OpensAgain, Restarted, calls_to_open}
+use Rattle.script_run.specs.Stops.{Image, OpensAgain, Restarted, calls_to_open}
 use Rattle.script_run.proofs.Reopenings.{any_is_one}
 
 -- what the openings from this image on do and print, those from the first one on do, behind the others
@@ -132,15 +132,8 @@ or_can runs opened h (Some attempt) run with found (inl is) = subst (CanReopen o
 or_can runs opened h (Some attempt) run with found (inr (inl is)) = subst (CanReopen opened.schema) (sym is) (runs opened (h ++ attempt ∷ []) with)
 or_can runs opened h (Some attempt) run with found (inr (inr none)) = absurd none
 
--- the disk that is made of what the stop left
-pub record First (book : BookView FuseView) (next : FuseView) : Type 0 where
-  pub history : List Entry
-  pub leaves : IsImageOf book.opened.limits (histories_or (history_in book) book.doubt) (image_on next history)
-  pub arming_is : next.arming ≡ restarted book.disk.arming
-  pub reopenable : IsReopenable book.opened.schema next
-
 pub first_is : RunsCanReopen → (book : BookView FuseView) (disk next : FuseView) → IsRun book.opened (history_in book) → MayStand book → disk ≡ book.disk → LeavesNow (IsJournalOr book.opened.limits (history_in book) book.doubt) (Some book.disk.content)
-    → next ≡ new_disk_of (image_left disk) disk.starved (restarted disk.arming) → IsImage disk.content.mask next.content.seen → First book next
+    → next ≡ new_disk_of (image_left disk) disk.starved (restarted disk.arming) → IsImage disk.content.mask next.content.seen → IsLeftByStop book next
 first_is runs book disk next run with same leaves next_is image =
     let mask : IsImage book.disk.content.mask next.content.seen = subst (λ (d : FuseView). IsImage d.content.mask next.content.seen) same image in
     let one = any_is_one book.opened.limits (histories_or (history_in book) book.doubt) next.content.seen (or_is_any book.opened.limits (history_in book) book.doubt next.content.seen (leaves next.content.seen mask)) in
@@ -159,7 +152,7 @@ first_is runs book disk next run with same leaves next_is image =
       };
     }
 
-pub restarts_book : (now : ℕ) (old new : BookView FuseView) (next : FuseView) (before after : List ℕ) (goes_on : Bool) → First old next → RestartsOn old.opened.schema now next before after (book_if goes_on new) → RestartsBook now old new before after goes_on
+pub restarts_book : (now : ℕ) (old new : BookView FuseView) (next : FuseView) (before after : List ℕ) (goes_on : Bool) → IsLeftByStop old next → RestartsOn old.opened.schema now next before after (book_if goes_on new) → RestartsBook now old new before after goes_on
 restarts_book now old new next before after goes_on first restarts =
     let image : Image = image_on next first.history in
     record {
@@ -173,12 +166,14 @@ stands_by schema limits None book is = absurd is
 stands_by schema limits (Some restart) book is = subst (λ (d : Option Entry). IsRunWith book.opened (history_in book) d) (sym is.no_doubt) tt
 
 -- nothing is in doubt in the book that was opened
-pub opened_stands : (now : ℕ) (old new : BookView FuseView) (before after : List ℕ) → RestartsBook now old new before after true → MayStand new
-opened_stands now old new before after restarts = stands_by old.opened.schema old.opened.limits restarts.restarts.ending new restarts.restarts.book_is
+pub opened_stands : (schema : List SchemaNode) (now : ℕ) (disk : FuseView) (before after : List ℕ) (book : BookView FuseView) → IsReopenable schema disk → RestartsOn schema now disk before after (Some book) → MayStand book
+opened_stands schema now disk before after book is restarts =
+    let here = restarts is.limits is.history is.journal in
+    stands_by schema is.limits here.ending book here.book_is
 
 -- the book that was given back is the one that was there
 pub first_of : RunsCanReopen → (book given : BookView FuseView) (disk next : FuseView) → given ≡ book → IsRun given.opened (history_in given) → MayStand book → disk ≡ given.disk → LeavesNow (IsJournalOr given.opened.limits (history_in given) given.doubt) (Some given.disk.content)
-    → next ≡ new_disk_of (image_left disk) disk.starved (restarted disk.arming) → IsImage disk.content.mask next.content.seen → First book next
+    → next ≡ new_disk_of (image_left disk) disk.starved (restarted disk.arming) → IsImage disk.content.mask next.content.seen → IsLeftByStop book next
 first_of runs book given disk next same run with disk_is leaves next_is image =
-    subst (λ (b : BookView FuseView). First b next) same
+    subst (λ (b : BookView FuseView). IsLeftByStop b next) same
     (first_is runs given disk next run (subst (λ (b : BookView FuseView). MayStand b) (sym same) with) disk_is leaves next_is image)

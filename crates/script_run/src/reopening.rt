@@ -1,7 +1,7 @@
 // The openings of a script's book behind a stop.
-ghost use Rattle.std.specs.Prelude.{◌≡◌, ◌++◌, false, IfOk, OnOk};
-ghost use Rattle.script_run.specs.inner.ScriptBooks.{HasFewerStops, IsReopenable, MayStand, Reopens, RestartsBook, RestartsOn};
-ghost use Rattle.script_run.specs.Restarts.{reopened_line};
+ghost use Rattle.std.specs.Prelude.{◌≡◌, ◌++◌, ◌∷◌, [], Some, codes, false, length, IfOk, OnOk};
+ghost use Rattle.std.specs.Fmt.{decimal};
+ghost use Rattle.script_run.specs.inner.ScriptBooks.{HasFewerStops, IsLeftByStop, IsReopenable, MayStand, Reopens, RestartsBook, RestartsOn, book_if};
 
 use crate::book::{ScriptBook, new_book};
 use base_kinds::{Bytes, LEAST_LOG_ENTRIES, LEAST_LOG_OCTETS, Limits, NoMemory};
@@ -36,10 +36,39 @@ pub fn restart(
     ensures may_stand { MayStand book.new }
     ensures restarts { IfOk result (RestartsBook reading book.old book.new out.old out.new) }
 {
-    books_reopen::<FuseDisk, PlainTree>();
     let schema = book.schema().copy(alloc)?;
-    let BookEnd { disk, .. } = std::mem::replace(book, stand_in(alloc)?).end();
-    match reopen(alloc, disk.again(), &schema, reading, out)? {
+    let stand_in = stand_in(alloc)?;
+    let disk = left_by_stop(book, stand_in);
+    reopen_into(alloc, book, disk, &schema, reading, out)
+}
+
+/// A disk of what the book's stop left. Another book stands in its place then.
+fn left_by_stop(book: &mut ScriptBook, stand_in: ScriptBook) -> FuseDisk
+    requires { MayStand book.old }
+    ensures book { book.new ≡ stand_in }
+    ensures disk { IsLeftByStop book.old result }
+{
+    books_reopen::<FuseDisk, PlainTree>();
+    let BookEnd { disk, .. } = std::mem::replace(book, stand_in).end();
+    disk.again()
+}
+
+/// Opens the book anew on this disk.
+fn reopen_into(
+    alloc: Global,
+    book: &mut ScriptBook,
+    disk: FuseDisk,
+    schema: &Schema,
+    reading: u64,
+    out: &mut Bytes,
+) -> Result<bool, NoMemory>
+    requires may_stand { MayStand book.old }
+    requires reopenable { IsReopenable schema.now disk }
+    ensures may_stand { MayStand book.new }
+    ensures restarts { IfOk result (λ goes_on.
+        RestartsOn schema.now reading disk out.old out.new (book_if goes_on book.new)) }
+{
+    match reopen(alloc, disk, schema, reading, out)? {
         Some(opened) => {
             *book = opened;
             Ok(true)
@@ -72,33 +101,54 @@ fn reopen(
 {
     let mut disk = disk;
     'openings: loop {
-        out.extend_from_slice(b"stopped\n")?;
-        match reopen_once(alloc, disk, schema, reading)? {
-            Reopening::Ready(book) => {
-                put_number_line(alloc, b"reopened ", book.count(), out)?;
-                return Ok(Some(book));
-            }
+        match reopen_once(alloc, disk, schema, reading, out)? {
+            Reopening::Ready(book) => return say_reopened(alloc, book, out),
             Reopening::Stopped(next) => disk = next,
             Reopening::Failed => return Ok(None),
         }
     }
 }
 
-/// Opens a book on what a stop left.
+/// Adds what is printed at the opening of this book.
+fn say_reopened(
+    alloc: Global,
+    book: ScriptBook,
+    out: &mut Bytes,
+) -> Result<Option<ScriptBook>, NoMemory>
+    ensures book { IfOk result (λ opened. opened ≡ Some book) }
+    ensures line { OnOk result (out.new
+        ≡ out.old ++ (codes "reopened " ++ (decimal (length book.chronicle) ++ 10 ∷ []))) }
+{
+    match put_number_line(alloc, b"reopened ", book.count(), out) {
+        Ok(()) => Ok(Some(book)),
+        Err(NoMemory) => Err(NoMemory),
+    }
+}
+
+/// Opens a book on what a stop left. Adds what is printed at the stop.
 fn reopen_once(
     alloc: Global,
     disk: FuseDisk,
     schema: &Schema,
     reading: u64,
+    out: &mut Bytes,
 ) -> Result<Reopening, NoMemory>
     requires { IsReopenable schema.now disk }
     ensures opens { IfOk result (Reopens schema.now reading disk) }
     ensures fewer { IfOk result (HasFewerStops disk) }
+    ensures line { OnOk result (out.new ≡ out.old ++ codes "stopped\n") }
 {
-    match schema.copy(alloc) {
-        Ok(schema) => open_left(alloc, disk, schema, reading),
-        Err(NoMemory) => Err(NoMemory),
-    }
+    let copy = say_stopped(alloc, schema, out)?;
+    open_left(alloc, disk, copy, reading)
+}
+
+/// Adds what is printed at a stop. The answer is a schema for the opening behind it.
+fn say_stopped(alloc: Global, schema: &Schema, out: &mut Bytes) -> Result<Schema, NoMemory>
+    ensures copy { IfOk result (λ copy. copy ≡ schema.now) }
+    ensures line { OnOk result (out.new ≡ out.old ++ codes "stopped\n") }
+{
+    out.extend_from_slice(b"stopped\n")?;
+    schema.copy(alloc)
 }
 
 /// Opens a book by this schema on what a stop left.

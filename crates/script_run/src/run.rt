@@ -2,6 +2,7 @@ ghost use Rattle.std.specs.Prelude.{◌≡◌, ◌≤◌, ◌++◌, [], length, 
 ghost use Rattle.base_kinds.specs.Limits.{AreInRange, most_script_octets};
 ghost use Rattle.script_text.specs.declared.line.Line.{Line as ScriptLine};
 ghost use Rattle.script_text.specs.Lines.{lines_of};
+ghost use Rattle.script_run.specs.ScriptOctets.{is_too_long, within_limit};
 ghost use Rattle.script_run.specs.ScriptStates.{HasFitAuthor};
 ghost use Rattle.script_run.specs.inner.ScriptEnds.{text_at_end};
 ghost use Rattle.script_text.specs.Grammar.{IsLine};
@@ -9,7 +10,8 @@ ghost use Rattle.script_run.specs.Scripts.{Prints, RunsScript, refused_line};
 
 use crate::limit::{is_too_long, within_limit};
 use crate::state::ScriptState;
-use base_kinds::{Bytes, Limits, NoMemory};
+use base_kinds::{Bytes, Entry, Limits, NoMemory};
+use commit_report::put_log;
 use plain_texts::put_number;
 use schema_core::Schema;
 use script_text::{Line, LineFault, next_line, read_line};
@@ -46,25 +48,61 @@ pub fn run_script(
     ensures { IfOk result (λ transcript.
         RunsScript schema limits script.now transcript.text transcript.ending) }
 {
-    let mut state = ScriptState::new(alloc, schema, limits)?;
-    let mut text = Bytes::empty(alloc);
-    let goes_on = is_too_long(script);
-    let ending = take_lines(alloc, &mut state, goes_on, within_limit(script), &mut text)?;
-    put_end(alloc, state, ending, &mut text)?;
-    Ok(Transcript { text, ending })
+    match ScriptState::new(alloc, schema, limits) {
+        Ok(state) => run_lines(alloc, state, script),
+        Err(NoMemory) => Err(NoMemory),
+    }
 }
 
-/// Adds the log of the history, where each line was taken.
+/// Runs the script's lines from this state on.
+fn run_lines(alloc: Global, state: ScriptState, script: &[u8]) -> Result<Transcript, NoMemory>
+    ensures { IfOk result (λ transcript. Prints (is_too_long script.now) 1
+        (lines_of (within_limit script.now)) state transcript.text transcript.ending) }
+{
+    let mut state = state;
+    let mut text = Bytes::empty(alloc);
+    let goes_on = is_too_long(script);
+    let taken = take_lines(alloc, &mut state, goes_on, within_limit(script), &mut text);
+    // The state is let go here, on one way: each way on which it were let go costs its proof.
+    let entries = state.into_entries();
+    match taken {
+        Ok(ending) => ended(alloc, entries.items(), ending, text),
+        Err(NoMemory) => Err(NoMemory),
+    }
+}
+
+/// The transcript of this text and what stands at its end.
+fn ended(
+    alloc: Global,
+    entries: &[Entry],
+    ending: ScriptEnd,
+    text: Bytes,
+) -> Result<Transcript, NoMemory>
+    ensures text { IfOk result (λ transcript.
+        transcript.text ≡ text ++ text_at_end ending entries.now) }
+    ensures ending { IfOk result (λ transcript. transcript.ending ≡ ending) }
+{
+    let mut text = text;
+    match put_end(alloc, entries, ending, &mut text) {
+        Ok(()) => Ok(Transcript { text, ending }),
+        Err(NoMemory) => Err(NoMemory),
+    }
+}
+
+/// Adds the log of these entries, where each line was taken.
 fn put_end(
     alloc: Global,
-    state: ScriptState,
+    entries: &[Entry],
     ending: ScriptEnd,
     out: &mut Bytes,
 ) -> Result<(), NoMemory>
-    ensures { OnOk result (out.new ≡ out.old ++ text_at_end ending state.history) }
+    ensures { OnOk result (out.new ≡ out.old ++ text_at_end ending entries.now) }
 {
     match ending {
-        ScriptEnd::Whole => state.put_log(alloc, out),
+        ScriptEnd::Whole => {
+            out.extend_from_slice(b"log\n")?;
+            put_log(alloc, entries, out)
+        }
         ScriptEnd::Refused => Ok(()),
         ScriptEnd::DiskFault => Ok(()),
     }

@@ -1,12 +1,10 @@
-ghost use Rattle.std.specs.Prelude.{◌≡◌, ◌<◌, ◌++◌, IfOk, OnOk, Some, option_map};
+ghost use Rattle.std.specs.Prelude.{◌≡◌, ◌<◌, IfOk, OnOk, Some, option_map};
 ghost use Rattle.base_kinds.specs.Limits.{AreInRange};
 ghost use Rattle.script_run.specs.inner.ScriptBooks.{state_after_set};
-ghost use Rattle.script_run.specs.inner.ScriptEnds.{text_at_end};
 ghost use Rattle.script_run.specs.ScriptStates.{new_state, HasFitAuthor, set_event, state_after};
 ghost use Rattle.script_run.specs.AnswerLines.{event_reply};
 ghost use Rattle.script_run.specs.inner.Replies.{Acts, line_of_opening, reply_at, reply_of};
 ghost use Rattle.script_text.specs.declared.line.Line.TheVariants.{Turn as LineTurn, Poll as LinePoll};
-ghost use Rattle.script_run.specs.declared.run.ScriptEnd.TheVariants.{Whole as EndsWhole};
 
 use crate::answer_lines::{Reply, put_reply};
 use crate::book::{ScriptBook, get, new_book, set};
@@ -14,9 +12,8 @@ use crate::calls::NamedCall;
 use crate::pending::Pending;
 use crate::reopening::restart;
 use crate::subscribing::{Opening, end, open, poll, turn};
-use base_kinds::{Action, Bytes, Entry, Limits, NoMemory, Refusal, Seq, SubLines, Text};
+use base_kinds::{Action, Bytes, Entries, Limits, NoMemory, Seq, SubLines, Text};
 use book_core::BookEnd;
-use commit_report::put_log;
 use schema_core::Schema;
 use script_text::Line;
 use std::alloc::Global;
@@ -75,12 +72,12 @@ impl ScriptState {
         }
     }
 
-    /// Adds the log of the history.
-    pub fn put_log(self, alloc: Global, out: &mut Bytes) -> Result<(), NoMemory>
-        ensures { OnOk result (out.new ≡ out.old ++ text_at_end EndsWhole self.history) }
+    /// The history alone.
+    pub fn into_entries(self) -> Entries
+        ensures { result ≡ self.history }
     {
         let BookEnd { entries, .. } = self.book.end();
-        put_whole_log(alloc, entries.items(), out)
+        entries
     }
 
     /// Takes the next line, and adds what is printed at it. The answer is whether the script goes on, and it does unless no
@@ -201,12 +198,4 @@ impl ScriptState {
         let reply = set(alloc, &mut self.book, self.reading, author, request)?;
         Ok(Some(Reply::Set(reply)))
     }
-}
-
-/// Adds the line before a log, and the log of these entries.
-fn put_whole_log(alloc: Global, entries: &[Entry], out: &mut Bytes) -> Result<(), NoMemory>
-    ensures { OnOk result (out.new ≡ out.old ++ text_at_end EndsWhole entries.now) }
-{
-    out.extend_from_slice(b"log\n")?;
-    put_log(alloc, entries, out)
 }

@@ -205,6 +205,14 @@ abbrev pub book_if : Bool → BookView FuseView → Option (BookView FuseView)
 book_if true book = Some book
 book_if false book = None
 
+-- the disk that is made of what the stop left
+pub record IsLeftByStop (book : BookView FuseView) (next : FuseView) : Type 0 where
+  pub history : List Entry
+  pub leaves : IsImageOf book.opened.limits (histories_or (history_in book) book.doubt)
+      (image_on next history)
+  pub arming_is : next.arming ≡ restarted book.disk.arming
+  pub reopenable : IsReopenable book.opened.schema next
+
 pub record RestartsBook (now : ℕ) (old new : BookView FuseView) (before after : List ℕ)
     (goes_on : Bool) : Type 0 where
   pub first : Image

@@ -1,37 +1,22 @@
-use Rattle.std.proofs.Common.{◌≡◌, List, Option, Some, None, true, false, sym, ◌∙◌, subst}
+use Rattle.std.proofs.Common.{◌≡◌, List, Bool, Result, Ok, Err, sym, ◌∙◌, subst}
+use Rattle.std.specs.Prelude.{ℕ, IfOk}
 use Rattle.base_kinds.specs.Schema.{SchemaNode}
 use Rattle.book_core.specs.Views.{BookView}
 use Rattle.memory_disks.specs.Fuses.{FuseView}
-use Rattle.script_run.specs.inner.ScriptBooks.{IsReopenable, RestartsOn}
-use Rattle.script_run.proofs.Restarting.{First, first_of, restarts_book, opened_stands}
+use Rattle.script_run.specs.inner.ScriptBooks.{IsLeftByStop, IsReopenable, RestartsBook, RestartsOn, book_if}
+use Rattle.script_run.proofs.Restarting.{restarts_book}
 use Rattle.script_run.proofs.reopening.restart.Goals as goal
 
-pub reopen-requires : goal.reopen-requires
-reopen-requires c =
-    let first : First c.args.book.now c.again.result = first_of c.books_reopen.ensures.runs c.args.book.now c.replace.result c.end-disk.result.disk c.again.result c.replace.ensures.value c.end-disk.ensures.run c.requires c.end-disk.ensures.disk c.end-disk.ensures.images c.again.ensures.octets c.again.ensures.image in
+pub reopen_into-requires-clause-reopenable : goal.reopen_into-requires-clause-reopenable
+reopen_into-requires-clause-reopenable c =
     let schema : c.in_ok-schema.schema ≡ c.args.book.now.opened.schema = c.in_ok-schema.ensures ∙ c.schema.ensures in
-    subst (λ (s : List SchemaNode). IsReopenable s c.again.result) (sym schema) first.reopenable
+    subst (λ (s : List SchemaNode). IsReopenable s c.left_by_stop-disk.result) (sym schema) c.left_by_stop-disk.ensures.disk.reopenable
 
-pub returns-in-Some-clause-may_stand : goal.returns-in-Some-clause-may_stand
-returns-in-Some-clause-may_stand c =
-    let first : First c.args.book.now c.again.result = first_of c.books_reopen.ensures.runs c.args.book.now c.replace.result c.end-disk.result.disk c.again.result c.replace.ensures.value c.end-disk.ensures.run c.requires c.end-disk.ensures.disk c.end-disk.ensures.images c.again.ensures.octets c.again.ensures.image in
-    let schema : c.in_ok-schema.schema ≡ c.args.book.now.opened.schema = c.in_ok-schema.ensures ∙ c.schema.ensures in
-    let restarts = subst (λ (o : Option (BookView FuseView)). RestartsOn c.in_ok-schema.schema c.args.reading c.again.result c.args.out.now c.reopen.new.out o) c.in-Some.is c.in_ok-opened.ensures in
-    let here = subst (λ (s : List SchemaNode). RestartsOn s c.args.reading c.again.result c.args.out.now c.reopen.new.out (Some c.in-Some.opened)) schema restarts in
-    opened_stands c.args.reading c.args.book.now c.in-Some.opened c.args.out.now c.reopen.new.out (restarts_book c.args.reading c.args.book.now c.in-Some.opened c.again.result c.args.out.now c.reopen.new.out true first here)
-
-pub returns-in-Some-clause-restarts : goal.returns-in-Some-clause-restarts
-returns-in-Some-clause-restarts c =
-    let first : First c.args.book.now c.again.result = first_of c.books_reopen.ensures.runs c.args.book.now c.replace.result c.end-disk.result.disk c.again.result c.replace.ensures.value c.end-disk.ensures.run c.requires c.end-disk.ensures.disk c.end-disk.ensures.images c.again.ensures.octets c.again.ensures.image in
-    let schema : c.in_ok-schema.schema ≡ c.args.book.now.opened.schema = c.in_ok-schema.ensures ∙ c.schema.ensures in
-    let restarts = subst (λ (o : Option (BookView FuseView)). RestartsOn c.in_ok-schema.schema c.args.reading c.again.result c.args.out.now c.reopen.new.out o) c.in-Some.is c.in_ok-opened.ensures in
-    let here = subst (λ (s : List SchemaNode). RestartsOn s c.args.reading c.again.result c.args.out.now c.reopen.new.out (Some c.in-Some.opened)) schema restarts in
-    restarts_book c.args.reading c.args.book.now c.in-Some.opened c.again.result c.args.out.now c.reopen.new.out true first here
+restarts : {E : Type 0} (schema : List SchemaNode) (now : ℕ) (old new : BookView FuseView) (next : FuseView) (before after : List ℕ) (answer : Result Bool E) → schema ≡ old.opened.schema → IsLeftByStop old next
+    → IfOk answer (λ goes_on. RestartsOn schema now next before after (book_if goes_on new)) → IfOk answer (RestartsBook now old new before after)
+restarts schema now old new next before after (Ok goes_on) is left done =
+    restarts_book now old new next before after goes_on left (subst (λ (s : List SchemaNode). RestartsOn s now next before after (book_if goes_on new)) is done)
+restarts schema now old new next before after (Err fault) is left done = tt
 
 pub returns-clause-restarts : goal.returns-clause-restarts
-returns-clause-restarts c =
-    let first : First c.args.book.now c.again.result = first_of c.books_reopen.ensures.runs c.args.book.now c.replace.result c.end-disk.result.disk c.again.result c.replace.ensures.value c.end-disk.ensures.run c.requires c.end-disk.ensures.disk c.end-disk.ensures.images c.again.ensures.octets c.again.ensures.image in
-    let schema : c.in_ok-schema.schema ≡ c.args.book.now.opened.schema = c.in_ok-schema.ensures ∙ c.schema.ensures in
-    let restarts = subst (λ (o : Option (BookView FuseView)). RestartsOn c.in_ok-schema.schema c.args.reading c.again.result c.args.out.now c.reopen.new.out o) c.in-None.is c.in_ok-opened.ensures in
-    let here = subst (λ (s : List SchemaNode). RestartsOn s c.args.reading c.again.result c.args.out.now c.reopen.new.out (None)) schema restarts in
-    restarts_book c.args.reading c.args.book.now c.replace.new.dest c.again.result c.args.out.now c.reopen.new.out false first here
+returns-clause-restarts c = restarts _ _ _ _ _ _ _ _ (c.in_ok-schema.ensures ∙ c.schema.ensures) c.left_by_stop-disk.ensures.disk c.reopen_into.ensures.restarts
