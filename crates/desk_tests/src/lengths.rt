@@ -7,7 +7,6 @@ use base_lists::Bytes;
 use grpc_core::Method;
 use std::alloc::Global;
 use std::process::Abort;
-use std::test::Fail;
 
 /// A SetRequest without the last octets of its text: `/system/config/hostname` becomes one of 99,789 octets.
 const LONG_NAME: &[u8] =
@@ -40,63 +39,86 @@ fn repeated(rt: &impl Abort, alloc: Global, parts: &[(&[u8], u32)]) -> Bytes {
 }
 
 /// How long the reply is.
-fn length_of(rt: &impl Abort, found: Result<Bytes, Refusal>) -> usize {
-    found.expect(rt, "a reply").len()
+fn length_of(found: Result<Bytes, Refusal>) -> Result<usize, Refusal> {
+    match found {
+        Ok(reply) => Ok(reply.len()),
+        Err(refusal) => Err(refusal),
+    }
 }
 
-fn with_long_name(rt: &impl Abort, alloc: Global) -> Target
-    ensures { result.port.book.opened.schema ≡ result.desk }
+/// How long the reply to a call of these parts is.
+fn reply_length(
+    rt: &impl Abort,
+    alloc: Global,
+    target: &mut Target,
+    method: Method,
+    parts: &[(&[u8], u32)],
+    now: u64,
+) -> Result<usize, Refusal>
+    requires { target.old.port.book.opened.schema ≡ target.old.desk }
+    ensures { target.new.port.book.opened.schema ≡ target.new.desk }
 {
+    let request = repeated(rt, alloc, parts);
+    length_of(target.answer(alloc, method, request.items(), now))
+}
+
+/// Whether the hostname becomes the long one, and then a Get of so many paths has the longest reply, and one of more octets is
+/// refused.
+fn gets_up_to_the_limit(rt: &impl Abort, alloc: Global, target: &mut Target) -> bool
+    requires { target.old.port.book.opened.schema ≡ target.old.desk }
+{
+    let name: &[(&[u8], u32)] = &[(LONG_NAME, 1), (&[120; 89], 1), (&[120; 997], 100)];
+    let most: &[(&[u8], u32)] = &[(ROOT, 16), (SYSTEM, 26)];
+    let more: &[(&[u8], u32)] = &[(ROOT, 17), (SYSTEM, 25)];
+    reply_length(rt, alloc, target, Method::Set, name, 1000).is_ok()
+        && reply_length(rt, alloc, target, Method::Get, most, 1000) == Ok(4_194_304)
+        && reply_length(rt, alloc, target, Method::Get, more, 1000) == Err(Refusal::TooLarge)
+}
+
+fn new_target_gets_up_to_the_limit(rt: &impl Abort, alloc: Global) -> bool {
     let mut target = new_target(rt, alloc, None);
-    let request = repeated(
-        rt,
-        alloc,
-        &[(LONG_NAME, 1), (&[120; 89], 1), (&[120; 997], 100)],
-    );
-    let set = target.answer(alloc, Method::Set, request.items(), 1000);
-    assert!(rt; set.is_ok());
-    target
+    gets_up_to_the_limit(rt, alloc, &mut target)
 }
 
 #[test]
-fn a_get_at_the_limit_and_above(rt: HostRuntime) -> Result<(), Fail> {
-    let mut target = with_long_name(&rt, rt.alloc());
-    let most = repeated(&rt, rt.alloc(), &[(ROOT, 16), (SYSTEM, 26)]);
-    let found = target.answer(rt.alloc(), Method::Get, most.items(), 1000);
-    assert_eq!(rt; length_of(&rt, found), 4_194_304);
-    let more = repeated(&rt, rt.alloc(), &[(ROOT, 17), (SYSTEM, 25)]);
-    let found = target.answer(rt.alloc(), Method::Get, more.items(), 1000);
-    assert!(rt; matches!(&found, Err(Refusal::TooLarge)));
-    Ok(())
+fn a_get_at_the_limit_and_above(rt: HostRuntime) {
+    assert!(rt; new_target_gets_up_to_the_limit(&rt, rt.alloc()));
+}
+
+/// How long the reply of a new target to a Set of these parts is.
+fn set_length(rt: &impl Abort, alloc: Global, parts: &[(&[u8], u32)]) -> Result<usize, Refusal> {
+    let mut target = new_target(rt, alloc, None);
+    reply_length(rt, alloc, &mut target, Method::Set, parts, LATEST)
 }
 
 #[test]
-fn a_set_at_the_limit(rt: HostRuntime) -> Result<(), Fail> {
-    let mut target = new_target(&rt, rt.alloc(), None);
-    let request = repeated(
-        &rt,
-        rt.alloc(),
-        &[(LONG_DELETE, 1), (&[120; 992], 4228), (&[120; 96], 1)],
-    );
-    let found = target.answer(rt.alloc(), Method::Set, request.items(), LATEST);
-    assert_eq!(rt; length_of(&rt, found), 4_194_304);
-    Ok(())
+fn a_set_at_the_limit(rt: HostRuntime) {
+    let most: &[(&[u8], u32)] = &[(LONG_DELETE, 1), (&[120; 992], 4228), (&[120; 96], 1)];
+    assert_eq!(rt; set_length(&rt, rt.alloc(), most), Ok(4_194_304));
+}
+
+/// Whether a reply is the stamp of a first entry.
+fn is_first(found: &Result<Bytes, Refusal>) -> bool {
+    matches!(found, Ok(reply) if reply.items() == b"\x20\xe8\x07".as_slice())
+}
+
+/// Whether a Set of one octet too many is refused, the tree is empty behind it, and the next stamp is that of a first entry.
+fn refuses_above_the_limit(rt: &impl Abort, alloc: Global, target: &mut Target) -> bool
+    requires { target.old.port.book.opened.schema ≡ target.old.desk }
+{
+    let more: &[(&[u8], u32)] = &[(LONGER_DELETE, 1), (&[120; 992], 4228), (&[120; 97], 1)];
+    let root: &[(&[u8], u32)] = &[(ROOT, 1)];
+    reply_length(rt, alloc, target, Method::Set, more, LATEST) == Err(Refusal::TooLarge)
+        && reply_length(rt, alloc, target, Method::Get, root, 1000) == Err(Refusal::NotFound)
+        && is_first(&target.answer(alloc, Method::Set, b"", 1000))
+}
+
+fn new_target_refuses_above_the_limit(rt: &impl Abort, alloc: Global) -> bool {
+    let mut target = new_target(rt, alloc, None);
+    refuses_above_the_limit(rt, alloc, &mut target)
 }
 
 #[test]
-fn a_set_above_the_limit_changes_nothing(rt: HostRuntime) -> Result<(), Fail> {
-    let mut target = new_target(&rt, rt.alloc(), None);
-    let request = repeated(
-        &rt,
-        rt.alloc(),
-        &[(LONGER_DELETE, 1), (&[120; 992], 4228), (&[120; 97], 1)],
-    );
-    let found = target.answer(rt.alloc(), Method::Set, request.items(), LATEST);
-    assert!(rt; matches!(&found, Err(Refusal::TooLarge)));
-    let root = target.answer(rt.alloc(), Method::Get, ROOT, 1000);
-    assert!(rt; matches!(&root, Err(Refusal::NotFound)));
-    // the next stamp is that of a first entry
-    let set = target.answer(rt.alloc(), Method::Set, b"", 1000);
-    assert!(rt; matches!(&set, Ok(reply) if reply.items() == b"\x20\xe8\x07".as_slice()));
-    Ok(())
+fn a_set_above_the_limit_changes_nothing(rt: HostRuntime) {
+    assert!(rt; new_target_refuses_above_the_limit(&rt, rt.alloc()));
 }

@@ -60,6 +60,15 @@ fn new_book(rt: &impl Abort, alloc: Global, schema: Schema) -> Book<FuseDisk, Pl
     }
 }
 
+/// Has the book's disk fail in the call after so many, if in any.
+fn arm(rt: &impl Abort, book: &mut Book<FuseDisk, PlainTree>, fails: Option<u64>)
+    ensures { book.new.opened ≡ book.old.opened }
+{
+    if let Some(passes) = fails {
+        book.fail_after(passes).expect(rt, "memory");
+    }
+}
+
 /// The target of one author over an empty tree, whose disk fails in the call after so many, if in any.
 pub fn new_target(rt: &impl Abort, alloc: Global, fails: Option<u64>) -> Target
     ensures { result.port.book.opened.schema ≡ result.desk }
@@ -67,9 +76,7 @@ pub fn new_target(rt: &impl Abort, alloc: Global, fails: Option<u64>) -> Target
     let schema = read_schema(alloc, SCHEMA).expect(rt, "a schema");
     let desk = Desk::make(schema.copy(alloc).expect(rt, "memory"));
     let mut book = new_book(rt, alloc, schema);
-    if let Some(passes) = fails {
-        book.fail_after(passes).expect(rt, "memory");
-    }
+    arm(rt, &mut book, fails);
     Target {
         desk,
         port: Single::make(book, 1),
