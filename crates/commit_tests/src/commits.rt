@@ -140,23 +140,36 @@ const READINGS: &[(u64, u64)] = &[
     (0, 4_102_444_800_000_000_003),
 ];
 
+/// A Set of the message at a reading has this stamp, and the tree its row.
+fn assert_stamped(
+    rt: &impl Abort,
+    alloc: Global,
+    core: &mut Core<PlainTree>,
+    now: u64,
+    stamp: u64,
+) {
+    let ask = set_of(rt, alloc, SCHEMA, "motd", "\"m\"");
+    assert_eq!(rt; accept(rt, core, alloc, now, ask), stamp, "at {now}");
+    let first = first_text(rt, core, alloc, "m");
+    assert_eq!(rt; first, (1, true, stamp), "at {now}");
+}
+
+/// The entries have their numbers, and are so many.
+fn assert_numbered(rt: &impl Abort, core: &Core<PlainTree>, count: usize) {
+    for (i, entry) in core.entries().iter().enumerate() {
+        assert_eq!(rt; marks_of(entry), (i as u64 + 1, 1, entry.stamp));
+    }
+    assert_eq!(rt; core.entries().len(), count);
+}
+
 #[test]
 fn stamps_follow_the_clock_and_rise(rt: HostRuntime) {
     let alloc = rt.alloc();
     let mut core = core_of(&rt, alloc, ROOMY);
     for (now, stamp) in READINGS.iter().copied() {
-        let ask = set_of(&rt, alloc, SCHEMA, "motd", "\"m\"");
-        assert_eq!(rt; accept(&rt, &mut core, alloc, now, ask), stamp, "at {now}");
-        assert_eq!(rt;
-            first_text(&rt, &core, alloc, "m"),
-            (1, true, stamp),
-            "at {now}"
-        );
+        assert_stamped(&rt, alloc, &mut core, now, stamp);
     }
-    for (i, entry) in core.entries().iter().enumerate() {
-        assert_eq!(rt; marks_of(entry), (i as u64 + 1, 1, entry.stamp));
-    }
-    assert_eq!(rt; core.entries().len(), 11);
+    assert_numbered(&rt, &core, 11);
 }
 
 /// Leaves and values by the wider schema, with the refusal of each.
@@ -167,25 +180,41 @@ const VALUES: &[(&str, &str, Option<Refusal>)] = &[
     ("mtu", "65536", Some(Refusal::TreeInvalid)),
 ];
 
+/// The Set of a leaf at the reading 2000 is refused for this, if at all. Nothing is taken.
+fn assert_refused(
+    rt: &impl Abort,
+    alloc: Global,
+    core: &mut Core<PlainTree>,
+    (word, json, refusal): (&str, &str, Option<Refusal>),
+) {
+    let ask = set_of(rt, alloc, WIDE, word, json);
+    let found = refused(rt, core, alloc, ask);
+    assert_eq!(rt; found, refusal, "{word} {json}");
+}
+
+/// A Set of the hostname is the first entry behind one that was let go.
+fn accept_first(rt: &impl Abort, alloc: Global, core: &mut Core<PlainTree>) {
+    core.forget();
+    assert_refused(rt, alloc, core, ("mtu", "1", None));
+    let first = set_of(rt, alloc, SCHEMA, "hostname", "\"r1\"");
+    assert_eq!(rt; accept(rt, core, alloc, 1000, first), 1000);
+}
+
+/// The one entry there is has set the hostname.
+fn assert_first(rt: &impl Abort, alloc: Global, core: &Core<PlainTree>) {
+    assert_eq!(rt; first_text(rt, core, alloc, "r1"), (1, true, 1000));
+    assert_eq!(rt; core.entries().len(), 1);
+}
+
 #[test]
 fn what_is_let_go_or_refused_leaves_nothing(rt: HostRuntime) {
     let alloc = rt.alloc();
     let mut core = core_of(&rt, alloc, ROOMY);
-    core.forget();
-    let lost = set_of(&rt, alloc, SCHEMA, "motd", "\"lost\"");
-    assert_eq!(rt; refused(&rt, &mut core, alloc, lost), None);
-    let first = set_of(&rt, alloc, SCHEMA, "hostname", "\"r1\"");
-    assert_eq!(rt; accept(&rt, &mut core, alloc, 1000, first), 1000);
-    for (word, json, refusal) in VALUES.iter().copied() {
-        let ask = set_of(&rt, alloc, WIDE, word, json);
-        assert_eq!(rt;
-            refused(&rt, &mut core, alloc, ask),
-            refusal,
-            "{word} {json}"
-        );
+    accept_first(&rt, alloc, &mut core);
+    for row in VALUES.iter().copied() {
+        assert_refused(&rt, alloc, &mut core, row);
     }
-    assert_eq!(rt; first_text(&rt, &core, alloc, "r1"), (1, true, 1000));
-    assert_eq!(rt; core.entries().len(), 1);
+    assert_first(&rt, alloc, &core);
 }
 
 /// A delete of all that the update doesn't set anew.
@@ -194,17 +223,24 @@ const DELETED: Changed = Changed {
     updates: &[("/system/config/motd", "\"new\"")],
 };
 
+fn accept_old(rt: &impl Abort, alloc: Global, core: &mut Core<PlainTree>, word: &str) {
+    let ask = set_of(rt, alloc, SCHEMA, word, "\"old\"");
+    accept(rt, core, alloc, 1000, ask);
+}
+
+fn accept_deletes(rt: &impl Abort, alloc: Global, core: &mut Core<PlainTree>) {
+    let ask = ask_of(rt, alloc, core.schema(), DELETED, Asked::Set).expect(rt, "an ask");
+    accept(rt, core, alloc, 1000, ask);
+    assert_eq!(rt; first_text(rt, core, alloc, "new"), (1, true, 1002));
+}
+
 #[test]
 fn deletes_come_before_updates(rt: HostRuntime) {
     let alloc = rt.alloc();
     let mut core = core_of(&rt, alloc, ROOMY);
-    for word in ["hostname", "motd"] {
-        let ask = set_of(&rt, alloc, SCHEMA, word, "\"old\"");
-        accept(&rt, &mut core, alloc, 1000, ask);
-    }
-    let ask = ask_of(&rt, alloc, core.schema(), DELETED, Asked::Set).expect(&rt, "an ask");
-    accept(&rt, &mut core, alloc, 1000, ask);
-    assert_eq!(rt; first_text(&rt, &core, alloc, "new"), (1, true, 1002));
+    accept_old(&rt, alloc, &mut core, "hostname");
+    accept_old(&rt, alloc, &mut core, "motd");
+    accept_deletes(&rt, alloc, &mut core);
 }
 
 /// How many octets the hostname has under these limits, with the refusal of the Set.
@@ -216,30 +252,38 @@ const SIZES: &[(Limits, u32, Option<Refusal>)] = &[
     (NARROW, 316_645, Some(Refusal::TreeFull)),
 ];
 
+/// What a Set of a hostname of so many octets is refused for over a tree without rows, if it is.
+fn refusal_of_long(rt: &impl Abort, alloc: Global, limits: Limits, size: u32) -> Option<Refusal> {
+    let mut core = core_of(rt, alloc, limits);
+    let ask = set_long(rt, alloc, size);
+    refused(rt, &mut core, alloc, ask)
+}
+
 #[test]
 fn trees_and_logs_have_limits(rt: HostRuntime) {
-    let alloc = rt.alloc();
     for (limits, size, refusal) in SIZES.iter().copied() {
-        let mut core = core_of(&rt, alloc, limits);
-        let ask = set_long(&rt, alloc, size);
-        assert_eq!(rt;
-            refused(&rt, &mut core, alloc, ask),
-            refusal,
-            "{size} octets"
-        );
+        let found = refusal_of_long(&rt, rt.alloc(), limits, size);
+        assert_eq!(rt; found, refusal, "{size} octets");
     }
+}
+
+fn accept_nothing(rt: &impl Abort, alloc: Global, core: &mut Core<PlainTree>) {
+    accept(rt, core, alloc, 1, set_nothing(rt, alloc));
+}
+
+/// A log that has no room refuses a Set, unless the tree is invalid.
+fn assert_full(rt: &impl Abort, alloc: Global, core: &mut Core<PlainTree>) {
+    let found = refused(rt, core, alloc, set_nothing(rt, alloc));
+    assert_eq!(rt; found, Some(Refusal::LogFull));
+    let invalid = ("contact", "\"x\"", Some(Refusal::TreeInvalid));
+    assert_refused(rt, alloc, core, invalid);
+}
+
+#[test]
+fn a_log_of_two_entries_is_full(rt: HostRuntime) {
+    let alloc = rt.alloc();
     let mut core = core_of(&rt, alloc, NARROW);
-    for _ in 0..2 {
-        accept(&rt, &mut core, alloc, 1, set_nothing(&rt, alloc));
-    }
-    let third = set_nothing(&rt, alloc);
-    assert_eq!(rt;
-        refused(&rt, &mut core, alloc, third),
-        Some(Refusal::LogFull)
-    );
-    let invalid = set_of(&rt, alloc, WIDE, "contact", "\"x\"");
-    assert_eq!(rt;
-        refused(&rt, &mut core, alloc, invalid),
-        Some(Refusal::TreeInvalid)
-    );
+    accept_nothing(&rt, alloc, &mut core);
+    accept_nothing(&rt, alloc, &mut core);
+    assert_full(&rt, alloc, &mut core);
 }

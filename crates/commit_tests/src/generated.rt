@@ -1,6 +1,6 @@
 use crate::builders::{path_of, schema_of};
 use crate::requests::{Asked, Changed, NOTHING, ask_of, step};
-use base_kinds::{Entries, LONGEST_DURATION, Limits, Paths, Refusal};
+use base_kinds::{Entries, Entry, LONGEST_DURATION, Limits, Paths, Refusal, View};
 use commit_core::Core;
 use plain_tree::PlainTree;
 use reference_model::{duration_of, stamp_of, step_of, world_of};
@@ -103,6 +103,70 @@ fn expected(
     Ok(stamp)
 }
 
+/// Compares the answers to an ask.
+fn compare_answers(
+    rt: &impl Abort,
+    alloc: Global,
+    limits: &Limits,
+    core: &mut Core<PlainTree>,
+    model: &mut Entries,
+    now: u64,
+    asked: (Asked, Changed),
+) -> bool {
+    let ask = ask_of(rt, alloc, core.schema(), asked.1, asked.0).expect(rt, "an ask");
+    let answer = step(rt, alloc, core, now, 1, ask);
+    answer == expected(rt, alloc, limits, model, now, asked)
+}
+
+/// Compares the answers to so many generated events.
+fn compare_events(
+    rt: &impl Abort,
+    alloc: Global,
+    generator: &mut Generator,
+    limits: &Limits,
+    core: &mut Core<PlainTree>,
+    model: &mut Entries,
+    rounds: u32,
+) {
+    let mut now = 0u64;
+    for round in 0..rounds {
+        let further = STEPS
+            .get(generator.place(STEPS.len()))
+            .copied()
+            .unwrap_or(0);
+        now = now.saturating_add(further);
+        let place = generator.place(ASKS.len());
+        let asked = ASKS.get(place).copied().unwrap_or((Asked::Set, X));
+        let is_same = compare_answers(rt, alloc, limits, core, model, now, asked);
+        assert!(rt; is_same, "round {round}, ask {place} at {now}");
+    }
+}
+
+/// Whether the rows of a view are those behind these entries.
+fn has_tree(rt: &impl Abort, alloc: Global, view: &View, model: &Entries) -> bool {
+    let world = world_of(alloc, model.items()).expect(rt, "memory");
+    view.rows == world.tree
+}
+
+/// All rows.
+fn view_of(rt: &impl Abort, alloc: Global, core: &Core<PlainTree>) -> View {
+    let mut patterns = Paths::empty(alloc);
+    patterns.push(path_of(rt, alloc, "/")).expect(rt, "memory");
+    core.look(alloc, &patterns).expect(rt, "memory")
+}
+
+/// The entries and the tree behind them are those of the model.
+fn assert_same(rt: &impl Abort, alloc: Global, core: &Core<PlainTree>, model: &Entries) {
+    let view = view_of(rt, alloc, core);
+    assert!(rt; has_tree(rt, alloc, &view, model), "the tree");
+    assert!(rt; core.entries() == model.items(), "the entries");
+}
+
+/// How many entries are those of expired trials.
+fn expired(entries: &[Entry]) -> usize {
+    entries.iter().filter(|entry| entry.author == 0).count()
+}
+
 /// Compares the answers to so many generated events, and the entries and the tree behind them. The number of trials that
 /// expired is the result.
 fn compare(
@@ -115,31 +179,9 @@ fn compare(
     let schema = schema_of(rt, alloc, SCHEMA);
     let mut core = Core::make(alloc, schema, PlainTree::empty(alloc), limits);
     let mut model = Entries::empty(alloc);
-    let mut now = 0u64;
-    for round in 0..rounds {
-        let further = STEPS
-            .get(generator.place(STEPS.len()))
-            .copied()
-            .unwrap_or(0);
-        now = now.saturating_add(further);
-        let place = generator.place(ASKS.len());
-        let asked = ASKS.get(place).copied().unwrap_or((Asked::Set, X));
-        let ask = ask_of(rt, alloc, core.schema(), asked.1, asked.0).expect(rt, "an ask");
-        let answer = step(rt, alloc, &mut core, now, 1, ask);
-        let model_answer = expected(rt, alloc, &limits, &mut model, now, asked);
-        assert_eq!(rt; answer, model_answer, "round {round}, ask {place} at {now}");
-    }
-    let mut patterns = Paths::empty(alloc);
-    patterns.push(path_of(rt, alloc, "/")).expect(rt, "memory");
-    let view = core.look(alloc, &patterns).expect(rt, "memory");
-    let world = world_of(alloc, model.items()).expect(rt, "memory");
-    assert!(rt; view.rows == world.tree, "the tree");
-    assert!(rt; core.entries() == model.items(), "the entries");
-    model
-        .items()
-        .iter()
-        .filter(|entry| entry.author == 0)
-        .count()
+    compare_events(rt, alloc, generator, &limits, &mut core, &mut model, rounds);
+    assert_same(rt, alloc, &core, &model);
+    expired(model.items())
 }
 
 #[test]

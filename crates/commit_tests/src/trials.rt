@@ -1,6 +1,8 @@
+ghost use Rattle.commit_core.specs.CoreView.{IsReplayable};
+
 use crate::builders::{path_of, schema_of};
 use crate::requests::{Asked, Changed, NOTHING, ask_of, marks_of, pass, step};
-use base_kinds::{Limits, Paths, Refusal, Seq, View};
+use base_kinds::{Entries, Limits, Paths, Refusal, Seq, View};
 use commit_core::Core;
 use plain_tree::PlainTree;
 use std::alloc::Global;
@@ -100,15 +102,26 @@ fn rows_of(rt: &impl Abort, alloc: Global, core: &Core<PlainTree>) -> View {
     core.look(alloc, &patterns).expect(rt, "memory")
 }
 
+/// No trial is open behind this last entry, and there are so many rows.
+fn assert_closed(
+    rt: &impl Abort,
+    alloc: Global,
+    core: &Core<PlainTree>,
+    last: (u64, u32, u64),
+    rows: usize,
+) {
+    assert_eq!(rt; core.entries().last().map(marks_of), Some(last));
+    assert_eq!(rt; rows_of(rt, alloc, core).rows.len(), rows);
+    assert!(rt; !core.is_trial_open());
+}
+
 #[test]
 fn a_trial_ends_at_its_deadline(rt: HostRuntime) {
     let alloc = rt.alloc();
     for (lines, last, rows) in DEADLINES.iter().copied() {
         let mut core = new_core(&rt, alloc, LIMITS);
         walk(&rt, alloc, &mut core, lines);
-        assert_eq!(rt; core.entries().last().map(marks_of), Some(last));
-        assert_eq!(rt; rows_of(&rt, alloc, &core).rows.len(), rows);
-        assert!(rt; !core.is_trial_open());
+        assert_closed(&rt, alloc, &core, last, rows);
     }
 }
 
@@ -143,25 +156,36 @@ const CANCELLED: &[Line] = &[
     },
 ];
 
+const CANCELLED_AGAIN: &[Line] = &[Line {
+    now: 1000,
+    changed: NOTHING,
+    asked: Asked::Cancel("t"),
+    answer: Err(Refusal::NoTrial),
+}];
+
+/// The rows are the three of this view again, behind an entry with this stamp.
+fn assert_back(rt: &impl Abort, before: &View, after: &View, stamp: u64) {
+    assert_eq!(rt; after.stamp, stamp);
+    assert_eq!(rt; before.rows.len(), 3);
+    assert!(rt; after.rows == before.rows);
+}
+
+/// Of the three lines the trial leaves two rows, and its cancel those of before.
+fn assert_cancelled(rt: &impl Abort, alloc: Global, core: &mut Core<PlainTree>, before: &View) {
+    walk(rt, alloc, core, &CANCELLED[1..2]);
+    assert_eq!(rt; rows_of(rt, alloc, core).rows.len(), 2);
+    walk(rt, alloc, core, &CANCELLED[2..]);
+    assert_back(rt, before, &rows_of(rt, alloc, core), 1002);
+}
+
 #[test]
 fn a_cancel_brings_the_tree_back(rt: HostRuntime) {
     let alloc = rt.alloc();
     let mut core = new_core(&rt, alloc, LIMITS);
     walk(&rt, alloc, &mut core, &CANCELLED[..1]);
     let before = rows_of(&rt, alloc, &core);
-    walk(&rt, alloc, &mut core, &CANCELLED[1..2]);
-    assert_eq!(rt; rows_of(&rt, alloc, &core).rows.len(), 2);
-    walk(&rt, alloc, &mut core, &CANCELLED[2..]);
-    let after = rows_of(&rt, alloc, &core);
-    assert_eq!(rt; after.stamp, 1002);
-    assert_eq!(rt; (before.rows.len(), after.rows == before.rows), (3, true));
-    let again = Line {
-        now: 1000,
-        changed: NOTHING,
-        asked: Asked::Cancel("t"),
-        answer: Err(Refusal::NoTrial),
-    };
-    walk(&rt, alloc, &mut core, &[again]);
+    assert_cancelled(&rt, alloc, &mut core, &before);
+    walk(&rt, alloc, &mut core, CANCELLED_AGAIN);
 }
 
 /// What is refused while a trial is open, and before.
@@ -272,21 +296,39 @@ fn an_extend_counts_from_its_own_stamp(rt: HostRuntime) {
     assert_eq!(rt; core.entries().len(), 4);
 }
 
+/// The entries of a trial that has begun.
+fn begun(rt: &impl Abort, alloc: Global) -> Entries
+    ensures { IsReplayable result }
+{
+    let mut core = new_core(rt, alloc, LIMITS);
+    walk(rt, alloc, &mut core, &[BEGUN]);
+    core.into_entries()
+}
+
+/// The restart of an open trial is its second entry, and leaves no row.
+fn assert_restarted(rt: &impl Abort, alloc: Global, core: &mut Core<PlainTree>) {
+    assert!(rt; core.is_trial_open());
+    assert_eq!(rt; rows_of(rt, alloc, core).rows.len(), 1);
+    core.take(core.restart(1000));
+    assert_eq!(rt; core.entries().last().map(marks_of), Some((2, 0, 1001)));
+    assert!(rt; rows_of(rt, alloc, core).rows.is_empty());
+    pass(core, u64::MAX);
+    assert_eq!(rt; core.entries().len(), 2);
+}
+
+/// A core that has replayed these entries.
+fn replayed(rt: &impl Abort, alloc: Global, entries: Entries) -> Core<PlainTree>
+    requires { IsReplayable entries }
+{
+    let mut core = new_core(rt, alloc, LIMITS);
+    assert!(rt; core.entries().is_empty());
+    core.replay(alloc, entries).expect(rt, "memory");
+    core
+}
+
 #[test]
 fn a_restart_ends_a_trial_that_was_replayed(rt: HostRuntime) {
     let alloc = rt.alloc();
-    let mut core = new_core(&rt, alloc, LIMITS);
-    walk(&rt, alloc, &mut core, &[BEGUN]);
-    let mut again = new_core(&rt, alloc, LIMITS);
-    assert!(rt; again.entries().is_empty());
-    again
-        .replay(alloc, core.into_entries())
-        .expect(&rt, "memory");
-    assert!(rt; again.is_trial_open());
-    assert_eq!(rt; rows_of(&rt, alloc, &again).rows.len(), 1);
-    again.take(again.restart(1000));
-    assert_eq!(rt; again.entries().last().map(marks_of), Some((2, 0, 1001)));
-    assert!(rt; rows_of(&rt, alloc, &again).rows.is_empty());
-    pass(&mut again, u64::MAX);
-    assert_eq!(rt; again.into_entries().len(), 2);
+    let mut core = replayed(&rt, alloc, begun(&rt, alloc));
+    assert_restarted(&rt, alloc, &mut core);
 }
