@@ -11,17 +11,14 @@ fn text_of(rt: &impl Abort, alloc: Global, text: &str) -> Text {
     Text::of(alloc, text.as_bytes()).expect(rt, "a text")
 }
 
-/// Whether the key of the value is this text.
-fn has_key(rt: &impl Abort, alloc: Global, value: &Value, text: &Text) -> bool {
-    key_text(alloc, value).expect(rt, "a key").same(text)
-}
-
 /// Whether the text is the key of a value of the shape, which is written as it.
 fn is_key(rt: &impl Abort, alloc: Global, shape: &Shape, text: &str) -> bool {
     let text = text_of(rt, alloc, text);
     match read_key(alloc, shape, &text) {
         Ok(Value::List(_)) => false,
-        Ok(value) => check_value(shape, &value) && has_key(rt, alloc, &value, &text),
+        Ok(value) => {
+            check_value(shape, &value) && key_text(alloc, &value).expect(rt, "a key").same(&text)
+        }
         Err(ValueFault::BadValue) => false,
         Err(ValueFault::NoMemory) => panic!(rt; "memory"),
     }
