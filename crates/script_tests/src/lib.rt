@@ -1,4 +1,5 @@
-//! Tests of scripts: their lines, what they print, the text of the log and the top call.
+//! Tests of scripts (their lines, what they print, the text of the log) and of the top call: over files, a disk, streams and a
+//! clock in memory, and with the command that serves a connection.
 #![tactic(auto)]
 
 #[cfg(test)]
@@ -17,6 +18,8 @@ mod program;
 mod runs;
 #[cfg(test)]
 mod scripts;
+#[cfg(test)]
+mod sessions;
 #[cfg(test)]
 mod stops;
 #[cfg(test)]

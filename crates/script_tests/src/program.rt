@@ -5,6 +5,7 @@ ghost use Rattle.edge_traits.specs.Memory.{input_of};
 use base_lists::{Bytes, Seq, Text, Texts};
 use edge_traits::{Failed, MemSink, MemSource, Sink, Source};
 use memory_disks::{FuseDisk, NO_STOP};
+use session_core::How;
 use std::alloc::Global;
 use std::collections::VecDeque;
 use std::process::Abort;
@@ -83,9 +84,11 @@ pub(crate) struct Given<'a> {
     pub(crate) bad_writes: &'a [u64],
     /// Whether the input gives, and the output takes, one octet at a time.
     pub(crate) by_octets: bool,
+    /// The readings of the clock, the last of which it goes on giving.
+    pub(crate) readings: &'a [u64],
 }
 
-/// No schema, an empty disk, no input, and nothing fails.
+/// No schema, an empty disk, no input, a clock without readings, and nothing fails.
 pub(crate) const NOTHING: Given<'static> = Given {
     schema: None,
     journal: b"",
@@ -94,12 +97,15 @@ pub(crate) const NOTHING: Given<'static> = Given {
     bad_reads: &[],
     bad_writes: &[],
     by_octets: false,
+    readings: &[],
 };
 
 /// How a run ended.
 #[derive(Drop)]
 pub(crate) struct End {
     pub(crate) status: u8,
+    /// How the connection of a session ended.
+    pub(crate) how: Option<How>,
     pub(crate) output: MemSink,
     /// How often a text of a file couldn't be read.
     pub(crate) file_faults: u64,
@@ -148,6 +154,10 @@ fn files_of(rt: &impl Abort, alloc: Global, given: &Given<'_>) -> MemFiles {
     MemFiles::of(name, schema, Some(disk))
 }
 
+fn clock_of(rt: &impl Abort, alloc: Global, readings: &[u64]) -> StepClock {
+    StepClock::make(Seq::of(alloc, readings).expect(rt, "memory"))
+}
+
 fn host_of(rt: &impl Abort, alloc: Global, given: &Given<'_>) -> Host<MemKit> {
     let input = octets_of(rt, alloc, given.input);
     Host {
@@ -162,7 +172,7 @@ fn host_of(rt: &impl Abort, alloc: Global, given: &Given<'_>) -> Host<MemKit> {
             by_octets: given.by_octets,
         },
         door: MemDoor::make(VecDeque::new(alloc)),
-        clock: StepClock::make(Seq::empty(alloc)),
+        clock: clock_of(rt, alloc, given.readings),
         pacer: IdlePacer,
     }
 }
@@ -179,6 +189,7 @@ pub(crate) fn run_with<A: Abort + Threads + Wait + Copy + Drop + Send + Sync + '
     let RunEnd {
         status,
         host,
+        how,
         disk,
         ..
     } = run(rt, alloc, words.as_slice(), &MemStarter::make(0), host);
@@ -191,6 +202,7 @@ pub(crate) fn run_with<A: Abort + Threads + Wait + Copy + Drop + Send + Sync + '
     let SlowSink { sink, .. } = output;
     End {
         status,
+        how,
         output: sink,
         file_faults: files.faults(),
         reads: input.reads,

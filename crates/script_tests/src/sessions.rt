@@ -1,5 +1,8 @@
-use crate::edges::{EMPTY_JOURNAL, End, Given, run_with, without_faults};
-use memory_disks::NO_STOP;
+//! The command that serves a connection: over files, a disk, streams and a clock in memory.
+use crate::program::{End, Given, NOTHING, run_with};
+use base_lists::Bytes;
+use disk_model::read_whole;
+use memory_disks::FuseDisk;
 use session_core::How;
 use std::alloc::Global;
 use std::process::Abort;
@@ -37,6 +40,31 @@ const REPLY: &[u8] = b"\0\0\x0c\x04\0\0\0\0\0\0\x03\0\0\0\x20\0\x06\0\0\x40\0\
 const LOG: &[u8] =
     b"1 1000 1 apply\n  update /interfaces/interface[name=eth0]/config/mtu\n    /interfaces/interface[name=eth0]/config/mtu 1500\n    /interfaces/interface[name=eth0]/name \"eth0\"\n";
 
+/// A journal without entries, of 65,536 entries and 268,435,456 octets at most.
+const EMPTY_JOURNAL: &[u8] = b"GNMIJRN1\0\x01\0\0\x10\0\0\0\0";
+
+/// Nothing stops, nothing fails, the journal has no entry, and the clock reads 5, and from then on 1000.
+fn without_faults<'a>(schema: &'a [u8], input: &'a [u8]) -> Given<'a> {
+    Given {
+        schema: Some(schema),
+        journal: EMPTY_JOURNAL,
+        input,
+        readings: &[5, 1000],
+        ..NOTHING
+    }
+}
+
+/// What a disk holds, and no octets where there is none.
+fn held(rt: &impl Abort, alloc: Global, disk: Option<FuseDisk>) -> Bytes {
+    match disk {
+        Some(disk) => {
+            let mut left = disk.image();
+            read_whole(alloc, &mut left).expect(rt, "a disk that doesn't fail")
+        }
+        None => Bytes::empty(alloc),
+    }
+}
+
 fn ended(end: &End, status: u8, how: Option<How>, written: &[u8]) -> bool {
     end.status == status && end.how == how && end.output.octets() == written
 }
@@ -46,8 +74,9 @@ fn a_session_answers_a_set_and_leaves_it_in_the_journal(rt: HostRuntime) -> Resu
     let alloc = rt.alloc();
     let end = run_with(&rt, alloc, "session S J", &without_faults(SCHEMA, SET));
     assert!(rt; ended(&end, 0, Some(How::Closed), REPLY));
+    let held = held(&rt, alloc, end.disk);
     let left = Given {
-        journal: end.held.items(),
+        journal: held.items(),
         ..without_faults(SCHEMA, b"")
     };
     let log = run_with(&rt, alloc, "log J", &left);
@@ -94,11 +123,9 @@ fn row_holds(
 ) -> bool {
     let (schema, journal, input, write_fails, status, how, written) = *row;
     let given = Given {
-        schema,
         journal,
-        input,
-        write_fails,
-        passes: NO_STOP,
+        bad_writes: if write_fails { &[1] } else { &[] },
+        ..without_faults(schema, input)
     };
     let end = run_with(rt, alloc, "session S J", &given);
     written <= REPLY.len() && ended(&end, status, how, &REPLY[..written])
@@ -123,8 +150,9 @@ fn a_cut_session_has_answered_what_was_whole(rt: HostRuntime) -> Result<(), Fail
         &without_faults(SCHEMA, &SET[..226]),
     );
     assert!(rt; ended(&cut, 10, Some(How::Cut), REPLY));
+    let held = held(&rt, alloc, cut.disk);
     let unfit = Given {
-        journal: cut.held.items(),
+        journal: held.items(),
         ..without_faults(b"", SET)
     };
     let refused = run_with(&rt, alloc, "session S J", &unfit);
