@@ -17,7 +17,7 @@ fn on_disk<'a>(journal: &'a [u8], passes: u64) -> Given<'a> {
 }
 
 /// What a disk holds, and no octets where there is none.
-fn held<A: Abort>(rt: &A, alloc: Global, disk: Option<FuseDisk>) -> Bytes {
+pub(crate) fn held<A: Abort>(rt: &A, alloc: Global, disk: Option<FuseDisk>) -> Bytes {
     match disk {
         Some(mut disk) => read_whole(alloc, &mut disk).expect(rt, "a disk that doesn't fail"),
         None => Bytes::empty(alloc),

@@ -1,8 +1,6 @@
 //! The command that serves a connection: over files, a disk, streams and a clock in memory.
+use crate::journals::held;
 use crate::program::{End, Given, NOTHING, run_with};
-use base_lists::Bytes;
-use disk_model::read_whole;
-use memory_disks::FuseDisk;
 use session_core::How;
 use std::alloc::Global;
 use std::process::Abort;
@@ -54,17 +52,6 @@ fn without_faults<'a>(schema: &'a [u8], input: &'a [u8]) -> Given<'a> {
     }
 }
 
-/// What a disk holds, and no octets where there is none.
-fn held(rt: &impl Abort, alloc: Global, disk: Option<FuseDisk>) -> Bytes {
-    match disk {
-        Some(disk) => {
-            let mut left = disk.image();
-            read_whole(alloc, &mut left).expect(rt, "a disk that doesn't fail")
-        }
-        None => Bytes::empty(alloc),
-    }
-}
-
 fn ended(end: &End, status: u8, how: Option<How>, written: &[u8]) -> bool {
     end.status == status && end.how == how && end.output.octets() == written
 }
@@ -74,9 +61,9 @@ fn a_session_answers_a_set_and_leaves_it_in_the_journal(rt: HostRuntime) -> Resu
     let alloc = rt.alloc();
     let end = run_with(&rt, alloc, "session S J", &without_faults(SCHEMA, SET));
     assert!(rt; ended(&end, 0, Some(How::Closed), REPLY));
-    let held = held(&rt, alloc, end.disk);
+    let journal = held(&rt, alloc, end.disk);
     let left = Given {
-        journal: held.items(),
+        journal: journal.items(),
         ..without_faults(SCHEMA, b"")
     };
     let log = run_with(&rt, alloc, "log J", &left);
@@ -150,9 +137,9 @@ fn a_cut_session_has_answered_what_was_whole(rt: HostRuntime) -> Result<(), Fail
         &without_faults(SCHEMA, &SET[..226]),
     );
     assert!(rt; ended(&cut, 10, Some(How::Cut), REPLY));
-    let held = held(&rt, alloc, cut.disk);
+    let journal = held(&rt, alloc, cut.disk);
     let unfit = Given {
-        journal: held.items(),
+        journal: journal.items(),
         ..without_faults(b"", SET)
     };
     let refused = run_with(&rt, alloc, "session S J", &unfit);
