@@ -7,17 +7,14 @@ use hpack_block::{BlockFault, Decoder, Header, Headers, encode_block};
 use std::alloc::Global;
 use std::process::Abort;
 
-fn assert_bad(rt: &impl Abort, alloc: Global, block: &[u8]) {
+fn is_refused(decoder: &mut Decoder, alloc: Global, block: &[u8]) -> bool {
+    matches!(decoder.block(alloc, block), Err(BlockFault::Bad))
+}
+
+/// Whether the block is refused, and then each other one.
+fn is_bad(alloc: Global, block: &[u8]) -> bool {
     let mut decoder = Decoder::make(alloc);
-    assert!(rt;
-        matches!(decoder.block(alloc, block), Err(BlockFault::Bad)),
-        "{block:?}"
-    );
-    // And so it stays.
-    assert!(rt;
-        matches!(decoder.block(alloc, b"\x82"), Err(BlockFault::Bad)),
-        "{block:?}"
-    );
+    is_refused(&mut decoder, alloc, block) && is_refused(&mut decoder, alloc, b"\x82")
 }
 
 /// The verdicts of python-hpack, and this product's bounds on integers.
@@ -56,8 +53,8 @@ const NO_BLOCKS: &[&[u8]] = &[
 
 #[test]
 fn refuses_what_is_no_block(rt: HostRuntime) {
-    for block in NO_BLOCKS.iter().copied() {
-        assert_bad(&rt, rt.alloc(), block);
+    for block in NO_BLOCKS {
+        assert!(rt; is_bad(rt.alloc(), block), "{block:?}");
     }
 }
 
@@ -87,22 +84,32 @@ fn says_a_b(decoder: &mut Decoder, alloc: Global, block: &[u8]) -> bool {
         })
 }
 
+fn takes(decoder: &mut Decoder, alloc: Global, block: &[u8]) -> bool {
+    decoder.block(alloc, block).is_ok()
+}
+
+/// Whether the block is too long, and also where `a` with the value `b` is added to the table behind it.
+fn is_too_long_twice(decoder: &mut Decoder, alloc: Global, block: Bytes) -> bool {
+    let mut block = block;
+    is_too_long(decoder, alloc, block.items())
+        && block.extend_from_slice(b"\x40\x01a\x01b").is_ok()
+        && is_too_long(decoder, alloc, block.items())
+}
+
+/// Whether a list of 16,384 is taken, one that is longer by 1 isn't, and what its block adds past the limit stands in the table.
+fn goes_on(rt: &impl Abort, decoder: &mut Decoder, alloc: Global) -> bool {
+    // 16,352 and 32 are 16,384.
+    // 16,352 is 127 + 97 + 126 * 128.
+    let block = long_block(rt, alloc, b"\x7f\xe1\x7e", 16_352);
+    let is_taken = takes(decoder, alloc, block.items());
+    let longer = long_block(rt, alloc, b"\x7f\xe2\x7e", 16_353);
+    is_taken && is_too_long_twice(decoder, alloc, longer) && says_a_b(decoder, alloc, b"\xbe")
+}
+
 #[test]
 fn takes_a_list_of_16_384_and_goes_on_after_a_longer_one(rt: HostRuntime) {
     let alloc = rt.alloc();
-    let mut decoder = Decoder::make(alloc);
-    // 16,352 and 32 are 16,384.
-    // 16,352 is 127 + 97 + 126 * 128.
-    let mut block = long_block(&rt, alloc, b"\x7f\xe1\x7e", 16_352);
-    assert!(rt; decoder.block(alloc, block.items()).is_ok());
-    block = long_block(&rt, alloc, b"\x7f\xe2\x7e", 16_353);
-    assert!(rt; is_too_long(&mut decoder, alloc, block.items()));
-    // What a block adds past its limit stands in the table.
-    block
-        .extend_from_slice(b"\x40\x01a\x01b")
-        .expect(&rt, "memory");
-    assert!(rt; is_too_long(&mut decoder, alloc, block.items()));
-    assert!(rt; says_a_b(&mut decoder, alloc, b"\xbe"));
+    assert!(rt; goes_on(&rt, &mut Decoder::make(alloc), alloc));
 }
 
 fn written(alloc: Global, name: &[u8], value: &[u8]) -> Result<Bytes, NoMemory>
@@ -140,7 +147,7 @@ fn is_written_as(alloc: Global, name: &[u8], value: &[u8], octets: &[u8]) -> boo
 
 #[test]
 fn writes_each_form(rt: HostRuntime) {
-    for (name, value, octets) in FORMS.iter().copied() {
+    for (name, value, octets) in FORMS {
         assert!(rt; is_written_as(rt.alloc(), name, value, octets), "{name:?}");
     }
 }

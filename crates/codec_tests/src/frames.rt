@@ -30,8 +30,9 @@ fn written_again(alloc: Global, octets: &[u8]) -> Result<Bytes, NoMemory> {
     Ok(out)
 }
 
-fn is_written_again(alloc: Global, octets: &[u8]) -> bool {
-    written_again(alloc, octets).is_ok_and(|again| again.items() == octets)
+/// Whether the frame that these octets are is written as those.
+fn is_written_as(alloc: Global, octets: &[u8], again: &[u8]) -> bool {
+    written_again(alloc, octets).is_ok_and(|written| written.items() == again)
 }
 
 /// A frame's octets, and the length, the kind, the flags and the stream of its head.
@@ -75,11 +76,15 @@ fn is_frame(octets: &[u8], (length, kind, flags, stream): (u32, u8, u8, u32)) ->
     read_frame(octets, MAX) == Got::Frame(head(length, kind, flags, stream), octets.len())
 }
 
+/// Whether these octets are one frame with this head, and written so.
+fn is_frame_both_ways(alloc: Global, octets: &[u8], head: (u32, u8, u8, u32)) -> bool {
+    is_frame(octets, head) && is_written_as(alloc, octets, octets)
+}
+
 #[test]
 fn frames_of_another_library(rt: HostRuntime) {
-    for (octets, head) in FRAMES.iter().copied() {
-        assert!(rt; is_frame(octets, head), "{octets:?}");
-        assert!(rt; is_written_again(rt.alloc(), octets), "{octets:?}");
+    for (octets, head) in FRAMES {
+        assert!(rt; is_frame_both_ways(rt.alloc(), octets, *head), "{octets:?}");
     }
 }
 
@@ -105,18 +110,15 @@ const RESERVED: &[Frame] = &[
 
 #[test]
 fn reserved_bit_is_ignored_and_written_as_zero(rt: HostRuntime) {
-    for (octets, head) in RESERVED.iter().copied() {
-        assert!(rt; is_frame(octets, head), "{octets:?}");
+    for (octets, head) in RESERVED {
+        assert!(rt; is_frame(octets, *head), "{octets:?}");
     }
-    let again = written_again(
+    let is_written_as_zero = is_written_as(
         rt.alloc(),
         &[0, 0, 1, 10, 0x93, 0x97, 0x3d, 0xf0, 0x39, 0xd4],
-    )
-    .expect(&rt, "memory");
-    assert_eq!(rt;
-        again.items(),
-        [0, 0, 1, 10, 0x93, 0x17, 0x3d, 0xf0, 0x39, 0xd4].as_slice()
+        &[0, 0, 1, 10, 0x93, 0x17, 0x3d, 0xf0, 0x39, 0xd4],
     );
+    assert!(rt; is_written_as_zero);
 }
 
 #[test]
@@ -157,8 +159,8 @@ const LENGTHS: &[(&[u8], u32, Got)] = &[
 
 #[test]
 fn lengths_against_the_most_that_is_allowed(rt: HostRuntime) {
-    for (octets, max, got) in LENGTHS.iter().copied() {
-        assert_eq!(rt; read_frame(octets, max), got, "{octets:?}");
+    for (octets, max, got) in LENGTHS {
+        assert_eq!(rt; read_frame(octets, *max), *got, "{octets:?}");
     }
 }
 
@@ -178,15 +180,21 @@ fn frame_of_zeros(alloc: Global, length: u32) -> Result<Bytes, NoMemory>
     Ok(out)
 }
 
+/// Whether this is what is got of a frame with so many octets of payload.
+fn is_got(alloc: Global, length: u32, got: Got) -> bool
+    requires { length < 2 ^ 24 }
+{
+    match frame_of_zeros(alloc, length) {
+        Ok(frame) => read_frame(frame.items(), MAX) == got,
+        Err(NoMemory) => false,
+    }
+}
+
 #[test]
 fn longest_frame_that_is_allowed(rt: HostRuntime) {
-    let frame = frame_of_zeros(rt.alloc(), MAX).expect(&rt, "memory");
-    assert_eq!(rt;
-        read_frame(frame.items(), MAX),
-        Got::Frame(head(MAX, 0, 0, 1), 16_393)
-    );
-    let longer = frame_of_zeros(rt.alloc(), MAX + 1).expect(&rt, "memory");
-    assert_eq!(rt; read_frame(longer.items(), MAX), Got::Bad(6));
+    let whole = Got::Frame(head(MAX, 0, 0, 1), 16_393);
+    assert!(rt; is_got(rt.alloc(), MAX, whole));
+    assert!(rt; is_got(rt.alloc(), MAX + 1, Got::Bad(6)));
 }
 
 #[test]

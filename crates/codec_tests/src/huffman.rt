@@ -2,12 +2,11 @@
 use base_lists::Bytes;
 use hpack_huff::{HuffFault, huff_decode};
 use std::alloc::Global;
-use std::process::Abort;
 
-fn assert_decodes(rt: &impl Abort, alloc: Global, octets: &[u8], text: &[u8]) {
+/// Whether these octets are decoded to this text.
+fn decodes(alloc: Global, octets: &[u8], text: &[u8]) -> bool {
     let mut out = Bytes::empty(alloc);
-    assert_eq!(rt; huff_decode(octets, &mut out), Ok(()), "{octets:?}");
-    assert_eq!(rt; out.items(), text, "{octets:?}");
+    huff_decode(octets, &mut out) == Ok(()) && out.items() == text
 }
 
 /// RFC 7541, appendices C.4 and C.6.
@@ -39,8 +38,8 @@ const EXAMPLES: &[(&[u8], &[u8])] = &[
 
 #[test]
 fn decodes_the_examples_of_the_rfc(rt: HostRuntime) {
-    for (octets, text) in EXAMPLES.iter().copied() {
-        assert_decodes(&rt, rt.alloc(), octets, text);
+    for (octets, text) in EXAMPLES {
+        assert!(rt; decodes(rt.alloc(), octets, text), "{octets:?}");
     }
 }
 
@@ -65,8 +64,8 @@ const CODED: &[(&[u8], &[u8])] = &[
 
 #[test]
 fn decodes_what_another_library_coded(rt: HostRuntime) {
-    for (octets, text) in CODED.iter().copied() {
-        assert_decodes(&rt, rt.alloc(), octets, text);
+    for (octets, text) in CODED {
+        assert!(rt; decodes(rt.alloc(), octets, text), "{octets:?}");
     }
 }
 
@@ -85,8 +84,8 @@ const PADDED: &[(&[u8], &[u8])] = &[
 
 #[test]
 fn takes_padding_of_up_to_seven_ones(rt: HostRuntime) {
-    for (octets, text) in PADDED.iter().copied() {
-        assert_decodes(&rt, rt.alloc(), octets, text);
+    for (octets, text) in PADDED {
+        assert!(rt; decodes(rt.alloc(), octets, text), "{octets:?}");
     }
 }
 
@@ -106,22 +105,24 @@ const REFUSED: &[&[u8]] = &[
     b"\x78\x0c\x7b\xff",
 ];
 
+fn is_refused(alloc: Global, octets: &[u8]) -> bool {
+    huff_decode(octets, &mut Bytes::empty(alloc)) == Err(HuffFault::BadCode)
+}
+
 #[test]
 fn refuses_long_padding_zeros_and_the_end_mark(rt: HostRuntime) {
-    for octets in REFUSED.iter().copied() {
-        let mut out = Bytes::empty(rt.alloc());
-        assert_eq!(rt;
-            huff_decode(octets, &mut out),
-            Err(HuffFault::BadCode),
-            "{octets:?}"
-        );
+    for octets in REFUSED {
+        assert!(rt; is_refused(rt.alloc(), octets), "{octets:?}");
     }
+}
+
+/// Whether these octets, decoded behind `>`, give this text.
+fn decodes_behind(alloc: Global, octets: &[u8], text: &[u8]) -> bool {
+    let mut out = Bytes::empty(alloc);
+    out.push(b'>').is_ok() && huff_decode(octets, &mut out) == Ok(()) && out.items() == text
 }
 
 #[test]
 fn adds_at_the_end_of_what_is_there(rt: HostRuntime) {
-    let mut out = Bytes::empty(rt.alloc());
-    out.push(b'>').expect(&rt, "memory");
-    assert_eq!(rt; huff_decode(b"\x64\x02", &mut out), Ok(()));
-    assert_eq!(rt; out.items(), b">302".as_slice());
+    assert!(rt; decodes_behind(rt.alloc(), b"\x64\x02", b">302"));
 }

@@ -28,13 +28,15 @@ fn prints(alloc: Global, fault: TextOfFault, text: &str) -> bool {
     format!(in alloc; "{fault}").is_ok_and(|printed| printed.as_str() == text)
 }
 
+fn want_prints(alloc: Global, text: &str) -> bool {
+    format!(in alloc; "{}", NoMemory).is_ok_and(|printed| printed.as_str() == text)
+}
+
 #[test]
 fn faults_print_as_they_are_called(rt: HostRuntime) {
-    let alloc = rt.alloc();
-    let printed = format!(in alloc; "{}", NoMemory);
-    assert!(rt; printed.is_ok_and(|text| text.as_str() == "no memory"));
-    assert!(rt; prints(alloc, TextOfFault::NotUtf8, "not utf-8"));
-    assert!(rt; prints(alloc, TextOfFault::NoMemory, "no memory"));
+    assert!(rt; want_prints(rt.alloc(), "no memory"));
+    assert!(rt; prints(rt.alloc(), TextOfFault::NotUtf8, "not utf-8"));
+    assert!(rt; prints(rt.alloc(), TextOfFault::NoMemory, "no memory"));
 }
 
 // RFC 3629 3 and 4: each form at its bounds.
@@ -65,14 +67,17 @@ fn is_text_of(alloc: Global, octets: &[u8]) -> bool {
     Text::of(alloc, octets).is_ok_and(|text| text.octets() == octets)
 }
 
+fn is_no_text(alloc: Global, octets: &[u8]) -> bool {
+    matches!(Text::of(alloc, octets), Err(TextOfFault::NotUtf8))
+}
+
 #[test]
 fn a_text_is_utf_8(rt: HostRuntime) {
-    for octets in UTF_8.iter().copied() {
+    for octets in UTF_8 {
         assert!(rt; is_text_of(rt.alloc(), octets), "taken: {octets:?}");
     }
-    for octets in NOT_UTF_8.iter().copied() {
-        let fault = Text::of(rt.alloc(), octets).err();
-        assert_eq!(rt; fault, Some(TextOfFault::NotUtf8), "refused: {octets:?}");
+    for octets in NOT_UTF_8 {
+        assert!(rt; is_no_text(rt.alloc(), octets), "refused: {octets:?}");
     }
 }
 
@@ -107,17 +112,26 @@ fn are_octets_in(order: Ordering, x: &Bytes, y: &Bytes) -> bool {
         && x.same(y) == is_equal
 }
 
+/// Whether the text has this order to that of the word.
+fn is_text_in(rt: &impl Abort, alloc: Global, order: Ordering, text: &Text, word: &str) -> bool {
+    are_texts_in(order, text, &text_of(rt, alloc, word))
+}
+
+/// Whether the list has this order to that of the word's octets.
+fn is_list_in(rt: &impl Abort, alloc: Global, order: Ordering, list: &Bytes, word: &str) -> bool {
+    are_octets_in(order, list, &octets_of(rt, alloc, word.as_bytes()))
+}
+
 #[test]
 fn lists_and_texts_are_the_same_or_in_order(rt: HostRuntime) {
     let alloc = rt.alloc();
-    for (a, b, order) in ORDERS.iter().copied() {
-        let texts = (text_of(&rt, alloc, a), text_of(&rt, alloc, b));
-        assert!(rt; are_texts_in(order, &texts.0, &texts.1), "texts {a} {b}");
+    for (a, b, order) in ORDERS {
+        let is_in_order = is_text_in(&rt, alloc, *order, &text_of(&rt, alloc, a), b);
+        assert!(rt; is_in_order, "texts {a} {b}");
     }
-    for (a, b, order) in ORDERS.iter().copied() {
-        let x = octets_of(&rt, alloc, a.as_bytes());
-        let y = octets_of(&rt, alloc, b.as_bytes());
-        assert!(rt; are_octets_in(order, &x, &y), "octets {a} {b}");
+    for (a, b, order) in ORDERS {
+        let is_in_order = is_list_in(&rt, alloc, *order, &octets_of(&rt, alloc, a.as_bytes()), b);
+        assert!(rt; is_in_order, "octets {a} {b}");
     }
 }
 
@@ -130,14 +144,33 @@ const LISTS: &[(&[&str], Ordering)] = &[
     (&["a", "a", "z"], Ordering::Greater),
 ];
 
+fn have_order(one: &Texts, other: &Texts, order: Ordering) -> bool {
+    one.cmp(other) == order && one.same(other) == (order == Ordering::Equal)
+}
+
+/// Whether the list has this order to that of the words.
+fn has_order_to(
+    rt: &impl Abort,
+    alloc: Global,
+    list: &Texts,
+    words: &[&str],
+    order: Ordering,
+) -> bool {
+    have_order(list, &texts_of(rt, alloc, words), order)
+}
+
 #[test]
 fn a_list_of_texts_compares_text_by_text(rt: HostRuntime) {
     let alloc = rt.alloc();
-    let one = texts_of(&rt, alloc, &["a", "b"]);
-    for (words, order) in LISTS.iter().copied() {
-        let other = texts_of(&rt, alloc, words);
-        let found = (one.cmp(&other), one.same(&other));
-        assert_eq!(rt; found, (order, order == Ordering::Equal), "{words:?}");
+    for (words, order) in LISTS {
+        let is_in_order = has_order_to(
+            &rt,
+            alloc,
+            &texts_of(&rt, alloc, &["a", "b"]),
+            words,
+            *order,
+        );
+        assert!(rt; is_in_order, "{words:?}");
     }
 }
 
@@ -164,16 +197,34 @@ fn a_copy_is_a_value_of_its_own(rt: HostRuntime) {
     );
 }
 
+fn is_same_as_copy(alloc: Global, pair: &(Bytes, u8)) -> bool {
+    pair.copy(alloc)
+        .is_ok_and(|copy| are_same_pairs(&copy, pair))
+}
+
+/// Whether the pair is the same as that of the octets and the number.
+fn is_same_as(
+    rt: &impl Abort,
+    alloc: Global,
+    pair: &(Bytes, u8),
+    octets: &[u8],
+    number: u8,
+) -> bool {
+    are_same_pairs(&(octets_of(rt, alloc, octets), number), pair)
+}
+
+/// Whether the pair of `name` and 7 is the same as its copy, and as no other one.
+fn is_same_alone(rt: &impl Abort, alloc: Global, pair: &(Bytes, u8)) -> bool {
+    is_same_as_copy(alloc, pair)
+        && !is_same_as(rt, alloc, pair, b"name", 8)
+        && !is_same_as(rt, alloc, pair, b"nam", 7)
+}
+
 #[test]
 fn a_pair_is_the_same_by_both_its_parts(rt: HostRuntime) {
     let alloc = rt.alloc();
-    let pair = (octets_of(&rt, alloc, b"name"), 7u8);
-    let copy = pair.copy(alloc).expect(&rt, "memory");
-    assert!(rt; are_same_pairs(&copy, &pair));
-    let other = (octets_of(&rt, alloc, b"name"), 8u8);
-    assert!(rt; !are_same_pairs(&other, &pair));
-    let other = (octets_of(&rt, alloc, b"nam"), 7u8);
-    assert!(rt; !are_same_pairs(&other, &pair));
+    let is_same = is_same_alone(&rt, alloc, &(octets_of(&rt, alloc, b"name"), 7));
+    assert!(rt; is_same);
 }
 
 fn five_octets(rt: &impl Abort, alloc: Global) -> Bytes {
@@ -184,19 +235,27 @@ fn five_octets(rt: &impl Abort, alloc: Global) -> Bytes {
     list
 }
 
+/// Whether the list gives these octets, the first and the fifth of them, and no sixth.
+fn gives(list: &Bytes, octets: &[u8; 5]) -> bool {
+    !list.is_empty()
+        && list.items() == octets.as_slice()
+        && list.get(0) == Some(&octets[0])
+        && list.get(4) == Some(&octets[4])
+        && list.get(5).is_none()
+}
+
+/// Whether the list gives these octets, one at a time, all, and as what it is made of.
+fn is_made_of(list: Bytes, octets: &[u8; 5]) -> bool {
+    let are_given = gives(&list, octets);
+    let made_of = list.into_vec();
+    are_given && made_of.as_slice() == octets.as_slice()
+}
+
 #[test]
 fn a_list_gives_its_items(rt: HostRuntime) {
     let alloc = rt.alloc();
-    let list = five_octets(&rt, alloc);
-    assert!(rt; Bytes::empty(alloc).is_empty() && !list.is_empty());
-    assert_eq!(rt; list.items(), [5, 6, 7, 8, 9].as_slice());
-    let at = (
-        list.get(0).copied(),
-        list.get(4).copied(),
-        list.get(5).copied(),
-    );
-    assert_eq!(rt; at, (Some(5), Some(9), None));
-    assert_eq!(rt; list.into_vec().as_slice(), [5, 6, 7, 8, 9].as_slice());
+    assert!(rt; Bytes::empty(alloc).is_empty());
+    assert!(rt; is_made_of(five_octets(&rt, alloc), &[5, 6, 7, 8, 9]));
 }
 
 #[test]
@@ -225,11 +284,14 @@ fn keys_of(rt: &impl Abort, alloc: Global, words: &[&str]) -> Seq<(Text, u8)> {
     keys
 }
 
+fn names_rise(rt: &impl Abort, alloc: Global, words: &[&str]) -> bool {
+    rises(keys_of(rt, alloc, words).items())
+}
+
 #[test]
 fn names_that_rise_and_names_that_do_not(rt: HostRuntime) {
-    for (words, is_rising) in NAMES.iter().copied() {
-        let keys = keys_of(&rt, rt.alloc(), words);
-        assert_eq!(rt; rises(keys.items()), is_rising, "{words:?}");
+    for (words, is_rising) in NAMES {
+        assert_eq!(rt; names_rise(&rt, rt.alloc(), words), *is_rising, "{words:?}");
     }
 }
 
@@ -242,11 +304,14 @@ const GROUPS: &[(u64, &[u8])] = &[
     (u64::MAX, b"\xff\xff\xff\xff\xff\xff\xff\xff\xff\x01"),
 ];
 
+fn are_groups_of(alloc: Global, number: u64, octets: &[u8]) -> bool {
+    let mut out = Bytes::empty(alloc);
+    put_groups(number, &mut out).is_ok() && out.items() == octets
+}
+
 #[test]
 fn groups_of_seven_bits_are_as_the_field_writes_them(rt: HostRuntime) {
-    for (number, octets) in GROUPS.iter().copied() {
-        let mut out = Bytes::of(rt.alloc(), b"").expect(&rt, "memory");
-        put_groups(number, &mut out).expect(&rt, "memory");
-        assert_eq!(rt; out.items(), octets, "{number}");
+    for (number, octets) in GROUPS {
+        assert!(rt; are_groups_of(rt.alloc(), *number, octets), "{number}");
     }
 }

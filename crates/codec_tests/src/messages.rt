@@ -100,12 +100,16 @@ fn is_bad(alloc: Global, octets: &[u8]) -> bool {
     matches!(fields_of(alloc, octets), Err(WireFault::BadMessage))
 }
 
+fn is_read(alloc: Global, octets: &[u8]) -> bool {
+    fields_of(alloc, octets).is_ok()
+}
+
 #[test]
 fn outside_messages_are_read_or_refused(rt: HostRuntime) {
-    for octets in READ.iter().copied() {
-        assert!(rt; fields_of(rt.alloc(), octets).is_ok());
+    for octets in READ {
+        assert!(rt; is_read(rt.alloc(), octets));
     }
-    for octets in REFUSED.iter().copied() {
+    for octets in REFUSED {
         assert!(rt; is_bad(rt.alloc(), octets));
     }
 }
@@ -132,21 +136,29 @@ const NO_VARINTS: &[&[u8]] = &[
     b"\x08\x80",
 ];
 
+/// Whether these octets are a message of these fields.
+fn has_fields(alloc: Global, octets: &[u8], wanted: &[Field]) -> bool {
+    match fields_of(alloc, octets) {
+        Ok(fields) => fields.items() == wanted,
+        Err(_) => false,
+    }
+}
+
 /// Whether these octets are a message with this varint under 1 alone.
 fn is_varint(alloc: Global, octets: &[u8], value: u64) -> bool {
     let wanted = [Field {
         number: 1,
         body: Body::Varint(value),
     }];
-    fields_of(alloc, octets).is_ok_and(|fields| fields.items() == wanted.as_slice())
+    has_fields(alloc, octets, &wanted)
 }
 
 #[test]
 fn varints_are_read_up_to_their_limits(rt: HostRuntime) {
-    for (octets, value) in VARINTS.iter().copied() {
-        assert!(rt; is_varint(rt.alloc(), octets, value), "{value}");
+    for (octets, value) in VARINTS {
+        assert!(rt; is_varint(rt.alloc(), octets, *value), "{value}");
     }
-    for octets in NO_VARINTS.iter().copied() {
+    for octets in NO_VARINTS {
         assert!(rt; is_bad(rt.alloc(), octets));
     }
 }
@@ -161,15 +173,20 @@ const NO_TAGS: &[&[u8]] = &[
     b"\x0f\x00",
 ];
 
+/// The last varint under a number of the message that these octets are; none where they are no message.
+fn varint_in(alloc: Global, octets: &[u8], number: u32) -> Option<u64> {
+    match fields_of(alloc, octets) {
+        Ok(fields) => last_varint(fields.items(), number),
+        Err(_) => None,
+    }
+}
+
 #[test]
 fn tags_are_read_up_to_their_limits(rt: HostRuntime) {
     // 536,870,911 is the last field number; 0 and 536,870,912 are none
     let last = b"\xf8\xff\xff\xff\x0f\x05";
-    match fields_of(rt.alloc(), last) {
-        Ok(fields) => assert_eq!(rt; last_varint(fields.items(), 536_870_911), Some(5)),
-        Err(_) => panic!(rt; "the last number is read"),
-    }
-    for octets in NO_TAGS.iter().copied() {
+    assert_eq!(rt; varint_in(rt.alloc(), last, 536_870_911), Some(5));
+    for octets in NO_TAGS {
         assert!(rt; is_bad(rt.alloc(), octets));
     }
 }
@@ -178,30 +195,28 @@ fn tags_are_read_up_to_their_limits(rt: HostRuntime) {
 const MESSAGE: &[u8] =
     b"\x08\x96\x01\x12\x07testing\xfd\x0f\x01\x02\x03\x04\x19\x01\x00\x00\x00\x00\x00\x00\x80";
 
+const FIELDS: &[Field] = &[
+    Field {
+        number: 1,
+        body: Body::Varint(150),
+    },
+    Field {
+        number: 2,
+        body: Body::Octets(5, 12),
+    },
+    Field {
+        number: 255,
+        body: Body::Four(0x0403_0201),
+    },
+    Field {
+        number: 3,
+        body: Body::Eight(0x8000_0000_0000_0001),
+    },
+];
+
 #[test]
 fn fields_of_each_kind_are_listed_with_their_places(rt: HostRuntime) {
-    let wanted = [
-        Field {
-            number: 1,
-            body: Body::Varint(150),
-        },
-        Field {
-            number: 2,
-            body: Body::Octets(5, 12),
-        },
-        Field {
-            number: 255,
-            body: Body::Four(0x0403_0201),
-        },
-        Field {
-            number: 3,
-            body: Body::Eight(0x8000_0000_0000_0001),
-        },
-    ];
-    match fields_of(rt.alloc(), MESSAGE) {
-        Ok(fields) => assert_eq!(rt; fields.items(), wanted.as_slice()),
-        Err(_) => panic!(rt; "the message is read"),
-    }
+    assert!(rt; has_fields(rt.alloc(), MESSAGE, FIELDS));
     for end in 0..MESSAGE.len() {
         let whole = matches!(end, 0 | 3 | 12 | 18);
         assert_eq!(rt; is_bad(rt.alloc(), &MESSAGE[..end]), !whole, "cut at {end}");
@@ -211,10 +226,19 @@ fn fields_of_each_kind_are_listed_with_their_places(rt: HostRuntime) {
 #[test]
 fn the_last_scalar_wins(rt: HostRuntime) {
     let twice = b"\x18\xdc\x0b\x18\xf8\x0a";
-    let fields = fields_of(rt.alloc(), twice).expect(&rt, "two varints");
-    assert_eq!(rt; fields.len(), 2);
-    assert_eq!(rt; last_varint(fields.items(), 3), Some(1400));
-    assert_eq!(rt; last_varint(fields.items(), 4), None);
+    let wanted = [
+        Field {
+            number: 3,
+            body: Body::Varint(1500),
+        },
+        Field {
+            number: 3,
+            body: Body::Varint(1400),
+        },
+    ];
+    assert!(rt; has_fields(rt.alloc(), twice, &wanted));
+    assert_eq!(rt; varint_in(rt.alloc(), twice, 3), Some(1400));
+    assert_eq!(rt; varint_in(rt.alloc(), twice, 4), None);
 }
 
 /// Parts under 1, 2, 1 and 1.
@@ -231,47 +255,64 @@ fn is_joined(alloc: Global, number: u32, octets: Option<&[u8]>) -> bool {
         && out.items() == octets.unwrap_or_default()
 }
 
-#[test]
-fn octets_are_joined(rt: HostRuntime) {
-    assert!(rt; is_joined(rt.alloc(), 1, Some(b"abc")));
-    assert!(rt; is_joined(rt.alloc(), 3, None));
-    let fields = fields_of(rt.alloc(), PARTS).expect(&rt, "the parts");
-    for field in fields.items() {
-        assert_eq!(rt; varint_of(field, 1), None);
+fn are_no_varints(fields: &[Field]) -> bool {
+    for field in fields {
+        if varint_of(field, 1).is_some() {
+            return false;
+        }
+    }
+    true
+}
+
+fn has_no_varints(alloc: Global, octets: &[u8]) -> bool {
+    match fields_of(alloc, octets) {
+        Ok(fields) => are_no_varints(fields.items()),
+        Err(_) => false,
     }
 }
 
 #[test]
+fn octets_are_joined(rt: HostRuntime) {
+    assert!(rt; is_joined(rt.alloc(), 1, Some(b"abc")));
+    assert!(rt; is_joined(rt.alloc(), 3, None));
+    assert!(rt; has_no_varints(rt.alloc(), PARTS));
+}
+
+/// Whether the two varints and the two texts could be written.
+fn could_write(out: &mut Bytes) -> bool {
+    put_varint(1, 150, out).is_ok()
+        && put_octets(2, b"testing", out).is_ok()
+        && put_varint(2, u64::MAX - 4, out).is_ok()
+        && put_octets(15, b"", out).is_ok()
+}
+
+fn are_written_as(alloc: Global, octets: &[u8]) -> bool {
+    let mut out: Bytes = Seq::empty(alloc);
+    could_write(&mut out) && out.items() == octets
+}
+
+#[test]
 fn fields_are_written_as_others_write_them(rt: HostRuntime) {
-    let mut out: Bytes = Seq::empty(rt.alloc());
-    assert!(rt; put_varint(1, 150, &mut out).is_ok());
-    assert!(rt; put_octets(2, b"testing", &mut out).is_ok());
-    assert!(rt; put_varint(2, u64::MAX - 4, &mut out).is_ok());
-    assert!(rt; put_octets(15, b"", &mut out).is_ok());
     let wanted = b"\x08\x96\x01\x12\x07testing\x10\xfb\xff\xff\xff\xff\xff\xff\xff\xff\x01\x7a\x00";
-    assert_eq!(rt; out.items(), wanted.as_slice());
+    assert!(rt; are_written_as(rt.alloc(), wanted));
 }
 
 /// Three texts under 1, 2 and 1, and a varint under 1.
 const TEXTS: &[u8] = b"\x0a\x01a\x12\x01b\x0a\x01c\x08\x05";
 
+/// Whether the last text under a number is this one.
+fn is_last_text(alloc: Global, number: u32, text: Option<&[u8]>) -> bool {
+    match fields_of(alloc, TEXTS) {
+        Ok(fields) => last_octets(TEXTS, fields.items(), number) == text,
+        Err(_) => false,
+    }
+}
+
 #[test]
 fn the_last_text_wins_and_a_varint_is_none(rt: HostRuntime) {
-    let texts = TEXTS;
-    match fields_of(rt.alloc(), texts) {
-        Ok(fields) => {
-            assert_eq!(rt;
-                last_octets(texts, fields.items(), 1),
-                Some(b"c".as_slice())
-            );
-            assert_eq!(rt;
-                last_octets(texts, fields.items(), 2),
-                Some(b"b".as_slice())
-            );
-            assert_eq!(rt; last_octets(texts, fields.items(), 3), None);
-        }
-        Err(_) => panic!(rt; "the texts are read"),
-    }
+    assert!(rt; is_last_text(rt.alloc(), 1, Some(b"c")));
+    assert!(rt; is_last_text(rt.alloc(), 2, Some(b"b")));
+    assert!(rt; is_last_text(rt.alloc(), 3, None));
 }
 
 /// Members of a oneof, and how many fields it holds.
@@ -282,12 +323,19 @@ const MEMBERS: &[(&[(u32, u8)], usize)] = &[
     (&[(9, 2)], 4),
 ];
 
+/// How many fields the oneof of these members holds; none where the texts aren't read.
+fn count_in(alloc: Global, members: &[(u32, u8)]) -> Option<usize> {
+    match fields_of(alloc, TEXTS) {
+        Ok(fields) => Some(one_of(fields.items(), members).len()),
+        Err(_) => None,
+    }
+}
+
 // protobuf.dev, "Encoding", "Oneofs": the last member that was written is what a oneof holds.
 #[test]
 fn a_oneof_holds_the_run_of_its_last_member(rt: HostRuntime) {
-    let fields = fields_of(rt.alloc(), TEXTS).expect(&rt, "the texts");
-    for (members, count) in MEMBERS.iter().copied() {
-        assert_eq!(rt; one_of(fields.items(), members).len(), count);
+    for (members, count) in MEMBERS {
+        assert_eq!(rt; count_in(rt.alloc(), members), Some(*count));
     }
 }
 
@@ -299,11 +347,17 @@ const ENTRIES: &[(&[u8], &[u8], &[u8])] = &[
     (b"", b"", b""),
 ];
 
+fn is_entry(alloc: Global, entry: &[u8], key: &[u8], value: &[u8]) -> bool {
+    match fields_of(alloc, entry) {
+        Ok(fields) => entry_of(entry, fields.items()) == (key, value),
+        Err(_) => false,
+    }
+}
+
 #[test]
 fn an_entry_without_its_key_or_value_has_an_empty_one(rt: HostRuntime) {
-    for (entry, key, value) in ENTRIES.iter().copied() {
-        let fields = fields_of(rt.alloc(), entry).expect(&rt, "an entry");
-        assert_eq!(rt; entry_of(entry, fields.items()), (key, value));
+    for (entry, key, value) in ENTRIES {
+        assert!(rt; is_entry(rt.alloc(), entry, key, value));
     }
 }
 
@@ -313,21 +367,23 @@ const PLACES: &[(usize, usize)] = &[(0, 3), (3, 12), (12, 18), (18, 27)];
 /// No field begins at the end; and 96 01 is 150, whose lowest three bits are no wire type.
 const NO_PLACES: &[usize] = &[27, 1];
 
+/// Where the field that begins at this place ends; 0 where none does, and none past the end.
+fn end_from(place: usize) -> Option<usize> {
+    if place > MESSAGE.len() {
+        return None;
+    }
+    match next_field(MESSAGE, place) {
+        Some((_, end)) => Some(end),
+        None => Some(0),
+    }
+}
+
 #[test]
 fn fields_are_read_one_at_a_time(rt: HostRuntime) {
-    for (place, end) in PLACES.iter().copied() {
-        if place > MESSAGE.len() {
-            panic!(rt; "a place past the end");
-        }
-        match next_field(MESSAGE, place) {
-            Some((_, next)) => assert_eq!(rt; next, end),
-            None => panic!(rt; "a field is read"),
-        }
+    for (place, end) in PLACES {
+        assert_eq!(rt; end_from(*place), Some(*end));
     }
-    for place in NO_PLACES.iter().copied() {
-        if place > MESSAGE.len() {
-            panic!(rt; "a place past the end");
-        }
-        assert!(rt; next_field(MESSAGE, place).is_none());
+    for place in NO_PLACES {
+        assert_eq!(rt; end_from(*place), Some(0));
     }
 }

@@ -1,10 +1,11 @@
 ghost use Rattle.base_kinds.specs.Legal.{IsFit};
 
 use crate::builders::schema_of;
-use crate::requests::{Asked, Changed, NOTHING, ask_of, change_of, marks_of, resolved, step};
-use base_kinds::{Action, Ask, Changes, Limits, Path, Paths, Refusal, Row, Value};
+use crate::requests::{Asked, Changed, NOTHING, ask_of, changes_of, marks_of, resolved, step};
+use base_kinds::{Action, Ask, Changes, Limits, Path, Paths, Refusal, Row, Value, View};
 use commit_core::Core;
 use plain_tree::PlainTree;
+use schema_core::Schema;
 use std::alloc::Global;
 use std::process::Abort;
 
@@ -49,16 +50,24 @@ leaf /system/config/contact string\n\
 fn set_of(rt: &impl Abort, alloc: Global, schema: &str, word: &str, json: &str) -> Ask
     ensures { IsFit result }
 {
+    let updates = update_of(rt, alloc, word, json);
+    set_by(rt, alloc, &schema_of(rt, alloc, schema), updates)
+}
+
+/// An update of `/system/config/WORD` to the text of a JSON value.
+fn update_of(rt: &impl Abort, alloc: Global, word: &str, json: &str) -> Changes {
     let path = format!(in alloc; "/system/config/{word}").expect(rt, "memory");
-    let mut updates = Changes::empty(alloc);
-    updates
-        .push(change_of(rt, alloc, path.as_str(), json))
-        .expect(rt, "memory");
-    let schema = schema_of(rt, alloc, schema);
+    changes_of(rt, alloc, &[(path.as_str(), json)])
+}
+
+/// A Set of these updates by this schema.
+fn set_by(rt: &impl Abort, alloc: Global, schema: &Schema, updates: Changes) -> Ask
+    ensures { IsFit result }
+{
     resolved(
         rt,
         alloc,
-        &schema,
+        schema,
         Paths::empty(alloc),
         updates,
         Action::Plain,
@@ -111,9 +120,16 @@ fn first_text(
     alloc: Global,
     text: &str,
 ) -> (usize, bool, u64) {
+    first_text_in(&view_of_all(rt, core, alloc), text)
+}
+
+fn view_of_all(rt: &impl Abort, core: &Core<PlainTree>, alloc: Global) -> View {
     let mut patterns = Paths::empty(alloc);
     patterns.push(Path::empty(alloc)).expect(rt, "memory");
-    let view = core.look(alloc, &patterns).expect(rt, "memory");
+    core.look(alloc, &patterns).expect(rt, "memory")
+}
+
+fn first_text_in(view: &View, text: &str) -> (usize, bool, u64) {
     let is = match view.rows.get(0) {
         Some(
             Row {
@@ -162,14 +178,18 @@ fn assert_numbered(rt: &impl Abort, core: &Core<PlainTree>, count: usize) {
     assert_eq!(rt; core.entries().len(), count);
 }
 
+/// Each Set at a reading has its stamp, and the entries have their numbers.
+fn assert_readings(rt: &impl Abort, alloc: Global, core: &mut Core<PlainTree>) {
+    for (now, stamp) in READINGS {
+        assert_stamped(rt, alloc, core, *now, *stamp);
+    }
+    assert_numbered(rt, core, 11);
+}
+
 #[test]
 fn stamps_follow_the_clock_and_rise(rt: HostRuntime) {
     let alloc = rt.alloc();
-    let mut core = core_of(&rt, alloc, ROOMY);
-    for (now, stamp) in READINGS.iter().copied() {
-        assert_stamped(&rt, alloc, &mut core, now, stamp);
-    }
-    assert_numbered(&rt, &core, 11);
+    assert_readings(&rt, alloc, &mut core_of(&rt, alloc, ROOMY));
 }
 
 /// Leaves and values by the wider schema, with the refusal of each.
@@ -206,15 +226,19 @@ fn assert_first(rt: &impl Abort, alloc: Global, core: &Core<PlainTree>) {
     assert_eq!(rt; core.entries().len(), 1);
 }
 
+/// Behind a Set of the hostname the others are refused, and only its entry stands.
+fn assert_first_alone(rt: &impl Abort, alloc: Global, core: &mut Core<PlainTree>) {
+    accept_first(rt, alloc, core);
+    for row in VALUES {
+        assert_refused(rt, alloc, core, *row);
+    }
+    assert_first(rt, alloc, core);
+}
+
 #[test]
 fn what_is_let_go_or_refused_leaves_nothing(rt: HostRuntime) {
     let alloc = rt.alloc();
-    let mut core = core_of(&rt, alloc, ROOMY);
-    accept_first(&rt, alloc, &mut core);
-    for row in VALUES.iter().copied() {
-        assert_refused(&rt, alloc, &mut core, row);
-    }
-    assert_first(&rt, alloc, &core);
+    assert_first_alone(&rt, alloc, &mut core_of(&rt, alloc, ROOMY));
 }
 
 /// A delete of all that the update doesn't set anew.
@@ -234,13 +258,16 @@ fn accept_deletes(rt: &impl Abort, alloc: Global, core: &mut Core<PlainTree>) {
     assert_eq!(rt; first_text(rt, core, alloc, "new"), (1, true, 1002));
 }
 
+fn accept_old_and_deletes(rt: &impl Abort, alloc: Global, core: &mut Core<PlainTree>) {
+    accept_old(rt, alloc, core, "hostname");
+    accept_old(rt, alloc, core, "motd");
+    accept_deletes(rt, alloc, core);
+}
+
 #[test]
 fn deletes_come_before_updates(rt: HostRuntime) {
     let alloc = rt.alloc();
-    let mut core = core_of(&rt, alloc, ROOMY);
-    accept_old(&rt, alloc, &mut core, "hostname");
-    accept_old(&rt, alloc, &mut core, "motd");
-    accept_deletes(&rt, alloc, &mut core);
+    accept_old_and_deletes(&rt, alloc, &mut core_of(&rt, alloc, ROOMY));
 }
 
 /// How many octets the hostname has under these limits, with the refusal of the Set.
@@ -254,16 +281,15 @@ const SIZES: &[(Limits, u32, Option<Refusal>)] = &[
 
 /// What a Set of a hostname of so many octets is refused for over a tree without rows, if it is.
 fn refusal_of_long(rt: &impl Abort, alloc: Global, limits: Limits, size: u32) -> Option<Refusal> {
-    let mut core = core_of(rt, alloc, limits);
     let ask = set_long(rt, alloc, size);
-    refused(rt, &mut core, alloc, ask)
+    refused(rt, &mut core_of(rt, alloc, limits), alloc, ask)
 }
 
 #[test]
 fn trees_and_logs_have_limits(rt: HostRuntime) {
-    for (limits, size, refusal) in SIZES.iter().copied() {
-        let found = refusal_of_long(&rt, rt.alloc(), limits, size);
-        assert_eq!(rt; found, refusal, "{size} octets");
+    for (limits, size, refusal) in SIZES {
+        let found = refusal_of_long(&rt, rt.alloc(), *limits, *size);
+        assert_eq!(rt; found, *refusal, "{size} octets");
     }
 }
 
@@ -279,11 +305,15 @@ fn assert_full(rt: &impl Abort, alloc: Global, core: &mut Core<PlainTree>) {
     assert_refused(rt, alloc, core, invalid);
 }
 
+/// Behind two entries the log has no room.
+fn assert_full_behind_two(rt: &impl Abort, alloc: Global, core: &mut Core<PlainTree>) {
+    accept_nothing(rt, alloc, core);
+    accept_nothing(rt, alloc, core);
+    assert_full(rt, alloc, core);
+}
+
 #[test]
 fn a_log_of_two_entries_is_full(rt: HostRuntime) {
     let alloc = rt.alloc();
-    let mut core = core_of(&rt, alloc, NARROW);
-    accept_nothing(&rt, alloc, &mut core);
-    accept_nothing(&rt, alloc, &mut core);
-    assert_full(&rt, alloc, &mut core);
+    assert_full_behind_two(&rt, alloc, &mut core_of(&rt, alloc, NARROW));
 }

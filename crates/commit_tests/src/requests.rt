@@ -48,7 +48,7 @@ fn action_of(rt: &impl Abort, alloc: Global, asked: Asked) -> Action {
 }
 
 /// A change to the text of a JSON value.
-pub fn change_of(rt: &impl Abort, alloc: Global, path: &str, json: &str) -> Change {
+fn change_of(rt: &impl Abort, alloc: Global, path: &str, json: &str) -> Change {
     Change {
         path: path_of(rt, alloc, path),
         given: Given::Json(octets_of(rt, alloc, json.as_bytes())),
@@ -78,6 +78,25 @@ pub fn resolved(
     resolve(alloc, schema, &request)
 }
 
+fn paths_of(rt: &impl Abort, alloc: Global, texts: &[&str]) -> Paths {
+    let mut paths = Paths::empty(alloc);
+    for text in texts {
+        paths.push(path_of(rt, alloc, text)).expect(rt, "memory");
+    }
+    paths
+}
+
+/// Changes to texts of JSON values, by their paths.
+pub fn changes_of(rt: &impl Abort, alloc: Global, texts: &[(&str, &str)]) -> Changes {
+    let mut changes = Changes::empty(alloc);
+    for (path, json) in texts {
+        changes
+            .push(change_of(rt, alloc, path, json))
+            .expect(rt, "memory");
+    }
+    changes
+}
+
 /// What the request asks of a target with this schema, or why it is refused by itself.
 pub fn ask_of(
     rt: &impl Abort,
@@ -88,16 +107,8 @@ pub fn ask_of(
 ) -> Result<Ask, Refusal>
     ensures { IfOk result (λ ask. IsFit ask) }
 {
-    let mut deletes = Paths::empty(alloc);
-    for path in changed.deletes {
-        deletes.push(path_of(rt, alloc, path)).expect(rt, "memory");
-    }
-    let mut updates = Changes::empty(alloc);
-    for (path, json) in changed.updates {
-        updates
-            .push(change_of(rt, alloc, path, json))
-            .expect(rt, "memory");
-    }
+    let deletes = paths_of(rt, alloc, changed.deletes);
+    let updates = changes_of(rt, alloc, changed.updates);
     let action = action_of(rt, alloc, asked);
     resolved(rt, alloc, schema, deletes, updates, action)
 }

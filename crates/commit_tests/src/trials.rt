@@ -49,8 +49,8 @@ fn answer(
 }
 
 fn walk(rt: &impl Abort, alloc: Global, core: &mut Core<PlainTree>, lines: &[Line]) {
-    for (at, line) in lines.iter().copied().enumerate() {
-        assert_eq!(rt; answer(rt, alloc, core, line), line.answer, "line {at}");
+    for (at, line) in lines.iter().enumerate() {
+        assert_eq!(rt; answer(rt, alloc, core, *line), line.answer, "line {at}");
     }
 }
 
@@ -115,13 +115,31 @@ fn assert_closed(
     assert!(rt; !core.is_trial_open());
 }
 
+/// Behind these lines no trial is open, this entry is the last, and there are so many rows.
+fn assert_closed_behind(
+    rt: &impl Abort,
+    alloc: Global,
+    core: &mut Core<PlainTree>,
+    lines: &[Line],
+    last: (u64, u32, u64),
+    rows: usize,
+) {
+    walk(rt, alloc, core, lines);
+    assert_closed(rt, alloc, core, last, rows);
+}
+
 #[test]
 fn a_trial_ends_at_its_deadline(rt: HostRuntime) {
     let alloc = rt.alloc();
-    for (lines, last, rows) in DEADLINES.iter().copied() {
-        let mut core = new_core(&rt, alloc, LIMITS);
-        walk(&rt, alloc, &mut core, lines);
-        assert_closed(&rt, alloc, &core, last, rows);
+    for (lines, last, rows) in DEADLINES {
+        assert_closed_behind(
+            &rt,
+            alloc,
+            &mut new_core(&rt, alloc, LIMITS),
+            lines,
+            *last,
+            *rows,
+        );
     }
 }
 
@@ -178,14 +196,18 @@ fn assert_cancelled(rt: &impl Abort, alloc: Global, core: &mut Core<PlainTree>, 
     assert_back(rt, before, &rows_of(rt, alloc, core), 1002);
 }
 
+/// A trial over a Set is cancelled once.
+fn assert_cancelled_once(rt: &impl Abort, alloc: Global, core: &mut Core<PlainTree>) {
+    walk(rt, alloc, core, &CANCELLED[..1]);
+    let before = rows_of(rt, alloc, core);
+    assert_cancelled(rt, alloc, core, &before);
+    walk(rt, alloc, core, CANCELLED_AGAIN);
+}
+
 #[test]
 fn a_cancel_brings_the_tree_back(rt: HostRuntime) {
     let alloc = rt.alloc();
-    let mut core = new_core(&rt, alloc, LIMITS);
-    walk(&rt, alloc, &mut core, &CANCELLED[..1]);
-    let before = rows_of(&rt, alloc, &core);
-    assert_cancelled(&rt, alloc, &mut core, &before);
-    walk(&rt, alloc, &mut core, CANCELLED_AGAIN);
+    assert_cancelled_once(&rt, alloc, &mut new_core(&rt, alloc, LIMITS));
 }
 
 /// What is refused while a trial is open, and before.
@@ -252,12 +274,22 @@ const REFUSED: &[Line] = &[
     },
 ];
 
+/// Behind these lines there are so many entries.
+fn assert_walked(
+    rt: &impl Abort,
+    alloc: Global,
+    core: &mut Core<PlainTree>,
+    lines: &[Line],
+    count: usize,
+) {
+    walk(rt, alloc, core, lines);
+    assert_eq!(rt; core.entries().len(), count);
+}
+
 #[test]
 fn trials_are_refused_for_their_causes(rt: HostRuntime) {
     let alloc = rt.alloc();
-    let mut core = new_core(&rt, alloc, LIMITS);
-    walk(&rt, alloc, &mut core, REFUSED);
-    assert_eq!(rt; core.entries().len(), 1);
+    assert_walked(&rt, alloc, &mut new_core(&rt, alloc, LIMITS), REFUSED, 1);
 }
 
 /// The clock goes back, and an extend counts from its own stamp.
@@ -291,9 +323,7 @@ const EXTENDED: &[Line] = &[
 #[test]
 fn an_extend_counts_from_its_own_stamp(rt: HostRuntime) {
     let alloc = rt.alloc();
-    let mut core = new_core(&rt, alloc, LIMITS);
-    walk(&rt, alloc, &mut core, EXTENDED);
-    assert_eq!(rt; core.entries().len(), 4);
+    assert_walked(&rt, alloc, &mut new_core(&rt, alloc, LIMITS), EXTENDED, 4);
 }
 
 /// The entries of a trial that has begun.
@@ -316,19 +346,18 @@ fn assert_restarted(rt: &impl Abort, alloc: Global, core: &mut Core<PlainTree>) 
     assert_eq!(rt; core.entries().len(), 2);
 }
 
-/// A core that has replayed these entries.
-fn replayed(rt: &impl Abort, alloc: Global, entries: Entries) -> Core<PlainTree>
+/// A core without entries has replayed these, and is restarted.
+fn assert_replayed(rt: &impl Abort, alloc: Global, core: &mut Core<PlainTree>, entries: Entries)
     requires { IsReplayable entries }
 {
-    let mut core = new_core(rt, alloc, LIMITS);
     assert!(rt; core.entries().is_empty());
     core.replay(alloc, entries).expect(rt, "memory");
-    core
+    assert_restarted(rt, alloc, core);
 }
 
 #[test]
 fn a_restart_ends_a_trial_that_was_replayed(rt: HostRuntime) {
     let alloc = rt.alloc();
-    let mut core = replayed(&rt, alloc, begun(&rt, alloc));
-    assert_restarted(&rt, alloc, &mut core);
+    let entries = begun(&rt, alloc);
+    assert_replayed(&rt, alloc, &mut new_core(&rt, alloc, LIMITS), entries);
 }

@@ -29,17 +29,21 @@ fn is_answer(found: &Result<Bytes, Refusal>, answer: &Answer) -> bool {
     }
 }
 
+fn assert_answer(rt: &impl Abort, found: &Result<Bytes, Refusal>, call: &Call) {
+    assert!(rt;
+        is_answer(found, &call.answer),
+        "{:?} of {:?}",
+        found,
+        call.request
+    );
+}
+
 fn assert_call(rt: &impl Abort, alloc: Global, target: &mut Target, call: &Call)
     requires { target.old.port.book.opened.schema ≡ target.old.desk }
     ensures { target.new.port.book.opened.schema ≡ target.new.desk }
 {
     let found = target.answer(alloc, call.method, call.request, call.now);
-    assert!(rt;
-        is_answer(&found, &call.answer),
-        "{:?} of {:?}",
-        found,
-        call.request
-    );
+    assert_answer(rt, &found, call);
 }
 
 fn assert_each(rt: &impl Abort, alloc: Global, target: &mut Target, calls: &[Call])

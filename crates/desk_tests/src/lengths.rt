@@ -27,13 +27,18 @@ const LONGER_DELETE: &[u8] = b"\x12\xeb\xff\xff\x01\x1a\xe6\xff\xff\x01\x0a\xe1\
 /// A stamp whose field has ten octets: the last reading that counts.
 const LATEST: u64 = 4_102_444_800_000_000_000;
 
+/// Puts a part so many times.
+fn put(rt: &impl Abort, part: &[u8], times: u32, octets: &mut Bytes) {
+    for _ in 0..times {
+        octets.extend_from_slice(part).expect(rt, "memory");
+    }
+}
+
 /// The parts one after another, each so many times.
 fn repeated(rt: &impl Abort, alloc: Global, parts: &[(&[u8], u32)]) -> Bytes {
     let mut octets = Bytes::empty(alloc);
-    for part in parts.iter() {
-        for _ in 0..part.1 {
-            octets.extend_from_slice(part.0).expect(rt, "memory");
-        }
+    for part in parts {
+        put(rt, part.0, part.1, &mut octets);
     }
     octets
 }

@@ -48,12 +48,18 @@ leaf-list /lab/tags string\n\
 leaf /lab/via string ref /interfaces/interface/name\n\
 ";
 
+/// A disk with a journal without entries.
+fn new_disk(rt: &impl Abort, alloc: Global) -> FuseDisk {
+    let mut disk = FuseDisk::make(MemDisk::make(alloc), NO_STOP, Fill::Old);
+    Ledger::create(alloc, &mut disk, &LIMITS).expect(rt, "an empty disk");
+    disk
+}
+
 /// A book without entries, on a new disk.
 fn new_book(rt: &impl Abort, alloc: Global, schema: Schema) -> Book<FuseDisk, PlainTree>
     ensures { result.opened.schema ≡ schema }
 {
-    let mut disk = FuseDisk::make(MemDisk::make(alloc), NO_STOP, Fill::Old);
-    Ledger::create(alloc, &mut disk, &LIMITS).expect(rt, "an empty disk");
+    let disk = new_disk(rt, alloc);
     match Book::reopen(alloc, disk, PlainTree::empty(alloc), schema, 0) {
         BookOpening::Ready(book) => book,
         _ => panic!(rt; "a new journal"),

@@ -1,4 +1,5 @@
 //! Disks in memory: what a stop leaves, in which calls a disk fails and stops, what is read.
+use crate::shown::is_shown_as;
 use base_kinds::Fill;
 use base_lists::NoMemory;
 use disk_model::{Armed, Disk, put_synced, read_part, read_whole};
@@ -65,20 +66,34 @@ fn make_calls<D: Disk>(disk: &mut D) -> usize {
 }
 
 fn has_octets(octets: &[u8], pattern: &[u8], filled: u8) -> bool {
-    octets.len() == pattern.len()
-        && octets.iter().zip(pattern).all(|(octet, want)| *octet
-            == if *want == FILLED { filled } else { *want })
+    let mut has_each = octets.len() == pattern.len();
+    for (octet, want) in octets.iter().zip(pattern) {
+        let expected = if *want == FILLED { filled } else { *want };
+        has_each = has_each && *octet == expected;
+    }
+    has_each
+}
+
+/// Whether so many of the calls pass and the others fail, and the disk has stopped where that is not all of them.
+fn fails_behind(disk: &mut FuseDisk, passes: u64) -> Result<bool, NoMemory> {
+    let failed = make_calls(disk);
+    if disk.starved() {
+        return Err(NoMemory);
+    }
+    Ok(passes.checked_add(failed as u64) == Some(6) && disk.stopped() == (passes < 6))
 }
 
 /// The calls on this disk, which stops in that of this number.
 fn disk_leaves(disk: FuseDisk, passes: u64, pattern: &[u8], filled: u8) -> Result<bool, NoMemory> {
     let mut disk = disk;
-    let failed = make_calls(&mut disk);
-    if disk.starved() {
-        return Err(NoMemory);
+    let counted = fails_behind(&mut disk, passes);
+    let image = disk.image();
+    let is_left = has_octets(image.octets(), pattern, filled);
+    drop(image);
+    match counted {
+        Ok(counted) => Ok(counted && is_left),
+        Err(NoMemory) => Err(NoMemory),
     }
-    let counted = passes.checked_add(failed as u64) == Some(6) && disk.stopped() == (passes < 6);
-    Ok(counted && has_octets(disk.image().octets(), pattern, filled))
 }
 
 /// A stop in the call of this number: how many calls fail, whether the disk has stopped, and what it leaves.
@@ -95,24 +110,38 @@ fn leaves(
     }
 }
 
-/// Octets to fill with.
-const OCTETS: &[u8] = &[0, 127, 165];
+/// Whether a stop with this fill leaves what a row of `IMAGES` says.
+fn leaves_image(
+    alloc: Global,
+    image: &(u64, &[u8], &[u8], &[u8]),
+    fill: Fill,
+) -> Result<bool, NoMemory> {
+    let (passes, old, new, filled) = image;
+    match fill {
+        Fill::Old => leaves(alloc, *passes, fill, old, 0),
+        Fill::New => leaves(alloc, *passes, fill, new, 0),
+        Fill::Octet(octet) => leaves(alloc, *passes, fill, filled, octet),
+    }
+}
+
+/// What a stop fills in.
+pub(crate) const FILLS: &[Fill] = &[
+    Fill::Old,
+    Fill::New,
+    Fill::Octet(0),
+    Fill::Octet(127),
+    Fill::Octet(165),
+];
 
 #[test]
 fn a_stop_leaves_what_its_fill_says(rt: HostRuntime) -> Result<(), NoMemory> {
-    let alloc = rt.alloc();
-    for (passes, old, new, filled) in IMAGES.iter().copied() {
-        assert!(rt;
-            leaves(alloc, passes, Fill::Old, old, 0)?,
-            "at {passes}, old"
-        );
-        assert!(rt;
-            leaves(alloc, passes, Fill::New, new, 0)?,
-            "at {passes}, new"
-        );
-        for octet in OCTETS.iter().copied() {
-            let as_told = leaves(alloc, passes, Fill::Octet(octet), filled, octet)?;
-            assert!(rt; as_told, "at {passes}, {octet}");
+    for image in IMAGES {
+        for fill in FILLS {
+            assert!(rt;
+                leaves_image(rt.alloc(), image, *fill)?,
+                "at {}, {fill:?}",
+                image.0
+            );
         }
     }
     Ok(())
@@ -148,16 +177,25 @@ fn stops_and_fails(disk: FuseDisk) -> bool {
     let mut disk = disk.again();
     let third = passing(&mut disk, 4) == 10100 && disk.stopped() && !disk.starved();
     let mut disk = disk.again();
-    first && second && third && passing(&mut disk, 3) == 1111
+    let fourth = passing(&mut disk, 3) == 1111;
+    drop(disk);
+    first && second && third && fourth
+}
+
+/// Whether a disk that is made with a stop does so once `arm` has armed it.
+fn stops_and_fails_once_armed(alloc: Global) -> Result<bool, NoMemory> {
+    let mut disk = FuseDisk::make(MemDisk::make(alloc), 2, Fill::Old);
+    let armed = arm(&mut disk);
+    let is_as_told = stops_and_fails(disk);
+    match armed {
+        Ok(()) => Ok(is_as_told),
+        Err(NoMemory) => Err(NoMemory),
+    }
 }
 
 #[test]
 fn further_stops_and_failures_wait(rt: HostRuntime) -> Result<(), NoMemory> {
-    let mut disk = FuseDisk::make(MemDisk::make(rt.alloc()), 2, Fill::Old);
-    match arm(&mut disk) {
-        Ok(()) => assert!(rt; stops_and_fails(disk)),
-        Err(NoMemory) => return Err(NoMemory),
-    }
+    assert!(rt; stops_and_fails_once_armed(rt.alloc())?);
     Ok(())
 }
 
@@ -179,22 +217,33 @@ fn holds(disk: &MemDisk, octets: &[u8]) -> bool {
 /// Whether the disk is read as these octets, and has them.
 fn is_read_back(alloc: Global, disk: MemDisk, octets: &[u8]) -> Result<bool, NoMemory> {
     let mut disk = FuseDisk::make(disk, NO_STOP, Fill::Old);
-    match is_read(alloc, &mut disk, octets) {
-        Ok(is_read) => Ok(is_read && holds(&disk.image(), octets)),
+    let read = is_read(alloc, &mut disk, octets);
+    let image = disk.image();
+    let is_held = holds(&image, octets);
+    drop(image);
+    match read {
+        Ok(is_read) => Ok(is_read && is_held),
         Err(NoMemory) => Err(NoMemory),
     }
 }
 
-fn is_written_and_read(alloc: Global) -> Result<bool, NoMemory> {
-    let mut disk = MemDisk::make(alloc);
-    let put = put_synced(&mut disk, 2, b"abcd");
+/// Whether `abcd` is put on the disk, and it then answers as it should.
+fn is_written(disk: &mut MemDisk) -> Result<bool, NoMemory> {
+    let put = put_synced(disk, 2, b"abcd");
     if disk.starved() {
         return Err(NoMemory);
     }
-    if put != Ok(()) || !answers(&mut disk) {
-        return Ok(false);
+    Ok(put == Ok(()) && answers(disk))
+}
+
+fn is_written_and_read(alloc: Global) -> Result<bool, NoMemory> {
+    let mut disk = MemDisk::make(alloc);
+    let written = is_written(&mut disk);
+    let read = is_read_back(alloc, disk, b"\0\0abc");
+    match written {
+        Ok(true) => read,
+        Ok(false) | Err(NoMemory) => written,
     }
-    is_read_back(alloc, disk, b"\0\0abc")
 }
 
 #[test]
@@ -203,24 +252,27 @@ fn a_disk_in_memory_is_written_and_read(rt: HostRuntime) -> Result<(), NoMemory>
     Ok(())
 }
 
-fn memory_tells(disk: MemDisk) -> bool {
-    let mut disk = disk;
-    (make_calls(&mut disk) > 0) == disk.starved()
-}
-
-fn fuse_tells(disk: FuseDisk) -> bool {
-    let mut disk = disk;
-    (make_calls(&mut disk) > 0) == disk.starved()
-}
-
-/// Whether both disks tell that memory was wanting where a call of theirs fails.
-fn tell_want(one: MemDisk, other: MemDisk) -> bool {
-    memory_tells(one) && fuse_tells(FuseDisk::make(other, NO_STOP, Fill::New))
-}
-
-fn is_told(alloc: Global, disk: MemDisk) -> Result<bool, NoMemory> {
+/// Whether a disk in memory tells that memory was wanting where a call of it fails.
+fn memory_tells(alloc: Global) -> Result<bool, NoMemory> {
     match MemDisk::of(alloc, &[1, 2, 3, 4]) {
-        Ok(other) => Ok(tell_want(disk, other)),
+        Ok(mut disk) => {
+            let is_told = (make_calls(&mut disk) > 0) == disk.starved();
+            drop(disk);
+            Ok(is_told)
+        }
+        Err(NoMemory) => Err(NoMemory),
+    }
+}
+
+/// Whether a disk that is made without a stop does.
+fn fuse_tells(alloc: Global) -> Result<bool, NoMemory> {
+    match MemDisk::of(alloc, &[1, 2, 3, 4]) {
+        Ok(inner) => {
+            let mut disk = FuseDisk::make(inner, NO_STOP, Fill::New);
+            let is_told = (make_calls(&mut disk) > 0) == disk.starved();
+            drop(disk);
+            Ok(is_told)
+        }
         Err(NoMemory) => Err(NoMemory),
     }
 }
@@ -229,10 +281,7 @@ fn is_told(alloc: Global, disk: MemDisk) -> Result<bool, NoMemory> {
 /// memory was wanting.
 #[test]
 fn want_of_memory_is_told(rt: HostRuntime) -> Result<(), NoMemory> {
-    match MemDisk::of(rt.alloc(), &[1, 2, 3, 4]) {
-        Ok(disk) => assert!(rt; is_told(rt.alloc(), disk)?),
-        Err(NoMemory) => return Err(NoMemory),
-    }
+    assert!(rt; memory_tells(rt.alloc())? && fuse_tells(rt.alloc())?);
     Ok(())
 }
 
@@ -249,8 +298,11 @@ fn stops_after(disk: &mut FuseDisk, passes: u64) -> bool {
 fn stops_where_told(alloc: Global, passes: u64) -> Result<bool, NoMemory> {
     let mut disk = FuseDisk::make(MemDisk::make(alloc), NO_STOP, Fill::Old);
     let is_free = passing(&mut disk, 2) == 111;
-    match disk.stop_after(passes, Fill::New) {
-        Ok(()) => Ok(is_free && stops_after(&mut disk, passes)),
+    let told = disk.stop_after(passes, Fill::New);
+    let is_as_told = is_free && stops_after(&mut disk, passes);
+    drop(disk);
+    match told {
+        Ok(()) => Ok(is_as_told),
         Err(NoMemory) => Err(NoMemory),
     }
 }
@@ -281,8 +333,11 @@ fn is_read_before(
     passes: u64,
 ) -> Result<bool, NoMemory> {
     let mut disk = disk;
-    match disk.fail_after(passes) {
-        Ok(()) => is_read(alloc, &mut disk, octets),
+    let told = disk.fail_after(passes);
+    let read = is_read(alloc, &mut disk, octets);
+    drop(disk);
+    match told {
+        Ok(()) => read,
         Err(NoMemory) => Err(NoMemory),
     }
 }
@@ -298,13 +353,17 @@ fn reads_whole(alloc: Global, octets: &[u8], passes: u64) -> Result<bool, NoMemo
     }
 }
 
-/// Whether a disk of so many octets is read in this many calls, and not in one less.
+/// Whether a disk of these octets is read in this many calls, and not in one less.
+fn reads_in(alloc: Global, octets: &[u8], calls: u64) -> Result<bool, NoMemory> {
+    Ok(!reads_whole(alloc, octets, calls.saturating_sub(1))? && reads_whole(alloc, octets, calls)?)
+}
+
+/// Whether a disk of so many octets is.
 fn is_read_in(alloc: Global, length: usize, calls: u64) -> Result<bool, NoMemory> {
-    let octets = vec![in alloc; 7u8; length]?;
-    Ok(
-        !reads_whole(alloc, &octets, calls.saturating_sub(1))?
-            && reads_whole(alloc, &octets, calls)?,
-    )
+    match vec![in alloc; 7u8; length] {
+        Ok(octets) => reads_in(alloc, &octets, calls),
+        Err(_) => Err(NoMemory),
+    }
 }
 
 /// Lengths of disks, and the calls in which each is read.
@@ -313,8 +372,8 @@ const READINGS: &[(usize, u64)] = &[(0, 1), (1, 2), (65536, 2), (65537, 3)];
 /// A reading asks for the length, and then for each 65,536 octets that are begun.
 #[test]
 fn a_reading_makes_a_call_for_each_piece(rt: HostRuntime) -> Result<(), NoMemory> {
-    for (length, calls) in READINGS.iter().copied() {
-        assert!(rt; is_read_in(rt.alloc(), length, calls)?, "at {length}");
+    for (length, calls) in READINGS {
+        assert!(rt; is_read_in(rt.alloc(), *length, *calls)?, "at {length}");
     }
     Ok(())
 }
@@ -338,7 +397,9 @@ fn has_part(
     part: &[u8],
 ) -> Result<bool, NoMemory> {
     let mut disk = disk;
-    match read_part(alloc, &mut disk, u64::from(place), u64::from(size)) {
+    let read = read_part(alloc, &mut disk, u64::from(place), u64::from(size));
+    drop(disk);
+    match read {
         Ok(octets) => Ok(octets.items() == part),
         Err(_) => Err(NoMemory),
     }
@@ -354,23 +415,18 @@ fn reads_part(alloc: Global, place: u32, size: u32, part: &[u8]) -> Result<bool,
 
 #[test]
 fn a_part_is_read_up_to_the_end(rt: HostRuntime) -> Result<(), NoMemory> {
-    for (place, size, part) in PARTS.iter().copied() {
-        assert!(rt; reads_part(rt.alloc(), place, size, part)?, "at {place}");
+    for (place, size, part) in PARTS {
+        assert!(rt; reads_part(rt.alloc(), *place, *size, part)?, "at {place}");
     }
     Ok(())
 }
 
-fn failure_prints(alloc: Global, text: &str) -> bool {
-    format!(in alloc; "{}", Failed).is_ok_and(|printed| printed.as_str() == text)
-}
-
-fn read_fault_prints(alloc: Global, fault: ReadFault, text: &str) -> bool {
-    format!(in alloc; "{fault}").is_ok_and(|printed| printed.as_str() == text)
-}
-
 #[test]
 fn failures_print_as_they_are_called(rt: HostRuntime) {
-    assert!(rt; failure_prints(rt.alloc(), "fault"));
-    assert!(rt; read_fault_prints(rt.alloc(), ReadFault::Failed, "read fault"));
-    assert!(rt; read_fault_prints(rt.alloc(), ReadFault::NoMemory, "no memory"));
+    let alloc = rt.alloc();
+    assert!(rt;
+        is_shown_as(alloc, &Failed, "fault")
+            && is_shown_as(alloc, &ReadFault::Failed, "read fault")
+            && is_shown_as(alloc, &ReadFault::NoMemory, "no memory")
+    );
 }

@@ -80,11 +80,28 @@ fn is_written_and_cut(disk: &mut FileDisk) -> bool {
 }
 
 fn is_read(alloc: Global, disk: &mut FileDisk, octets: &[u8]) -> bool {
-    read_whole(alloc, disk).is_ok_and(|read| read.items() == octets)
+    match read_whole(alloc, disk) {
+        Ok(read) => read.items() == octets,
+        Err(_) => false,
+    }
 }
 
 fn is_read_at(alloc: Global, disk: &mut FileDisk, place: u32, octets: &[u8]) -> bool {
-    read_part(alloc, disk, u64::from(place), 3).is_ok_and(|read| read.items() == octets)
+    match read_part(alloc, disk, u64::from(place), 3) {
+        Ok(read) => read.items() == octets,
+        Err(_) => false,
+    }
+}
+
+/// Whether a file is written, synced, cut and read as a disk.
+fn serves_as_disk(alloc: Global, file: File) -> bool {
+    let mut disk = FileDisk {
+        file,
+        faults: Tally::zero(),
+    };
+    is_written_and_cut(&mut disk)
+        && is_read(alloc, &mut disk, b"\0\0abc")
+        && is_read_at(alloc, &mut disk, 1, b"\0ab")
 }
 
 #[test]
@@ -95,12 +112,6 @@ fn a_file_is_written_synced_cut_and_read(rt: HostRuntime) -> io::Result<()> {
         .create(true)
         .truncate(true)
         .open(&rt, "disk_tests_file_disk")?;
-    let mut disk = FileDisk {
-        file,
-        faults: Tally::zero(),
-    };
-    assert!(rt; is_written_and_cut(&mut disk));
-    assert!(rt; is_read(rt.alloc(), &mut disk, b"\0\0abc"));
-    assert!(rt; is_read_at(rt.alloc(), &mut disk, 1, b"\0ab"));
+    assert!(rt; serves_as_disk(rt.alloc(), file));
     fs::remove_file(&rt, "disk_tests_file_disk")
 }

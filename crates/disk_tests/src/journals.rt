@@ -2,9 +2,8 @@
 //! follow.
 ghost use Rattle.base_kinds.specs.Limits.{AreInRange};
 
-use base_kinds::{
-    Act, Bytes, Elem, Entry, Kind, Limits, Op, Ops, Path, Row, Rows, Seq, Text, Value,
-};
+use crate::lists::{one, push};
+use base_kinds::{Act, Bytes, Elem, Entry, Kind, Limits, Op, Ops, Path, Row, Seq, Text, Value};
 use journal_format::{
     CLOSED_GATE, Journal, JournalFault, OPEN_GATE, read_journal, write_entry, write_header,
 };
@@ -56,17 +55,21 @@ const SMALL: Limits = Limits {
     octets: 4096,
 };
 
-/// What octets are: the place of damage, or 1,000,000 and the number of entries.
-fn outcome(rt: &impl Abort, alloc: Global, octets: &[u8]) -> u64 {
-    match read_journal(alloc, octets) {
-        Ok(journal) => (journal.entries.len() as u64).saturating_add(1_000_000),
-        Err(JournalFault::Damaged(place)) => place,
-        Err(JournalFault::NoMemory) => panic!(rt; "memory"),
+/// What was read: the place of damage, or 1,000,000 and the number of entries; nothing where memory was wanting.
+fn told(read: &Result<Journal, JournalFault>) -> Option<u64> {
+    match read {
+        Ok(journal) => Some((journal.entries.len() as u64).saturating_add(1_000_000)),
+        Err(JournalFault::Damaged(place)) => Some(*place),
+        Err(JournalFault::NoMemory) => None,
     }
 }
 
-fn push(rt: &impl Abort, out: &mut Bytes, octet: u8) {
-    out.push(octet).expect(rt, "memory");
+/// What octets are: the place of damage, or 1,000,000 and the number of entries.
+fn outcome(rt: &impl Abort, alloc: Global, octets: &[u8]) -> u64 {
+    let read = read_journal(alloc, octets);
+    let told = told(&read);
+    drop(read);
+    told.expect(rt, "memory")
 }
 
 /// The octets of a journal under these limits, to which entries may be put.
@@ -103,16 +106,35 @@ fn are_first(entries: &[Entry]) -> bool {
     }
 }
 
+fn is_written_as(rt: &impl Abort, alloc: Global, journal: &Journal, octets: &[u8]) -> bool
+    requires { AreInRange journal.now.limits }
+{
+    written(rt, alloc, journal).items() == octets
+}
+
+/// Whether a journal is that of the first Set, and is written as its octets.
+fn is_first_set(rt: &impl Abort, alloc: Global, journal: &Journal) -> bool
+    requires { AreInRange journal.now.limits }
+{
+    (journal.gate, journal.limits) == (126, GREATEST)
+        && are_first(journal.entries.items())
+        && is_written_as(rt, alloc, journal, FIRST_SET)
+}
+
+fn is_first_set_read(rt: &impl Abort, alloc: Global) -> bool {
+    match read_journal(alloc, FIRST_SET) {
+        Ok(journal) => {
+            let is_first_set = is_first_set(rt, alloc, &journal);
+            drop(journal);
+            is_first_set
+        }
+        Err(_) => false,
+    }
+}
+
 #[test]
 fn the_first_set_is_its_127_octets(rt: HostRuntime) {
-    let alloc = rt.alloc();
-    let journal = match read_journal(alloc, FIRST_SET) {
-        Ok(journal) => journal,
-        Err(_) => panic!(&rt; "no journal"),
-    };
-    assert_eq!(rt; (journal.gate, journal.limits), (126, GREATEST));
-    assert!(rt; are_first(journal.entries.items()));
-    assert_eq!(rt; written(&rt, alloc, &journal).items(), FIRST_SET);
+    assert!(rt; is_first_set_read(&rt, rt.alloc()));
 }
 
 /// The first octets of the first Set's journal, and what they are.
@@ -138,56 +160,68 @@ fn outcome_with(rt: &impl Abort, alloc: Global, octets: &[u8], place: usize, oct
 #[test]
 fn the_first_set_cut_or_changed_is_damaged(rt: HostRuntime) {
     let alloc = rt.alloc();
-    for (length, expected) in CUT.iter().copied() {
-        let cut = FIRST_SET.get(..length).unwrap_or_default();
-        assert_eq!(rt; outcome(&rt, alloc, cut), expected, "{length} octets");
+    for (length, expected) in CUT {
+        let found = outcome(&rt, alloc, FIRST_SET.get(..*length).unwrap_or_default());
+        assert!(rt; found == *expected, "{length} octets: {found}");
     }
-    for (place, octet, expected) in CHANGED.iter().copied() {
-        let found = outcome_with(&rt, alloc, FIRST_SET, place, octet);
-        assert_eq!(rt; found, expected, "octet {place} as {octet}");
+    for (place, octet, expected) in CHANGED {
+        let found = outcome_with(&rt, alloc, FIRST_SET, *place, *octet);
+        assert!(rt; found == *expected, "octet {place} as {octet}: {found}");
     }
+}
+
+/// What three entries are with these bits turned in the octet at a place.
+fn outcome_turned(rt: &impl Abort, alloc: Global, turned: u8, place: usize) -> u64 {
+    let octet = THREE.get(place).copied().unwrap_or_default() ^ turned;
+    outcome_with(rt, alloc, THREE, place, octet)
 }
 
 /// Each octet of three entries with these bits turned.
 fn turns_as(rt: &impl Abort, alloc: Global, turned: u8, table: &[u32]) {
     for (place, expected) in table.iter().enumerate() {
-        let octet = THREE.get(place).copied().unwrap_or_default() ^ turned;
-        let found = outcome_with(rt, alloc, THREE, place, octet);
-        assert_eq!(rt; found, u64::from(*expected), "octet {place} and {turned}");
+        let found = outcome_turned(rt, alloc, turned, place);
+        assert!(rt;
+            found == u64::from(*expected),
+            "octet {place} and {turned}: {found}"
+        );
     }
 }
 
 #[test]
 fn each_octet_changed_is_found_at_its_gate(rt: HostRuntime) {
-    assert_eq!(rt; outcome(&rt, rt.alloc(), THREE), 1_000_003);
+    assert!(rt; outcome(&rt, rt.alloc(), THREE) == 1_000_003);
     turns_as(&rt, rt.alloc(), 255, FLIPPED);
     turns_as(&rt, rt.alloc(), 1, LAST_BIT);
+}
+
+fn text_of(rt: &impl Abort, alloc: Global, octets: &[u8]) -> Text {
+    Text::of(alloc, octets).expect(rt, "a text")
 }
 
 /// A path of one element.
 fn short_path(rt: &impl Abort, alloc: Global) -> Path {
     let elem = Elem {
-        name: Text::of(alloc, b"a").expect(rt, "a text"),
+        name: text_of(rt, alloc, b"a"),
         keys: Seq::empty(alloc),
     };
-    let mut path = Seq::empty(alloc);
-    path.push(elem).expect(rt, "memory");
-    path
+    one(rt, alloc, elem)
 }
 
-/// One row with so many octets.
-fn long_rows(rt: &impl Abort, alloc: Global, length: usize) -> Rows {
+/// So many octets.
+fn sevens(rt: &impl Abort, alloc: Global, length: usize) -> Bytes {
     let mut octets = Seq::empty(alloc);
     for _ in 0..length {
         push(rt, &mut octets, 7);
     }
-    let row = Row {
+    octets
+}
+
+/// A row with so many octets.
+fn long_row(rt: &impl Abort, alloc: Global, length: usize) -> Row {
+    Row {
         path: short_path(rt, alloc),
-        value: Value::Bin(octets),
-    };
-    let mut rows = Seq::empty(alloc);
-    rows.push(row).expect(rt, "memory");
-    rows
+        value: Value::Bin(sevens(rt, alloc, length)),
+    }
 }
 
 /// A replace of the root by one row of so many octets: 21 octets and these.
@@ -195,11 +229,9 @@ fn long(rt: &impl Abort, alloc: Global, length: usize) -> Ops {
     let op = Op {
         act: Act::Replace,
         path: Seq::empty(alloc),
-        rows: long_rows(rt, alloc, length),
+        rows: one(rt, alloc, long_row(rt, alloc, length)),
     };
-    let mut ops = Seq::empty(alloc);
-    ops.push(op).expect(rt, "memory");
-    ops
+    one(rt, alloc, op)
 }
 
 /// A kind as it stands in a table.
@@ -218,7 +250,7 @@ enum Case {
 }
 
 fn trial(rt: &impl Abort, alloc: Global, id: &[u8], ops: Ops, deadline: u64) -> Kind {
-    Kind::Trial(Text::of(alloc, id).expect(rt, "a text"), ops, deadline)
+    Kind::Trial(text_of(rt, alloc, id), ops, deadline)
 }
 
 fn kind_of(rt: &impl Abort, alloc: Global, case: Case) -> Kind {
@@ -226,10 +258,7 @@ fn kind_of(rt: &impl Abort, alloc: Global, case: Case) -> Kind {
         Case::Apply => Kind::Apply(Seq::empty(alloc)),
         Case::Long(length) => Kind::Apply(long(rt, alloc, length)),
         Case::Trial(id, deadline) => trial(rt, alloc, id, Seq::empty(alloc), deadline),
-        Case::LongTrial(length) => {
-            let ops = long(rt, alloc, length);
-            trial(rt, alloc, b"t", ops, 2_000_000_000)
-        }
+        Case::LongTrial(length) => trial(rt, alloc, b"t", long(rt, alloc, length), 2_000_000_000),
         Case::Confirm => Kind::Confirm,
         Case::Cancel => Kind::Cancel,
         Case::Expire => Kind::Expire,
@@ -246,6 +275,7 @@ fn put(rt: &impl Abort, alloc: Global, out: &mut Bytes, author: u32, stamp: u64,
         kind: kind_of(rt, alloc, case),
     };
     put_entry(rt, alloc, out, &entry);
+    drop(entry);
 }
 
 /// What a journal is with one entry at stamp 1000 by author 1.
@@ -300,9 +330,17 @@ const BEHIND_A_SET: &[(u32, u64, Case, u64)] = &[
 
 #[test]
 fn each_rule_of_an_entry_is_kept(rt: HostRuntime) {
-    for (author, stamp, case, expected) in BEHIND_A_SET.iter().copied() {
-        let found = behind(&rt, rt.alloc(), &GREATEST, Case::Apply, author, stamp, case);
-        assert_eq!(rt; found, expected, "{author} {stamp} {case:?}");
+    for (author, stamp, case, expected) in BEHIND_A_SET {
+        let found = behind(
+            &rt,
+            rt.alloc(),
+            &GREATEST,
+            Case::Apply,
+            *author,
+            *stamp,
+            *case,
+        );
+        assert!(rt; found == *expected, "{author} {stamp} {case:?}: {found}");
     }
 }
 
@@ -329,9 +367,9 @@ const BEHIND_A_TRIAL: &[(u32, Case, u64)] = &[
 
 #[test]
 fn each_rule_of_an_open_trial_is_kept(rt: HostRuntime) {
-    for (author, case, expected) in BEHIND_A_TRIAL.iter().copied() {
-        let found = behind(&rt, rt.alloc(), &GREATEST, OPEN_TRIAL, author, 1001, case);
-        assert_eq!(rt; found, expected, "{author} {case:?}");
+    for (author, case, expected) in BEHIND_A_TRIAL {
+        let found = behind(&rt, rt.alloc(), &GREATEST, OPEN_TRIAL, *author, 1001, *case);
+        assert!(rt; found == *expected, "{author} {case:?}: {found}");
     }
 }
 
@@ -348,9 +386,9 @@ const COUNTS: &[(Case, u64)] = &[(Case::Apply, 1_000_002), (OPEN_TRIAL, 34)];
 
 #[test]
 fn the_limit_of_octets_is_kept(rt: HostRuntime) {
-    for (case, expected) in LENGTHS.iter().copied() {
-        let found = alone(&rt, rt.alloc(), case);
-        assert_eq!(rt; found, expected, "{case:?}");
+    for (case, expected) in LENGTHS {
+        let found = alone(&rt, rt.alloc(), *case);
+        assert!(rt; found == *expected, "{case:?}: {found}");
     }
 }
 
@@ -361,8 +399,8 @@ fn behind_a_set(rt: &impl Abort, alloc: Global, case: Case) -> u64 {
 
 #[test]
 fn the_limit_of_entries_is_kept(rt: HostRuntime) {
-    for (case, expected) in COUNTS.iter().copied() {
-        let found = behind_a_set(&rt, rt.alloc(), case);
-        assert_eq!(rt; found, expected, "{case:?}");
+    for (case, expected) in COUNTS {
+        let found = behind_a_set(&rt, rt.alloc(), *case);
+        assert!(rt; found == *expected, "{case:?}: {found}");
     }
 }

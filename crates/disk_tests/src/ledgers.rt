@@ -2,9 +2,11 @@
 ghost use Rattle.std.specs.Prelude.{◌≡◌, [], None, IsSome, IfSome, OnOk, OnErr};
 ghost use Rattle.base_kinds.specs.Limits.{AreInRange};
 
+use crate::disks::FILLS;
+use crate::shown::is_shown_as;
 use base_kinds::{Entry, Fill, Kind, Limits, NoMemory, Seq};
 use commit_journal::{CreateFault, Ledger, LedgerFault, Opening};
-use disk_model::Armed;
+use disk_model::{Armed, Disk};
 use memory_disks::{FuseDisk, MemDisk, NO_STOP};
 use std::alloc::Global;
 use std::test::Fail;
@@ -14,26 +16,23 @@ const LIMITS: Limits = Limits {
     octets: 4096,
 };
 
-const FILLS: &[Fill] = &[
-    Fill::Old,
-    Fill::New,
-    Fill::Octet(0),
-    Fill::Octet(127),
-    Fill::Octet(165),
-];
-
 /// How many calls an opening makes of a disk with one piece of octets.
 const OPENING: u64 = 3;
 
 /// A disk with a journal without entries.
 fn new_journal(alloc: Global) -> Result<MemDisk, CreateFault> {
     let mut disk = MemDisk::make(alloc);
-    Ledger::create(alloc, &mut disk, &LIMITS)?;
-    Ok(disk)
+    match Ledger::create(alloc, &mut disk, &LIMITS) {
+        Ok(()) => Ok(disk),
+        Err(fault) => {
+            drop(disk);
+            Err(fault)
+        }
+    }
 }
 
 /// The ledger, where its journal has no entries.
-fn without_entries(ledger: Ledger<FuseDisk>, entries: &[Entry]) -> Option<Ledger<FuseDisk>>
+fn without_entries<D: Disk + Drop>(ledger: Ledger<D>, entries: &[Entry]) -> Option<Ledger<D>>
     requires history { ledger.history ≡ entries.now }
     requires settled { ledger.doubt ≡ None }
     requires range { AreInRange ledger.limits }
@@ -44,19 +43,27 @@ fn without_entries(ledger: Ledger<FuseDisk>, entries: &[Entry]) -> Option<Ledger
     if entries.is_empty() {
         Some(ledger)
     } else {
+        drop(ledger);
         None
     }
 }
 
 /// A ledger on a disk whose journal has no entries.
-fn open_empty(alloc: Global, disk: FuseDisk) -> Option<Ledger<FuseDisk>>
+fn open_empty<D: Disk + Drop>(alloc: Global, disk: D) -> Option<Ledger<D>>
     ensures empty { IfSome result (λ l. l.history ≡ []) }
     ensures settled { IfSome result (λ l. l.doubt ≡ None) }
     ensures range { IfSome result (λ l. AreInRange l.limits) }
 {
     match Ledger::reopen(alloc, disk) {
-        Opening::Ready(ledger, entries) => without_entries(ledger, entries.items()),
-        Opening::Damaged(_, _) | Opening::DiskFault(_) | Opening::NoMemory(_) => None,
+        Opening::Ready(ledger, entries) => {
+            let empty = without_entries(ledger, entries.items());
+            drop(entries);
+            empty
+        }
+        other => {
+            drop(other);
+            None
+        }
     }
 }
 
@@ -68,29 +75,41 @@ fn append_first(alloc: Global, ledger: &mut Ledger<FuseDisk>) -> Result<(), Ledg
     ensures empty { OnErr result (ledger.new.history ≡ []) }
     ensures limits { ledger.new.limits ≡ ledger.old.limits }
 {
-    ledger.append(&Entry {
+    let entry = Entry {
         number: 1,
         author: 1,
         stamp: 1000,
         kind: Kind::Apply(Seq::empty(alloc)),
-    })
+    };
+    let appended = ledger.append(&entry);
+    drop(entry);
+    appended
 }
 
-/// A new disk of what a stop has left, where it was one.
-fn left_by_stop(left: FuseDisk) -> Option<FuseDisk> {
+/// What a stop has left, where it was one.
+fn left_by_stop<D: Armed + Drop>(left: D) -> Option<D> {
     if left.stopped() {
-        Some(left.again())
+        Some(left)
     } else {
+        drop(left);
         None
     }
 }
 
-/// How many entries the journal has that is opened, or the disk that a stop in that leaves, or neither.
-fn opened(alloc: Global, disk: FuseDisk) -> Result<usize, Option<FuseDisk>> {
+/// How many entries the journal has that is opened, or what a stop in that leaves, or neither.
+fn opened<D: Armed + Drop>(alloc: Global, disk: D) -> Result<usize, Option<D>> {
     match Ledger::reopen(alloc, disk) {
-        Opening::Ready(_, entries) => Ok(entries.len()),
+        Opening::Ready(ledger, entries) => {
+            let count = entries.len();
+            drop(ledger);
+            drop(entries);
+            Ok(count)
+        }
         Opening::DiskFault(left) => Err(left_by_stop(left)),
-        Opening::Damaged(_, _) | Opening::NoMemory(_) => Err(None),
+        other => {
+            drop(other);
+            Err(None)
+        }
     }
 }
 
@@ -101,10 +120,11 @@ fn count_of(alloc: Global, disk: FuseDisk) -> Option<(usize, usize)> {
     for stops in 0..9 {
         match opened(alloc, disk) {
             Ok(count) => return Some((count, stops)),
-            Err(Some(left)) => disk = left,
+            Err(Some(left)) => disk = left.again(),
             Err(None) => return None,
         }
     }
+    drop(disk);
     None
 }
 
@@ -127,18 +147,26 @@ fn new_fuse(alloc: Global, passes: u64, fill: Fill) -> Result<FuseDisk, CreateFa
     }
 }
 
-/// What an append leaves that stops where it isn't made.
+/// Whether an append stops where it isn't made, and only there.
+fn append_stops(alloc: Global, ledger: &mut Ledger<FuseDisk>) -> bool
+    requires empty { ledger.old.history ≡ [] }
+    requires settled { ledger.old.doubt ≡ None }
+    requires range { AreInRange ledger.old.limits }
+{
+    let is_made = append_first(alloc, ledger).is_ok();
+    ledger.stopped() != is_made
+}
+
+/// What such an append leaves.
 fn left_by_append(alloc: Global, ledger: Ledger<FuseDisk>) -> Option<(usize, usize)>
     requires empty { ledger.history ≡ [] }
     requires settled { ledger.doubt ≡ None }
     requires range { AreInRange ledger.limits }
 {
     let mut ledger = ledger;
-    let is_made = append_first(alloc, &mut ledger).is_ok();
-    if ledger.stopped() == is_made {
-        return None;
-    }
-    count_of(alloc, ledger.give().again())
+    let is_such = append_stops(alloc, &mut ledger);
+    let left = count_of(alloc, ledger.give().again());
+    if is_such { left } else { None }
 }
 
 fn left_on(alloc: Global, disk: FuseDisk) -> Option<(usize, usize)> {
@@ -161,10 +189,10 @@ fn stopped_append(
 
 #[test]
 fn a_stop_leaves_an_append_whole_or_absent(rt: HostRuntime) -> Result<(), CreateFault> {
-    for (passes, found) in STOPPED_APPENDS.iter().copied() {
+    for (passes, found) in STOPPED_APPENDS {
         for (fill, count) in FILLS.iter().zip(found.iter()) {
-            let left = stopped_append(rt.alloc(), passes, *fill)?;
-            assert_eq!(rt; left, Some(*count), "at {passes}, {fill:?}");
+            let left = stopped_append(rt.alloc(), *passes, *fill)?;
+            assert!(rt; left == Some(*count), "at {passes}, {fill:?}: {left:?}");
         }
     }
     Ok(())
@@ -178,8 +206,10 @@ fn left_on_stopping(
     fill: Fill,
 ) -> Result<Option<(usize, usize)>, CreateFault> {
     let mut disk = disk;
-    match disk.stop_after(passes, fill) {
-        Ok(()) => Ok(left_on(alloc, disk)),
+    let told = disk.stop_after(passes, fill);
+    let left = left_on(alloc, disk);
+    match told {
+        Ok(()) => Ok(left),
         Err(NoMemory) => Err(CreateFault::NoMemory),
     }
 }
@@ -197,35 +227,39 @@ fn stopped_opening(
     }
 }
 
-/// What a repair leaves that stops where it isn't made.
-fn left_by_repair(alloc: Global, ledger: Ledger<FuseDisk>) -> Option<(usize, usize)>
-    requires { IsSome ledger.doubt }
+/// Whether a repair stops where it isn't made, and only there.
+fn repair_stops(ledger: &mut Ledger<FuseDisk>) -> bool
+    requires { IsSome ledger.old.doubt }
 {
-    let mut ledger = ledger;
     let is_made = ledger.repair().is_ok();
-    if ledger.stopped() == is_made {
-        return None;
-    }
-    count_of(alloc, ledger.give().again())
+    ledger.stopped() != is_made
 }
 
-/// The same of an append that fails before.
-fn left_by_failed_append(alloc: Global, ledger: Ledger<FuseDisk>) -> Option<(usize, usize)>
+/// The same of the repair of an append that fails before.
+fn repair_of_failed_append_stops(alloc: Global, ledger: &mut Ledger<FuseDisk>) -> bool
+    requires empty { ledger.old.history ≡ [] }
+    requires settled { ledger.old.doubt ≡ None }
+    requires range { AreInRange ledger.old.limits }
+{
+    let is_made = append_first(alloc, ledger).is_ok();
+    !is_made && ledger.in_doubt() && repair_stops(ledger)
+}
+
+/// What such a repair leaves.
+fn left_by_repair(alloc: Global, ledger: Ledger<FuseDisk>) -> Option<(usize, usize)>
     requires empty { ledger.history ≡ [] }
     requires settled { ledger.doubt ≡ None }
     requires range { AreInRange ledger.limits }
 {
     let mut ledger = ledger;
-    let is_made = append_first(alloc, &mut ledger).is_ok();
-    if is_made || !ledger.in_doubt() {
-        return None;
-    }
-    left_by_repair(alloc, ledger)
+    let is_such = repair_of_failed_append_stops(alloc, &mut ledger);
+    let left = count_of(alloc, ledger.give().again());
+    if is_such { left } else { None }
 }
 
 fn repair_left_on(alloc: Global, disk: FuseDisk) -> Option<(usize, usize)> {
     match open_empty(alloc, disk) {
-        Some(ledger) => left_by_failed_append(alloc, ledger),
+        Some(ledger) => left_by_repair(alloc, ledger),
         None => None,
     }
 }
@@ -237,8 +271,10 @@ fn repair_left_on_failing(
     calls: u64,
 ) -> Result<Option<(usize, usize)>, CreateFault> {
     let mut disk = disk;
-    match disk.fail_after(calls) {
-        Ok(()) => Ok(repair_left_on(alloc, disk)),
+    let told = disk.fail_after(calls);
+    let left = repair_left_on(alloc, disk);
+    match told {
+        Ok(()) => Ok(left),
         Err(NoMemory) => Err(CreateFault::NoMemory),
     }
 }
@@ -272,24 +308,32 @@ const STOPPED_REPAIRS: &[(u64, u64, (usize, usize))] = &[
 
 #[test]
 fn a_stopped_opening_is_made_again(rt: HostRuntime) -> Result<(), CreateFault> {
-    for fill in FILLS.iter().copied() {
+    for fill in FILLS {
         for passes in 0..OPENING {
-            let left = stopped_opening(rt.alloc(), passes, fill)?;
-            assert_eq!(rt; left, Some((1, 1)), "at {passes}, {fill:?}");
+            let left = stopped_opening(rt.alloc(), passes, *fill)?;
+            assert!(rt; left == Some((1, 1)), "at {passes}, {fill:?}: {left:?}");
         }
     }
     Ok(())
 }
 
+/// What such a row says with this fill.
+fn expected_of_repair(fill: Fill, passes: u64, found: (usize, usize)) -> (usize, usize) {
+    // The gate may read as any octet until the repair has ended: as the open one too.
+    let torn = fill == Fill::Octet(165) && passes < 2;
+    if torn { (1, 0) } else { found }
+}
+
 #[test]
 fn a_stopped_repair_is_made_again(rt: HostRuntime) -> Result<(), CreateFault> {
-    for fill in FILLS.iter().copied() {
-        for (failing, passes, found) in STOPPED_REPAIRS.iter().copied() {
-            // The gate may read as any octet until the repair has ended: as the open one too.
-            let torn = fill == Fill::Octet(165) && passes < 2;
-            let expected = if torn { (1, 0) } else { found };
-            let left = stopped_repair(rt.alloc(), failing, passes, fill)?;
-            assert_eq!(rt; left, Some(expected), "at {failing}, {passes}, {fill:?}");
+    for fill in FILLS {
+        for (failing, passes, found) in STOPPED_REPAIRS {
+            let expected = expected_of_repair(*fill, *passes, *found);
+            let left = stopped_repair(rt.alloc(), *failing, *passes, *fill)?;
+            assert!(rt;
+                left == Some(expected),
+                "at {failing}, {passes}, {fill:?}: {left:?}"
+            );
         }
     }
     Ok(())
@@ -373,27 +417,39 @@ fn is_made_behind_repairs(alloc: Global, ledger: &mut Ledger<FuseDisk>) -> Resul
     }
 }
 
-/// An append that fails, and the same behind repairs. Answers whether there was a doubt, and what is opened then.
-fn append_twice(
-    alloc: Global,
-    ledger: Ledger<FuseDisk>,
-) -> Result<(bool, Option<(usize, usize)>), CreateFault>
-    requires empty { ledger.history ≡ [] }
-    requires settled { ledger.doubt ≡ None }
-    requires range { AreInRange ledger.limits }
+/// An append that fails, and the same behind repairs: whether there was a doubt, and whether it was made then.
+fn append_twice(alloc: Global, ledger: &mut Ledger<FuseDisk>) -> Result<(bool, bool), CreateFault>
+    requires empty { ledger.old.history ≡ [] }
+    requires settled { ledger.old.doubt ≡ None }
+    requires range { AreInRange ledger.old.limits }
 {
-    let mut ledger = ledger;
-    if append_first(alloc, &mut ledger).is_ok() {
-        return Ok((false, None));
+    if append_first(alloc, ledger).is_ok() {
+        return Ok((false, false));
     }
     let doubt = ledger.in_doubt();
-    match is_made_behind_repairs(alloc, &mut ledger) {
-        Ok(true) => Ok((doubt, count_of(alloc, ledger.give().again()))),
-        Ok(false) => Ok((doubt, None)),
+    match is_made_behind_repairs(alloc, ledger) {
+        Ok(is_made) => Ok((doubt, is_made)),
         Err(fault) => Err(fault),
     }
 }
 
+/// The same where the call after so many fails.
+fn append_twice_failing(
+    alloc: Global,
+    ledger: &mut Ledger<FuseDisk>,
+    failing: u64,
+) -> Result<(bool, bool), CreateFault>
+    requires empty { ledger.old.history ≡ [] }
+    requires settled { ledger.old.doubt ≡ None }
+    requires range { AreInRange ledger.old.limits }
+{
+    match fail_after(ledger, failing) {
+        Ok(()) => append_twice(alloc, ledger),
+        Err(NoMemory) => Err(CreateFault::NoMemory),
+    }
+}
+
+/// Whether there was a doubt, and what is opened then.
 fn append_failing(
     alloc: Global,
     ledger: Ledger<FuseDisk>,
@@ -404,9 +460,12 @@ fn append_failing(
     requires range { AreInRange ledger.limits }
 {
     let mut ledger = ledger;
-    match fail_after(&mut ledger, failing) {
-        Ok(()) => append_twice(alloc, ledger),
-        Err(NoMemory) => Err(CreateFault::NoMemory),
+    let made = append_twice_failing(alloc, &mut ledger, failing);
+    let left = count_of(alloc, ledger.give().again());
+    match made {
+        Ok((doubt, true)) => Ok((doubt, left)),
+        Ok((doubt, false)) => Ok((doubt, None)),
+        Err(fault) => Err(fault),
     }
 }
 
@@ -437,23 +496,21 @@ const FAILED_APPENDS: &[(u64, bool)] = &[(0, false), (1, false), (2, true), (3, 
 
 #[test]
 fn a_failed_append_can_be_made_again(rt: HostRuntime) -> Result<(), CreateFault> {
-    for (failing, doubt) in FAILED_APPENDS.iter().copied() {
-        let left = failed_append(rt.alloc(), failing)?;
-        assert_eq!(rt; left, (doubt, Some((1, 0))), "at {failing}");
+    for (failing, doubt) in FAILED_APPENDS {
+        let left = failed_append(rt.alloc(), *failing)?;
+        assert!(rt; left == (*doubt, Some((1, 0))), "at {failing}: {left:?}");
     }
     Ok(())
-}
-
-fn creation_on(alloc: Global, disk: FuseDisk) -> Result<(), CreateFault> {
-    let mut disk = disk;
-    Ledger::create(alloc, &mut disk, &LIMITS)
 }
 
 /// A creation that fails in this call, on an empty disk.
 fn failed_creation(alloc: Global, failing: u64) -> Result<Result<(), CreateFault>, NoMemory> {
     let mut disk = FuseDisk::make(MemDisk::make(alloc), NO_STOP, Fill::Old);
-    match disk.fail_after(failing) {
-        Ok(()) => Ok(creation_on(alloc, disk)),
+    let told = disk.fail_after(failing);
+    let made = Ledger::create(alloc, &mut disk, &LIMITS);
+    drop(disk);
+    match told {
+        Ok(()) => Ok(made),
         Err(NoMemory) => Err(NoMemory),
     }
 }
@@ -461,24 +518,35 @@ fn failed_creation(alloc: Global, failing: u64) -> Result<Result<(), CreateFault
 /// Whether the disk has a journal without entries, over which no other one is made.
 fn keeps_its_journal(alloc: Global, disk: MemDisk) -> bool {
     let mut disk = disk;
-    disk.octets() == b"GNMIJRN1\0\0\0\x02\0\0\x10\0\0".as_slice()
-        && Ledger::create(alloc, &mut disk, &LIMITS) == Err(CreateFault::NotEmpty)
+    let is_kept = disk.octets() == b"GNMIJRN1\0\0\0\x02\0\0\x10\0\0".as_slice()
+        && Ledger::create(alloc, &mut disk, &LIMITS) == Err(CreateFault::NotEmpty);
+    drop(disk);
+    is_kept
+}
+
+fn new_journal_is_kept(alloc: Global) -> Result<bool, CreateFault> {
+    match new_journal(alloc) {
+        Ok(disk) => Ok(keeps_its_journal(alloc, disk)),
+        Err(fault) => Err(fault),
+    }
 }
 
 #[test]
 fn only_an_empty_disk_takes_a_new_journal(rt: HostRuntime) -> Result<(), CreateFault> {
-    let disk = new_journal(rt.alloc())?;
-    assert!(rt; keeps_its_journal(rt.alloc(), disk));
+    assert!(rt; new_journal_is_kept(rt.alloc())?);
     Ok(())
 }
 
 #[test]
 fn a_creation_has_three_calls_that_fail(rt: HostRuntime) -> Result<(), NoMemory> {
     for failing in 0..3 {
-        let failed = failed_creation(rt.alloc(), failing)?;
-        assert_eq!(rt; failed, Err(CreateFault::DiskFault), "at {failing}");
+        let made = failed_creation(rt.alloc(), failing)?;
+        assert!(rt;
+            made == Err(CreateFault::DiskFault),
+            "at {failing}: {made:?}"
+        );
     }
-    assert_eq!(rt; failed_creation(rt.alloc(), 3)?, Ok(()));
+    assert!(rt; failed_creation(rt.alloc(), 3)? == Ok(()));
     Ok(())
 }
 
@@ -494,11 +562,12 @@ fn append_stopping(
     requires range { AreInRange ledger.limits }
 {
     let mut ledger = ledger;
-    match stop_after(&mut ledger, passes) {
-        Ok(()) => {
-            let is_made = append_first(alloc, &mut ledger).is_ok();
-            Ok(Some((is_made, ledger.stopped())))
-        }
+    let told = stop_after(&mut ledger, passes);
+    let is_made = append_first(alloc, &mut ledger).is_ok();
+    let has_stopped = ledger.stopped();
+    drop(ledger);
+    match told {
+        Ok(()) => Ok(Some((is_made, has_stopped))),
         Err(NoMemory) => Err(CreateFault::NoMemory),
     }
 }
@@ -531,9 +600,9 @@ const TOLD_TO_STOP: &[(u64, (bool, bool))] = &[
 
 #[test]
 fn a_disk_that_is_not_armed_stops_where_it_is_told(rt: HostRuntime) -> Result<(), CreateFault> {
-    for (passes, expected) in TOLD_TO_STOP.iter().copied() {
-        let found = told_to_stop(rt.alloc(), passes)?;
-        assert_eq!(rt; found, Some(expected), "after {passes}");
+    for (passes, expected) in TOLD_TO_STOP {
+        let found = told_to_stop(rt.alloc(), *passes)?;
+        assert!(rt; found == Some(*expected), "after {passes}: {found:?}");
     }
     Ok(())
 }
@@ -547,17 +616,27 @@ fn tells(ledger: &mut Ledger<FuseDisk>) -> bool {
 }
 
 /// Whether the ledger of the journal on this disk does.
-fn ledger_tells(alloc: Global, disk: MemDisk) -> bool {
-    match open_empty(alloc, FuseDisk::make(disk, NO_STOP, Fill::Old)) {
-        Some(mut ledger) => tells(&mut ledger),
+fn ledger_tells(alloc: Global, disk: FuseDisk) -> bool {
+    match open_empty(alloc, disk) {
+        Some(mut ledger) => {
+            let tells = tells(&mut ledger);
+            drop(ledger);
+            tells
+        }
         None => false,
+    }
+}
+
+fn new_ledger_tells(alloc: Global) -> Result<bool, CreateFault> {
+    match new_fuse(alloc, NO_STOP, Fill::Old) {
+        Ok(disk) => Ok(ledger_tells(alloc, disk)),
+        Err(fault) => Err(fault),
     }
 }
 
 #[test]
 fn a_ledger_tells_its_limits_and_takes_memory_before(rt: HostRuntime) -> Result<(), CreateFault> {
-    let disk = new_journal(rt.alloc())?;
-    assert!(rt; ledger_tells(rt.alloc(), disk));
+    assert!(rt; new_ledger_tells(rt.alloc())?);
     Ok(())
 }
 
@@ -566,36 +645,45 @@ const NO_RECORD: [u8; 18] = *b"GNMIJRN1\0\0\0\x02\0\0\x10\0\xA5\0";
 /// The first octets of a journal with an open gate and no record, and the place of its damage.
 const DAMAGED: &[(usize, u64)] = &[(0, 0), (15, 0), (16, 16), (17, 16), (18, 16)];
 
+fn place_of_damage<D: Disk>(opening: &Opening<D>) -> Option<u64> {
+    match opening {
+        Opening::Damaged(found, _) => Some(*found),
+        _ => None,
+    }
+}
+
+/// The place of the damage on a disk.
+fn damage_on<D: Disk + Drop>(alloc: Global, disk: D) -> Option<u64> {
+    let opening = Ledger::reopen(alloc, disk);
+    let place = place_of_damage(&opening);
+    drop(opening);
+    place
+}
+
 fn damage_of(alloc: Global, length: usize) -> Result<Option<u64>, NoMemory> {
-    let octets = NO_RECORD.get(..length).unwrap_or_default();
-    match Ledger::reopen(alloc, MemDisk::of(alloc, octets)?) {
-        Opening::Damaged(found, _) => Ok(Some(found)),
-        _ => Ok(None),
+    match MemDisk::of(alloc, NO_RECORD.get(..length).unwrap_or_default()) {
+        Ok(disk) => Ok(damage_on(alloc, disk)),
+        Err(NoMemory) => Err(NoMemory),
     }
 }
 
 #[test]
 fn damage_is_told_with_its_place(rt: HostRuntime) -> Result<(), NoMemory> {
-    for (length, place) in DAMAGED.iter().copied() {
-        assert_eq!(rt; damage_of(rt.alloc(), length)?, Some(place), "at {length}");
+    for (length, place) in DAMAGED {
+        let found = damage_of(rt.alloc(), *length)?;
+        assert!(rt; found == Some(*place), "at {length}: {found:?}");
     }
     Ok(())
-}
-
-fn create_fault_prints(alloc: Global, fault: CreateFault, text: &str) -> bool {
-    format!(in alloc; "{fault}").is_ok_and(|printed| printed.as_str() == text)
-}
-
-fn ledger_fault_prints(alloc: Global, fault: LedgerFault, text: &str) -> bool {
-    format!(in alloc; "{fault}").is_ok_and(|printed| printed.as_str() == text)
 }
 
 #[test]
 fn faults_print_as_they_are_called(rt: HostRuntime) {
     let alloc = rt.alloc();
-    assert!(rt; create_fault_prints(alloc, CreateFault::NotEmpty, "not empty"));
-    assert!(rt; create_fault_prints(alloc, CreateFault::DiskFault, "disk fault"));
-    assert!(rt; create_fault_prints(alloc, CreateFault::NoMemory, "no memory"));
-    assert!(rt; ledger_fault_prints(alloc, LedgerFault::DiskFault, "disk fault"));
-    assert!(rt; ledger_fault_prints(alloc, LedgerFault::NoMemory, "no memory"));
+    assert!(rt;
+        is_shown_as(alloc, &CreateFault::NotEmpty, "not empty")
+            && is_shown_as(alloc, &CreateFault::DiskFault, "disk fault")
+            && is_shown_as(alloc, &CreateFault::NoMemory, "no memory")
+            && is_shown_as(alloc, &LedgerFault::DiskFault, "disk fault")
+            && is_shown_as(alloc, &LedgerFault::NoMemory, "no memory")
+    );
 }

@@ -1,5 +1,6 @@
 //! Records of entries: their octets, and octets that are none.
-use base_kinds::{Act, Bytes, Elem, Entry, Kind, Op, Path, Row, Rows, Seq, Text, Value, Values};
+use crate::lists::{one, push};
+use base_kinds::{Act, Bytes, Elem, Entry, Kind, Op, Path, Row, Seq, Text, Value, Values};
 use journal_record::{RecordFault, put_entry, read_entry, write_entry};
 use std::alloc::Global;
 use std::process::Abort;
@@ -28,49 +29,48 @@ fn text_of(rt: &impl Abort, alloc: Global, octets: &[u8]) -> Text {
     Text::of(alloc, octets).expect(rt, "a text")
 }
 
-fn hostname(rt: &impl Abort, alloc: Global) -> Path {
-    let mut path = Seq::empty(alloc);
-    for name in ["system", "config", "hostname"] {
-        let elem = Elem {
-            name: text_of(rt, alloc, name.as_bytes()),
-            keys: Seq::empty(alloc),
-        };
-        path.push(elem).expect(rt, "memory");
+fn elem(rt: &impl Abort, alloc: Global, name: &[u8]) -> Elem {
+    Elem {
+        name: text_of(rt, alloc, name),
+        keys: Seq::empty(alloc),
     }
+}
+
+fn hostname(rt: &impl Abort, alloc: Global) -> Path {
+    let mut path = one(rt, alloc, elem(rt, alloc, b"system"));
+    push(rt, &mut path, elem(rt, alloc, b"config"));
+    push(rt, &mut path, elem(rt, alloc, b"hostname"));
     path
 }
 
-fn rows(rt: &impl Abort, alloc: Global) -> Rows {
-    let row = Row {
+fn row(rt: &impl Abort, alloc: Global) -> Row {
+    Row {
         path: hostname(rt, alloc),
         value: Value::Text(text_of(rt, alloc, b"r1")),
-    };
-    let mut rows = Seq::empty(alloc);
-    rows.push(row).expect(rt, "memory");
-    rows
+    }
+}
+
+fn update(rt: &impl Abort, alloc: Global) -> Op {
+    Op {
+        act: Act::Update,
+        path: hostname(rt, alloc),
+        rows: one(rt, alloc, row(rt, alloc)),
+    }
 }
 
 fn first_set(rt: &impl Abort, alloc: Global) -> Entry {
-    let op = Op {
-        act: Act::Update,
-        path: hostname(rt, alloc),
-        rows: rows(rt, alloc),
-    };
-    let mut ops = Seq::empty(alloc);
-    ops.push(op).expect(rt, "memory");
     Entry {
         number: 1,
         author: 1,
         stamp: 1000,
-        kind: Kind::Apply(ops),
+        kind: Kind::Apply(one(rt, alloc, update(rt, alloc))),
     }
 }
 
 /// A list of a Bool and a Uint.
 fn two_values(rt: &impl Abort, alloc: Global) -> Values {
-    let mut values = Seq::empty(alloc);
-    values.push(Value::Bool(false)).expect(rt, "memory");
-    values.push(Value::Uint(7)).expect(rt, "memory");
+    let mut values = one(rt, alloc, Value::Bool(false));
+    push(rt, &mut values, Value::Uint(7));
     values
 }
 
@@ -98,31 +98,43 @@ fn written(rt: &impl Abort, alloc: Global, entry: &Entry) -> Bytes {
 /// Whether these octets, and no more than these, are a record of this entry.
 fn reads_as(alloc: Global, octets: &[u8], entry: &Entry) -> bool {
     match read_entry(alloc, 1, octets) {
-        Ok((read, rest)) => read == *entry && rest.is_empty(),
+        Ok((read, rest)) => {
+            let is_same = read == *entry && rest.is_empty();
+            drop(read);
+            is_same
+        }
         Err(_) => false,
     }
+}
+
+fn is_written_as(rt: &impl Abort, alloc: Global, entry: &Entry, octets: &[u8]) -> bool {
+    written(rt, alloc, entry).items() == octets
+}
+
+/// Whether an entry is written as these octets and read of them.
+fn has_octets(rt: &impl Abort, alloc: Global, entry: &Entry, octets: &[u8]) -> bool {
+    is_written_as(rt, alloc, entry, octets) && reads_as(alloc, octets, entry)
 }
 
 #[test]
 fn the_first_set_is_its_109_octets(rt: HostRuntime) {
     let alloc = rt.alloc();
-    let entry = first_set(&rt, alloc);
-    assert_eq!(rt; written(&rt, alloc, &entry).items(), FIRST_SET);
-    assert!(rt; reads_as(alloc, FIRST_SET, &entry));
+    assert!(rt; has_octets(&rt, alloc, &first_set(&rt, alloc), FIRST_SET));
 }
 
 /// Whether the rows of these operations have the values of the trial's rows, in their order.
 fn have_values(rt: &impl Abort, alloc: Global, ops: &[Op]) -> bool {
     let mut count = 0;
+    let mut are_same = true;
     for op in ops {
         for row in op.rows.items() {
-            if row.value != value_of(rt, alloc, count) {
-                return false;
-            }
+            let value = value_of(rt, alloc, count);
+            are_same = are_same && row.value == value;
+            drop(value);
             count = count.saturating_add(1);
         }
     }
-    count == 8
+    are_same && count == 8
 }
 
 /// Whether an entry is the trial's.
@@ -143,13 +155,26 @@ fn put_as(rt: &impl Abort, alloc: Global, entry: &Entry) -> Vec<u8> {
     out
 }
 
+fn is_put_as(rt: &impl Abort, alloc: Global, entry: &Entry, octets: &[u8]) -> bool {
+    put_as(rt, alloc, entry).as_slice() == octets
+}
+
+/// Whether the trial's octets, and no more than these, are a record of the trial's entry, and are put of it.
+fn is_trial_read_and_put(rt: &impl Abort, alloc: Global) -> bool {
+    match read_entry(alloc, 2, TRIAL) {
+        Ok((read, rest)) => {
+            let is_trial = is_trial(rt, alloc, &read);
+            let is_put = is_put_as(rt, alloc, &read, TRIAL);
+            drop(read);
+            rest.is_empty() && is_trial && is_put
+        }
+        Err(_) => false,
+    }
+}
+
 #[test]
 fn every_kind_of_value_is_read_and_written(rt: HostRuntime) {
-    let alloc = rt.alloc();
-    let (read, rest) = read_entry(alloc, 2, TRIAL).expect(&rt, "a record");
-    assert!(rt; rest.is_empty());
-    assert!(rt; is_trial(&rt, alloc, &read));
-    assert_eq!(rt; put_as(&rt, alloc, &read).as_slice(), TRIAL);
+    assert!(rt; is_trial_read_and_put(&rt, rt.alloc()));
 }
 
 /// The octet of a kind without operations, by the table of the format; 0 for the others.
@@ -171,18 +196,32 @@ const EXTEND: &[u8] = &[
 fn has_number(alloc: Global, octets: &[u8], number: u8) -> bool {
     match read_entry(alloc, 1, octets) {
         Ok((read, rest)) => {
-            (read.author, read.stamp) == (9, 5)
+            let has_number = (read.author, read.stamp) == (9, 5)
                 && number_of(&read.kind) == number
-                && rest.is_empty()
+                && rest.is_empty();
+            drop(read);
+            has_number
         }
         Err(_) => false,
+    }
+}
+
+/// The deadline that an entry of this kind gives a trial.
+fn deadline_of(kind: &Kind) -> Option<u64> {
+    match kind {
+        Kind::Extend(deadline) => Some(*deadline),
+        _ => None,
     }
 }
 
 /// Whether octets are a record that gives a trial this deadline, with this octet behind it.
 fn extends(alloc: Global, octets: &[u8], deadline: u64, last: u8) -> bool {
     match read_entry(alloc, 1, octets) {
-        Ok((read, rest)) => read.kind == Kind::Extend(deadline) && rest == [last].as_slice(),
+        Ok((read, rest)) => {
+            let found = deadline_of(&read.kind);
+            drop(read);
+            found == Some(deadline) && rest == [last].as_slice()
+        }
         Err(_) => false,
     }
 }
@@ -221,7 +260,10 @@ const CHANGED: &[(usize, u8)] = &[
 
 /// Whether octets are no record.
 fn is_none(alloc: Global, octets: &[u8]) -> bool {
-    matches!(read_entry(alloc, 1, octets), Err(RecordFault::NoRecord))
+    let read = read_entry(alloc, 1, octets);
+    let is_none = matches!(read, Err(RecordFault::NoRecord));
+    drop(read);
+    is_none
 }
 
 /// Whether the trial's record with another octet at a place is none.
@@ -239,9 +281,9 @@ fn what_is_no_record_is_refused(rt: HostRuntime) {
     for length in 0..TRIAL.len() {
         assert!(rt; is_none(alloc, &TRIAL[..length]), "{length} octets");
     }
-    for (place, octet) in CHANGED.iter().copied() {
+    for (place, octet) in CHANGED {
         assert!(rt;
-            is_none_with(&rt, alloc, place, octet),
+            is_none_with(&rt, alloc, *place, *octet),
             "octet {place} as {octet}"
         );
     }

@@ -24,12 +24,18 @@ pub fn schema(rt: &impl Abort, alloc: Global) -> Schema {
     read_schema(alloc, b"module m\nleaf /a string\nleaf /b string\n").expect(rt, "a schema")
 }
 
+/// A disk with a journal without entries.
+fn disk(rt: &impl Abort, alloc: Global) -> MemDisk {
+    let mut disk = MemDisk::make(alloc);
+    Ledger::create(alloc, &mut disk, &LIMITS).expect(rt, "a journal");
+    disk
+}
+
 /// A port of a book without entries.
 pub fn port(rt: &impl Abort, alloc: Global, schema: Schema) -> Port
     ensures { result.book.opened.schema ≡ schema }
 {
-    let mut disk = MemDisk::make(alloc);
-    Ledger::create(alloc, &mut disk, &LIMITS).expect(rt, "a journal");
+    let disk = disk(rt, alloc);
     match Book::reopen(alloc, disk, PlainTree::empty(alloc), schema, 0) {
         BookOpening::Ready(book) => Single::make(book, 1),
         _ => panic!(rt; "no book"),

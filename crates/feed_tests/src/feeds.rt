@@ -11,7 +11,6 @@ use schema_core::Schema;
 use std::alloc::Global;
 use std::process::Abort;
 use std::sync::Wait;
-use std::test::Fail;
 use stream_feed::{FeedDone, FeedEnd, FeedJob};
 use sub_plan::Plan;
 use time_traits::{IdlePacer, StepClock};
@@ -52,39 +51,51 @@ fn plan(rt: &impl Abort, alloc: Global, desk: &Desk) -> Plan {
     }
 }
 
-/// A wire whose sink fails in this call of `write`.
-fn wire(rt: &impl Abort, alloc: Global, fails: &str) -> Wire<MemSink> {
-    let mut calls = Texts::empty(alloc);
+/// A sink that fails in this call of `write`.
+fn sink(rt: &impl Abort, alloc: Global, fails: &str) -> MemSink {
     let call = Text::of(alloc, fails.as_bytes()).expect(rt, "memory");
+    let mut calls = Texts::empty(alloc);
     calls.push(call).expect(rt, "memory");
-    let mut wire = Wire::make(alloc, MemSink::make(alloc, calls));
+    MemSink::make(alloc, calls)
+}
+
+/// A wire over such a sink.
+fn wire(rt: &impl Abort, alloc: Global, fails: &str) -> Wire<MemSink> {
+    let mut wire = Wire::make(alloc, sink(rt, alloc, fails));
     let _greeting = wire.greet();
     wire
 }
 
-/// A run of a feeder on stream 1, over a book with `/a` and this wire.
-fn run<R: Wait + Abort + Drop>(
-    rt: R,
-    alloc: Global,
-    wire: Wire<MemSink>,
-) -> FeedDone<Port, Wire<MemSink>> {
-    let schema = schema(&rt, alloc);
-    let desk = Desk::make(schema.copy(alloc).expect(&rt, "memory"));
-    let mut book = port(&rt, alloc, schema.copy(alloc).expect(&rt, "memory"));
-    set(&rt, alloc, &desk, 1_000, SET_A, &mut book);
-    let readings = Seq::of(alloc, READINGS).expect(&rt, "memory");
-    FeedJob {
+/// A port of a book in which `/a` is `x`, under the schema of the desk.
+fn port_with_a(rt: &impl Abort, alloc: Global, desk: &Desk) -> Port {
+    let schema = desk.schema().copy(alloc).expect(rt, "memory");
+    let mut book = port(rt, alloc, schema);
+    set(rt, alloc, desk, 1_000, SET_A, &mut book);
+    book
+}
+
+/// A clock of `READINGS`.
+fn clock(rt: &impl Abort, alloc: Global) -> StepClock {
+    StepClock::make(Seq::of(alloc, READINGS).expect(rt, "memory"))
+}
+
+/// A run of a feeder on stream 1, over a book with `/a` and this wire: how it ends, and what is written.
+fn run<R: Wait + Abort + Drop>(rt: R, alloc: Global, wire: Wire<MemSink>) -> (FeedEnd, MemSink) {
+    let desk = Desk::make(schema(&rt, alloc));
+    let done = FeedJob {
         stream: 1,
         plan: plan(&rt, alloc, &desk),
-        schema,
-        book,
+        schema: schema(&rt, alloc),
+        book: port_with_a(&rt, alloc, &desk),
         wire,
-        clock: StepClock::make(readings),
+        clock: clock(&rt, alloc),
         pacer: IdlePacer,
         alloc,
         rt,
     }
-    .run()
+    .run();
+    let FeedDone { end, wire, .. } = done;
+    (end, wire.give())
 }
 
 /// What was written behind the greeting and the headers of the reply.
@@ -97,29 +108,35 @@ fn data(sink: &MemSink) -> &[u8] {
     written.get(9 + length..).unwrap_or(&[])
 }
 
-#[test]
-fn messages_go_out_in_order_until_a_write_fails(rt: HostRuntime) -> Result<(), Fail> {
-    for (fails, octets) in FAILS.iter().copied() {
-        let alloc = rt.alloc();
-        let mut wire = wire(&rt, alloc, fails);
-        let _call = wire.act(alloc, &RecvEvent::Call(1, Headers::empty(alloc), true));
-        let done = run(rt, alloc, wire);
-        assert_eq!(rt; done.end, FeedEnd::Gone);
-        let sink = done.wire.give();
-        assert_eq!(rt;
-            data(&sink),
-            DATA.get(..octets).unwrap_or(&[]),
-            "call {fails}"
-        );
-    }
-    Ok(())
+/// A wire over such a sink, on which stream 1 is called.
+fn called_wire(rt: &impl Abort, alloc: Global, fails: &str) -> Wire<MemSink> {
+    let mut wire = wire(rt, alloc, fails);
+    let _call = wire.act(alloc, &RecvEvent::Call(1, Headers::empty(alloc), true));
+    wire
+}
+
+/// Whether nothing goes out any more behind so many octets of DATA, where this call of `write` fails.
+fn ends_behind<R: Wait + Abort + Drop>(rt: R, alloc: Global, fails: &str, count: usize) -> bool {
+    let wire = called_wire(&rt, alloc, fails);
+    let (end, sink) = run(rt, alloc, wire);
+    end == FeedEnd::Gone && data(&sink) == DATA.get(..count).unwrap_or(&[])
 }
 
 #[test]
-fn a_stream_that_is_not_open_ends_a_call(rt: HostRuntime) -> Result<(), Fail> {
-    let alloc = rt.alloc();
-    let done = run(rt, alloc, wire(&rt, alloc, "3"));
-    assert_eq!(rt; done.end, FeedEnd::Gone);
-    assert_eq!(rt; done.wire.give().octets().len(), GREETING);
-    Ok(())
+fn messages_go_out_in_order_until_a_write_fails(rt: HostRuntime) {
+    for (fails, count) in FAILS {
+        assert!(rt; ends_behind(rt, rt.alloc(), fails, *count), "call {fails}");
+    }
+}
+
+/// Whether nothing goes out but the greeting on a wire on which no stream is called.
+fn ends_uncalled<R: Wait + Abort + Drop>(rt: R, alloc: Global) -> bool {
+    let wire = wire(&rt, alloc, "3");
+    let (end, sink) = run(rt, alloc, wire);
+    end == FeedEnd::Gone && sink.octets().len() == GREETING
+}
+
+#[test]
+fn a_stream_that_is_not_open_ends_a_call(rt: HostRuntime) {
+    assert!(rt; ends_uncalled(rt, rt.alloc()));
 }

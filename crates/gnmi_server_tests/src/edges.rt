@@ -197,10 +197,7 @@ impl TestDoor {
         requires reader { (input_of reader.source).faults ≡ 0 }
         requires writer { writer.sink.seen.faults ≡ 0 }
     {
-        match self.links.push_back((reader, writer)) {
-            Ok(()) => Ok(()),
-            Err(_) => Err(NoMemory),
-        }
+        self.links.push_back((reader, writer)).ok().ok_or(NoMemory)
     }
 }
 

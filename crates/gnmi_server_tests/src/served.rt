@@ -97,12 +97,11 @@ fn counted(rt: &impl Abort, alloc: Global, counters: &[Counter]) -> Seq<u64> {
     counted
 }
 
-/// The numbers in decimal.
-fn texts_of(rt: &impl Abort, alloc: Global, numbers: &[u64]) -> Texts {
+/// Numbers in decimal.
+fn texts_of(rt: &impl Abort, alloc: Global, numbers: &[&str]) -> Texts {
     let mut texts = Texts::empty(alloc);
     for number in numbers {
-        let decimal = format!(in alloc; "{number}").expect(rt, "memory");
-        let text = Text::of(alloc, decimal.as_bytes()).expect(rt, "a text");
+        let text = Text::of(alloc, number.as_bytes()).expect(rt, "a text");
         texts.push(text).expect(rt, "memory");
     }
     texts
@@ -175,8 +174,10 @@ fn door(
     late: &Counter,
 ) -> TestDoor {
     let mut door = TestDoor::empty(alloc);
-    for ((peer, first), second) in peers.iter().zip(firsts.iter()).zip(seconds.iter()) {
+    for (place, peer) in peers.iter().enumerate() {
         let reader = source(rt, alloc, peer.parts, firsts, late);
+        let first = firsts.get(place).expect(rt, "a counter");
+        let second = seconds.get(place).expect(rt, "a counter");
         let writer = sink(rt, alloc, peer, first, second);
         door.add(reader, writer).expect(rt, "memory");
     }
@@ -212,12 +213,12 @@ fn port<R: Wait + Abort + Copy + Drop>(rt: R, alloc: Global) -> DeskPort<TestBoo
     }
 }
 
-/// A starter that refuses the calls with these numbers, and whose twins refuse those with these.
+/// A starter that refuses the calls with these numbers in decimal, and whose twins refuse those with these.
 fn starter<R: Threads + Wait + Abort + Copy + Drop>(
     rt: &R,
     alloc: Global,
-    own: &[u64],
-    twins: &[u64],
+    own: &[&str],
+    twins: &[&str],
 ) -> ThreadStarter<R> {
     ThreadStarter::refusing(
         *rt,
@@ -269,14 +270,14 @@ where
     )
 }
 
-/// Serves these connections, and as many as there are. The starter refuses the sessions with these numbers, and another one the feeders
-/// of each session with these.
+/// Serves these connections, and as many as there are. The starter refuses the sessions with these numbers in decimal, and another one
+/// the feeders of each session with these.
 pub(crate) fn serve<R: Threads + Wait + Abort + Copy + Drop + Send + Sync + 'static>(
     rt: R,
     alloc: Global,
     peers: &[Peer],
-    sessions: &[u64],
-    feeders: &[u64],
+    sessions: &[&str],
+    feeders: &[&str],
 ) -> Outcome {
     let firsts = counters(&rt, alloc, peers.len());
     let seconds = counters(&rt, alloc, peers.len());

@@ -1,7 +1,11 @@
 use crate::scripts::{GET, SET, SUBSCRIBE, Step};
-use crate::served::{Part, Peer, serve};
+use crate::served::{Outcome, Part, Peer, serve};
+use base_lists::Seq;
 use connection_server::Ending;
-use std::test::Fail;
+use std::alloc::Global;
+use std::process::Abort;
+use std::sync::Wait;
+use std::thread::Threads;
 
 /// Sets of /a, and of /b.
 const SET_A: &[u8] = b"\x22\x0e\x0a\x05\x1a\x03\x0a\x01a\x1a\x05\x0a\x03one";
@@ -98,16 +102,63 @@ const THIRD: Peer = Peer {
     second: LAST_B,
 };
 
+/// Connections that are served, and what serving them is to come to where each is accepted and no hold is given up.
+#[derive(Clone, Copy)]
+struct Case {
+    peers: &'static [Peer],
+    /// Which sessions the starter refuses, and which feeders of each session another one, by their numbers in decimal.
+    sessions: &'static [&'static str],
+    feeders: &'static [&'static str],
+    /// How many connections end without an error.
+    closed: u64,
+    entries: u64,
+    /// Which connection is sent its first text once, and which its second, where it is looked at.
+    first: Option<usize>,
+    second: Option<usize>,
+}
+
+/// Whether the text of this connection was counted once, where it is looked at.
+fn is_once(counts: &Seq<u64>, connection: Option<usize>) -> bool {
+    match connection {
+        Some(connection) => counts.get(connection) == Some(&1),
+        None => true,
+    }
+}
+
+/// Whether serving came to what it is to come to.
+fn is_as_told(end: &Outcome, case: &Case) -> bool {
+    end.ending == Ending::All
+        && end.late == 0
+        && end.closed == case.closed
+        && end.entries == case.entries
+        && is_once(&end.first, case.first)
+        && is_once(&end.second, case.second)
+}
+
+/// Whether serving these connections comes to that.
+fn comes_to<R: Threads + Wait + Abort + Copy + Drop + Send + Sync + 'static>(
+    rt: R,
+    alloc: Global,
+    case: &Case,
+) -> bool {
+    let end = serve(rt, alloc, case.peers, case.sessions, case.feeders);
+    is_as_told(&end, case)
+}
+
+/// The first session reads its own Set once, and the second the last of its nine.
+const TEN_SETS: &Case = &Case {
+    peers: &[FIRST, SECOND, THIRD],
+    sessions: &[],
+    feeders: &[],
+    closed: 3,
+    entries: 10,
+    first: Some(0),
+    second: Some(1),
+};
+
 #[test]
-fn two_sessions_and_a_feeder(rt: HostRuntime) -> Result<(), Fail> {
-    let end = serve(rt, rt.alloc(), &[FIRST, SECOND, THIRD], &[], &[]);
-    assert!(rt; end.ending == Ending::All);
-    assert!(rt; end.late == 0);
-    assert!(rt; end.closed == 3);
-    assert!(rt; end.entries == 10);
-    assert!(rt; end.first.get(0) == Some(&1));
-    assert!(rt; end.second.get(1) == Some(&1));
-    Ok(())
+fn two_sessions_and_a_feeder(rt: HostRuntime) {
+    assert!(rt; comes_to(rt, rt.alloc(), TEN_SETS));
 }
 
 /// A single Set, behind which the connection ends.
@@ -131,23 +182,33 @@ const TOLD_ONCE: Peer = Peer {
     second: LAST_B,
 };
 
-#[test]
-fn a_session_serves_a_call_whose_feeder_is_not_started(rt: HostRuntime) -> Result<(), Fail> {
-    let end = serve(rt, rt.alloc(), &[ONE_SET, TOLD_ONCE], &[], &[1]);
-    assert!(rt; end.ending == Ending::All);
-    assert!(rt; end.late == 0);
-    assert!(rt; end.closed == 2);
-    assert!(rt; end.entries == 1);
-    assert!(rt; end.first.get(1) == Some(&1));
-    Ok(())
-}
+/// The second session is told of the single Set once.
+const NO_FEEDER_STARTED: &Case = &Case {
+    peers: &[ONE_SET, TOLD_ONCE],
+    sessions: &[],
+    feeders: &["1"],
+    closed: 2,
+    entries: 1,
+    first: Some(1),
+    second: None,
+};
 
 #[test]
-fn a_session_that_is_not_started_is_served_by_the_acceptor(rt: HostRuntime) -> Result<(), Fail> {
-    let end = serve(rt, rt.alloc(), &[ONE_SET, TOLD_ONCE], &[1, 2], &[]);
-    assert!(rt; end.ending == Ending::All);
-    assert!(rt; end.late == 0);
-    assert!(rt; end.closed == 2);
-    assert!(rt; end.entries == 1);
-    Ok(())
+fn a_session_serves_a_call_whose_feeder_is_not_started(rt: HostRuntime) {
+    assert!(rt; comes_to(rt, rt.alloc(), NO_FEEDER_STARTED));
+}
+
+const NO_SESSION_STARTED: &Case = &Case {
+    peers: &[ONE_SET, TOLD_ONCE],
+    sessions: &["1", "2"],
+    feeders: &[],
+    closed: 2,
+    entries: 1,
+    first: None,
+    second: None,
+};
+
+#[test]
+fn a_session_that_is_not_started_is_served_by_the_acceptor(rt: HostRuntime) {
+    assert!(rt; comes_to(rt, rt.alloc(), NO_SESSION_STARTED));
 }

@@ -79,7 +79,7 @@ const GRPC: &[u8] = b"application/grpc";
 
 const REFUSED: CallHead = CallHead::Refused(Refusal::NoMethod);
 
-const HEADS: [(&[u8], &[u8], &[u8], CallHead); 11] = [
+const HEADS: &[(&[u8], &[u8], &[u8], CallHead)] = &[
     (
         b"POST",
         GRPC,
@@ -115,10 +115,10 @@ const HEADS: [(&[u8], &[u8], &[u8], CallHead); 11] = [
 
 #[test]
 fn heads_in_the_order_of_their_checks(rt: HostRuntime) -> Result<(), Fail> {
-    for (method, content_type, path, head) in HEADS.iter().copied() {
+    for (method, content_type, path, head) in HEADS {
         assert_eq!(rt;
             judged(rt.alloc(), method, content_type, path)?,
-            head,
+            *head,
             "{path:?}"
         );
     }

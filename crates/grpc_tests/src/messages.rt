@@ -1,7 +1,10 @@
 //! Messages in any pieces: cut at every place, at their limits, and after a fault.
+ghost use Rattle.std.specs.Prelude.{◌^◌, ◌<◌, length};
+
 use base_lists::{Bytes, NoMemory};
 use grpc_core::{Messages, SplitFault, Splitter, frame_message};
 use std::alloc::Global;
+use std::process::Abort;
 use std::test::Fail;
 
 // The DATA of a Get that grpcio 1.51.1 sent, and behind it an empty message and one of two octets.
@@ -18,10 +21,11 @@ const FIRST: usize = 68;
 
 const LARGEST: usize = 4_194_304;
 
-fn fed(alloc: Global, splitter: &mut Splitter, piece: &[u8]) -> (Messages, Result<(), SplitFault>) {
+/// How many messages the piece gives, and what is answered.
+fn fed(alloc: Global, splitter: &mut Splitter, piece: &[u8]) -> (usize, Result<(), SplitFault>) {
     let mut out = Messages::empty(alloc);
     let result = splitter.feed(alloc, piece, &mut out);
-    (out, result)
+    (out.len(), result)
 }
 
 // The messages of the pieces, each as it is sent.
@@ -51,21 +55,39 @@ fn messages_cut_at_every_place(rt: HostRuntime) -> Result<(), Fail> {
     Ok(())
 }
 
-#[test]
-fn messages_octet_by_octet(rt: HostRuntime) -> Result<(), Fail> {
-    let mut splitter = Splitter::make(rt.alloc());
-    let mut messages = Messages::empty(rt.alloc());
+/// Whether the octet at this place is taken, and there is a message from the last one of the first on.
+fn is_taken(
+    alloc: Global,
+    splitter: &mut Splitter,
+    messages: &mut Messages,
+    at: usize,
+    octet: u8,
+) -> bool {
+    splitter.feed(alloc, &[octet], messages) == Ok(())
+        && messages.is_empty() == (at.saturating_add(1) < FIRST)
+}
+
+fn assert_taken(rt: &impl Abort, alloc: Global, splitter: &mut Splitter, messages: &mut Messages) {
     for (at, octet) in SENT.iter().enumerate() {
-        assert_eq!(rt; splitter.feed(rt.alloc(), &[*octet], &mut messages), Ok(()));
-        assert_eq!(rt; messages.is_empty(), at + 1 < FIRST, "{at}");
+        assert!(rt; is_taken(alloc, splitter, messages, at, *octet), "{at}");
     }
     assert_eq!(rt; messages.len(), 3);
     assert_eq!(rt; splitter.held(), 0);
-    Ok(())
+}
+
+#[test]
+fn messages_octet_by_octet(rt: HostRuntime) {
+    let alloc = rt.alloc();
+    assert_taken(
+        &rt,
+        alloc,
+        &mut Splitter::make(alloc),
+        &mut Messages::empty(alloc),
+    );
 }
 
 // An empty message and four of the five octets before another, the fifth, and what is answered with it.
-const PREFIXES: [(&[u8], u8, Result<(), SplitFault>); 5] = [
+const PREFIXES: &[(&[u8], u8, Result<(), SplitFault>)] = &[
     (&[0, 0, 0, 0, 0, 0, 0, 0x40, 0], 0, Ok(())),
     (
         &[0, 0, 0, 0, 0, 0, 0, 0x40, 0],
@@ -85,46 +107,103 @@ const PREFIXES: [(&[u8], u8, Result<(), SplitFault>); 5] = [
     ),
 ];
 
+/// Whether these octets give a message, and the next one is answered so.
+fn is_answered(
+    alloc: Global,
+    splitter: &mut Splitter,
+    before: &[u8],
+    next: u8,
+    answer: Result<(), SplitFault>,
+) -> bool {
+    fed(alloc, splitter, before) == (1, Ok(())) && fed(alloc, splitter, &[next]).1 == answer
+}
+
 #[test]
 fn faults_with_the_fifth_octet(rt: HostRuntime) {
-    for (before, fifth, answer) in PREFIXES.iter().copied() {
-        let mut splitter = Splitter::make(rt.alloc());
-        let (messages, none) = fed(rt.alloc(), &mut splitter, before);
-        assert_eq!(rt; messages.len(), 1);
-        assert_eq!(rt; none, Ok(()));
-        let (_, result) = fed(rt.alloc(), &mut splitter, &[fifth]);
-        assert_eq!(rt; result, answer, "{before:?}");
+    for (before, fifth, answer) in PREFIXES {
+        let splitter = &mut Splitter::make(rt.alloc());
+        assert!(rt;
+            is_answered(rt.alloc(), splitter, before, *fifth, *answer),
+            "{before:?}"
+        );
     }
+}
+
+fn assert_compressed(rt: &impl Abort, alloc: Global, splitter: &mut Splitter) {
+    let compressed = Err(SplitFault::Compressed);
+    let first = fed(alloc, splitter, &[0, 0, 0, 0, 0, 1, 0, 0, 0, 0]);
+    assert_eq!(rt; first, (1, compressed));
+    assert_eq!(rt; fed(alloc, splitter, &[0, 0, 0, 0, 0]), (0, compressed));
+    assert_eq!(rt; splitter.held(), 0);
 }
 
 #[test]
 fn fault_is_answered_for_ever(rt: HostRuntime) {
-    let mut splitter = Splitter::make(rt.alloc());
-    let (first, fault) = fed(rt.alloc(), &mut splitter, &[0, 0, 0, 0, 0, 1, 0, 0, 0, 0]);
-    assert_eq!(rt; first.len(), 1);
-    assert_eq!(rt; fault, Err(SplitFault::Compressed));
-    let (messages, again) = fed(rt.alloc(), &mut splitter, &[0, 0, 0, 0, 0]);
-    assert_eq!(rt; messages.len(), 0);
-    assert_eq!(rt; again, Err(SplitFault::Compressed));
-    assert_eq!(rt; splitter.held(), 0);
+    let alloc = rt.alloc();
+    assert_compressed(&rt, alloc, &mut Splitter::make(alloc));
+}
+
+/// Whether all but the last octet of the largest message are held, and no message is given.
+fn are_held(alloc: Global, splitter: &mut Splitter, messages: &mut Messages, most: &[u8]) -> bool {
+    for piece in most.chunks(16_384) {
+        if splitter.feed(alloc, piece, messages) != Ok(()) {
+            return false;
+        }
+    }
+    splitter.held() == 4_194_308 && messages.is_empty()
+}
+
+/// Whether the last octet gives the message with this body, and nothing is held then.
+fn is_given(
+    alloc: Global,
+    splitter: &mut Splitter,
+    messages: &mut Messages,
+    last: &[u8],
+    body: &[u8],
+) -> bool {
+    splitter.feed(alloc, last, messages) == Ok(())
+        && messages
+            .get(0)
+            .is_some_and(|message| message.items() == body)
+        && splitter.held() == 0
+}
+
+/// The largest message with this body, as these octets.
+fn assert_largest(
+    rt: &impl Abort,
+    alloc: Global,
+    splitter: &mut Splitter,
+    messages: &mut Messages,
+    octets: &[u8],
+    body: &[u8],
+) {
+    assert_eq!(rt; octets.len(), LARGEST + 5);
+    let (most, last) = octets.split_at(LARGEST + 4);
+    assert!(rt; are_held(alloc, splitter, messages, most));
+    assert!(rt; is_given(alloc, splitter, messages, last, body));
+}
+
+/// Octets of a message with this body.
+fn framed(alloc: Global, body: &[u8]) -> Result<Bytes, NoMemory>
+    requires { length body.now < 2 ^ 32 }
+{
+    let mut octets = Bytes::empty(alloc);
+    frame_message(body, &mut octets)?;
+    Ok(octets)
 }
 
 #[test]
 fn largest_message_in_pieces(rt: HostRuntime) -> Result<(), Fail> {
-    let mut octets = Bytes::empty(rt.alloc());
-    let body = vec![in rt.alloc(); 7u8; LARGEST]?;
-    frame_message(&body, &mut octets)?;
-    let mut splitter = Splitter::make(rt.alloc());
-    let mut messages = Messages::empty(rt.alloc());
-    let (most, last) = octets.items().split_at(LARGEST + 4);
-    for piece in most.chunks(16_384) {
-        assert_eq!(rt; splitter.feed(rt.alloc(), piece, &mut messages), Ok(()));
-    }
-    assert_eq!(rt; splitter.held(), 4_194_308);
-    assert_eq!(rt; messages.len(), 0);
-    assert_eq!(rt; splitter.feed(rt.alloc(), last, &mut messages), Ok(()));
-    let message = messages.get(0).expect(&rt, "the message");
-    assert_eq!(rt; message.items(), body.as_slice());
-    assert_eq!(rt; splitter.held(), 0);
+    let alloc = rt.alloc();
+    let body = vec![in alloc; 7u8; LARGEST]?;
+    let octets = framed(alloc, &body)?;
+    assert_largest(
+        &rt,
+        alloc,
+        &mut Splitter::make(alloc),
+        &mut Messages::empty(alloc),
+        octets.items(),
+        &body,
+    );
     Ok(())
 }

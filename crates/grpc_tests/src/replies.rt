@@ -22,7 +22,7 @@ fn trailers(alloc: Global, refusal: Option<Refusal>) -> Result<Bytes, NoMemory> 
     written(alloc, &headers)
 }
 
-const TRAILERS: [(Option<Refusal>, &[u8]); 4] = [
+const TRAILERS: &[(Option<Refusal>, &[u8])] = &[
     (None, b"grpc-status: 0\n"),
     (
         Some(Refusal::TooLarge),
@@ -38,34 +38,46 @@ const TRAILERS: [(Option<Refusal>, &[u8]); 4] = [
     ),
 ];
 
+fn are_trailers(alloc: Global, refusal: Option<Refusal>, text: &[u8]) -> Result<bool, NoMemory> {
+    Ok(trailers(alloc, refusal)?.items() == text)
+}
+
 #[test]
 fn trailers_with_and_without_a_refusal(rt: HostRuntime) -> Result<(), Fail> {
-    for (refusal, text) in TRAILERS.iter().copied() {
-        assert_eq!(rt; trailers(rt.alloc(), refusal)?.items(), text);
+    for (refusal, text) in TRAILERS {
+        assert!(rt; are_trailers(rt.alloc(), *refusal, text)?);
     }
     Ok(())
 }
 
+fn are_written_as(alloc: Global, headers: &Headers, text: &[u8]) -> Result<bool, NoMemory> {
+    Ok(written(alloc, headers)?.items() == text)
+}
+
 #[test]
 fn headers_before_the_first_message(rt: HostRuntime) -> Result<(), Fail> {
-    let headers = opening_headers(rt.alloc())?;
-    assert_eq!(rt;
-        written(rt.alloc(), &headers)?.items(),
-        b":status: 200\ncontent-type: application/grpc\n".as_slice()
-    );
+    let text = b":status: 200\ncontent-type: application/grpc\n";
+    assert!(rt; are_written_as(rt.alloc(), &opening_headers(rt.alloc())?, text)?);
     Ok(())
+}
+
+fn opening_block(alloc: Global) -> Result<Bytes, NoMemory> {
+    let mut block = Bytes::empty(alloc);
+    encode_block(&opening_headers(alloc)?, &mut block)?;
+    Ok(block)
+}
+
+fn closing_block(alloc: Global) -> Result<Bytes, NoMemory> {
+    let mut block = Bytes::empty(alloc);
+    encode_block(&trailers_of(alloc, None)?, &mut block)?;
+    Ok(block)
 }
 
 #[test]
 fn header_blocks_of_a_reply(rt: HostRuntime) -> Result<(), Fail> {
-    let mut opening = Bytes::empty(rt.alloc());
-    encode_block(&opening_headers(rt.alloc())?, &mut opening)?;
-    assert_eq!(rt;
-        opening.items(),
-        b"\x88\x0f\x10\x10application/grpc".as_slice()
-    );
-    let mut end = Bytes::empty(rt.alloc());
-    encode_block(&trailers_of(rt.alloc(), None)?, &mut end)?;
-    assert_eq!(rt; end.items(), b"\x00\x0bgrpc-status\x010".as_slice());
+    let opening = b"\x88\x0f\x10\x10application/grpc";
+    assert!(rt; opening_block(rt.alloc())?.items() == opening.as_slice());
+    let closing = b"\x00\x0bgrpc-status\x010";
+    assert!(rt; closing_block(rt.alloc())?.items() == closing.as_slice());
     Ok(())
 }

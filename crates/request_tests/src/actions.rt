@@ -1,8 +1,7 @@
 //! What a request does beside its operations: durations and ids of trials, and the first cause of a refusal.
-use crate::asked::{SCHEMA, Sent, answer, assert_answer, put, put_number, refused, request};
-use crate::builders::{octets_of, schema_of, text_of};
+use crate::asked::{Sent, answer, assert_answer, is_answered, put, put_number, refused, request};
+use crate::builders::{octets_of, text_of};
 use base_kinds::{Action, Bytes, Refusal, Span, Text, UnresolvedSet};
-use schema_core::Schema;
 use std::alloc::Global;
 use std::process::Abort;
 
@@ -24,9 +23,7 @@ fn acting(
     lines: &[(&str, &str, Sent)],
     action: Action,
 ) -> UnresolvedSet {
-    let mut ask = request(rt, alloc, "/", lines);
-    ask.action = action;
-    ask
+    request(rt, alloc, "/", lines, action)
 }
 
 /// Spans, and their nanoseconds, which are 0 where they are refused.
@@ -60,26 +57,18 @@ fn duration_text(rt: &impl Abort, alloc: Global, word: &str, nanos: u64) -> Byte
 }
 
 /// Whether the span of an action without operations is so many nanoseconds, or refused where they are 0.
-fn lasts(
-    rt: &impl Abort,
-    alloc: Global,
-    schema: &Schema,
-    word: &str,
-    span: Span,
-    nanos: u64,
-) -> bool {
+fn lasts(rt: &impl Abort, alloc: Global, word: &str, span: Span, nanos: u64) -> bool {
     let action = action_of(word, text_of(rt, alloc, "t"), span);
     let ask = acting(rt, alloc, &[], action);
-    answer(rt, alloc, schema, &ask) == duration_text(rt, alloc, word, nanos)
+    answer(rt, alloc, ask) == duration_text(rt, alloc, word, nanos)
 }
 
 #[test]
 fn durations_have_bounds(rt: HostRuntime) {
     let alloc = rt.alloc();
-    let schema = schema_of(&rt, alloc, SCHEMA);
-    for (span, nanos) in SPANS.iter().copied() {
-        let is_trial = lasts(&rt, alloc, &schema, "trial", span, nanos);
-        let is_extend = lasts(&rt, alloc, &schema, "extend", span, nanos);
+    for (span, nanos) in SPANS {
+        let is_trial = lasts(&rt, alloc, "trial", *span, *nanos);
+        let is_extend = lasts(&rt, alloc, "extend", *span, *nanos);
         assert!(rt; is_trial && is_extend, "{span:?}");
     }
 }
@@ -94,16 +83,10 @@ fn long_text(rt: &impl Abort, alloc: Global, length: usize) -> Text {
 }
 
 /// Whether the action with an id of so many octets is refused for that.
-fn id_is_refused(
-    rt: &impl Abort,
-    alloc: Global,
-    schema: &Schema,
-    word: &str,
-    length: usize,
-) -> bool {
+fn id_is_refused(rt: &impl Abort, alloc: Global, word: &str, length: usize) -> bool {
     let id = long_text(rt, alloc, length);
     let ask = acting(rt, alloc, &[], action_of(word, id, Span::Absent));
-    answer(rt, alloc, schema, &ask).items() == b"refused 15".as_slice()
+    is_answered(rt, alloc, ask, "refused 15")
 }
 
 /// Lengths of ids, and whether they are taken.
@@ -114,12 +97,10 @@ const NAMED: &[&str] = &["trial", "confirm", "cancel", "extend"];
 
 #[test]
 fn ids_have_1_to_64_octets(rt: HostRuntime) {
-    let alloc = rt.alloc();
-    let schema = schema_of(&rt, alloc, SCHEMA);
-    for (length, is_taken) in IDS.iter().copied() {
-        for word in NAMED.iter().copied() {
-            let is_refused = id_is_refused(&rt, alloc, &schema, word, length);
-            assert_eq!(rt; is_refused, !is_taken, "{word} of {length}");
+    for (length, is_taken) in IDS {
+        for word in NAMED {
+            let is_refused = id_is_refused(&rt, rt.alloc(), word, *length);
+            assert!(rt; is_refused != *is_taken, "{word} of {length}");
         }
     }
 }
@@ -141,16 +122,25 @@ const CAUSES: &[(bool, &str, &str, Span, &str, &str)] = &[
     ),
 ];
 
+/// The request with an update of this path and this action.
+fn updating(rt: &impl Abort, alloc: Global, path: &str, action: Action) -> UnresolvedSet {
+    acting(rt, alloc, &[("update", path, Sent::Bool(true))], action)
+}
+
+/// The request, in which something isn't supported where it says so.
+fn with_unsupported(ask: UnresolvedSet, unsupported: bool) -> UnresolvedSet {
+    let mut ask = ask;
+    ask.unsupported = unsupported;
+    ask
+}
+
 #[test]
 fn the_first_cause_of_a_request_decides(rt: HostRuntime) {
     let alloc = rt.alloc();
-    let schema = schema_of(&rt, alloc, SCHEMA);
-    for (unsupported, word, id, span, path, expected) in CAUSES.iter().copied() {
-        let lines = [("update", path, Sent::Bool(true))];
-        let action = action_of(word, text_of(&rt, alloc, id), span);
-        let mut ask = acting(&rt, alloc, &lines, action);
-        ask.unsupported = unsupported;
-        assert_answer(&rt, alloc, &schema, &ask, expected);
+    for (unsupported, word, id, span, path, expected) in CAUSES {
+        let action = action_of(word, text_of(&rt, alloc, id), *span);
+        let ask = with_unsupported(updating(&rt, alloc, path, action), *unsupported);
+        assert_answer(&rt, alloc, ask, expected);
     }
 }
 
@@ -165,17 +155,10 @@ const ACTIONS: &[(&str, &str)] = &[
 ];
 
 /// Whether what becomes of the action with this operation begins so.
-fn begins(
-    rt: &impl Abort,
-    alloc: Global,
-    schema: &Schema,
-    word: &str,
-    act: &str,
-    expected: &str,
-) -> bool {
+fn begins(rt: &impl Abort, alloc: Global, word: &str, act: &str, expected: &str) -> bool {
     let action = action_of(word, text_of(rt, alloc, "t"), Span::Absent);
     let ask = acting(rt, alloc, &[(act, "/lab/on", Sent::Bool(true))], action);
-    answer(rt, alloc, schema, &ask)
+    answer(rt, alloc, ask)
         .items()
         .starts_with(expected.as_bytes())
 }
@@ -184,12 +167,12 @@ const ACTS: &[&str] = &["delete", "replace", "update"];
 
 #[test]
 fn an_action_without_operations_is_mixed_with_any(rt: HostRuntime) {
-    let alloc = rt.alloc();
-    let schema = schema_of(&rt, alloc, SCHEMA);
-    for (word, expected) in ACTIONS.iter().copied() {
-        for act in ACTS.iter().copied() {
-            let is = begins(&rt, alloc, &schema, word, act, expected);
-            assert!(rt; is, "{word} with {act}");
+    for (word, expected) in ACTIONS {
+        for act in ACTS {
+            assert!(rt;
+                begins(&rt, rt.alloc(), word, act, expected),
+                "{word} with {act}"
+            );
         }
     }
 }

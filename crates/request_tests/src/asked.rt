@@ -1,11 +1,10 @@
 //! Requests of a table, and what becomes of them as a text.
-use crate::builders::{octets_of, path_of, text_of};
+use crate::builders::{octets_of, path_of, schema_of, text_of};
 use base_kinds::{
     Act, Action, Ask, Bytes, Change, Changes, Given, Op, Path, Paths, Refusal, Row, Text,
     UnresolvedSet, Value, Values,
 };
 use path_core::write_path_text;
-use schema_core::Schema;
 use set_txn::resolve;
 use std::alloc::Global;
 use std::process::Abort;
@@ -38,7 +37,7 @@ leaf /lab/route/key binary\n\
 container /lab/route/next\n\
 ";
 
-/// A value of a request in a table: JSON, a scalar, or none where it is missing or the operation is a delete.
+/// A value in a table, as of a request: JSON, a scalar, or none where it is missing or the operation is a delete.
 #[derive(Clone, Copy)]
 pub(crate) enum Sent {
     Nothing,
@@ -69,8 +68,8 @@ fn words(rt: &impl Abort, alloc: Global, count: u32, last: u32) -> Value {
     Value::List(values)
 }
 
-fn value_of(rt: &impl Abort, alloc: Global, put: Sent) -> Value {
-    match put {
+pub(crate) fn value_of(rt: &impl Abort, alloc: Global, sent: Sent) -> Value {
+    match sent {
         Sent::Bool(is) => Value::Bool(is),
         Sent::Int(number) => Value::Int(number),
         Sent::Uint(number) => Value::Uint(number),
@@ -104,45 +103,66 @@ fn value_of(rt: &impl Abort, alloc: Global, put: Sent) -> Value {
     }
 }
 
-pub(crate) fn nothing(rt: &impl Abort, alloc: Global) -> UnresolvedSet {
+/// A request without operations behind this prefix.
+pub(crate) fn nothing(
+    rt: &impl Abort,
+    alloc: Global,
+    prefix: Path,
+    action: Action,
+) -> UnresolvedSet {
     UnresolvedSet {
-        prefix: Path::empty(alloc),
+        prefix,
         target: text_of(rt, alloc, ""),
         deletes: Paths::empty(alloc),
         replaces: Changes::empty(alloc),
         updates: Changes::empty(alloc),
-        action: Action::Plain,
+        action,
         unsupported: false,
     }
 }
 
-/// A request with these operations: their words, their paths, and their values.
+fn given_of(rt: &impl Abort, alloc: Global, sent: &Sent) -> Given {
+    match sent {
+        Sent::Nothing => Given::Missing,
+        Sent::Json(json) => Given::Json(octets_of(rt, alloc, json.as_bytes())),
+        _ => Given::Scalar(value_of(rt, alloc, *sent)),
+    }
+}
+
+fn add_change(rt: &impl Abort, alloc: Global, changes: &mut Changes, text: &str, sent: &Sent) {
+    let path = path_of(rt, alloc, text);
+    let given = given_of(rt, alloc, sent);
+    changes.push(Change { path, given }).expect(rt, "memory")
+}
+
+/// Adds an operation: its word, its path, and its value.
+fn add(
+    rt: &impl Abort,
+    alloc: Global,
+    ask: &mut UnresolvedSet,
+    (word, text, sent): &(&str, &str, Sent),
+) {
+    match *word {
+        "delete" => ask
+            .deletes
+            .push(path_of(rt, alloc, text))
+            .expect(rt, "memory"),
+        "replace" => add_change(rt, alloc, &mut ask.replaces, text, sent),
+        _ => add_change(rt, alloc, &mut ask.updates, text, sent),
+    }
+}
+
+/// A request with these operations, behind this prefix and with this action.
 pub(crate) fn request(
     rt: &impl Abort,
     alloc: Global,
     prefix: &str,
     lines: &[(&str, &str, Sent)],
+    action: Action,
 ) -> UnresolvedSet {
-    let mut ask = nothing(rt, alloc);
-    ask.prefix = path_of(rt, alloc, prefix);
-    for (word, text, put) in lines {
-        let path = path_of(rt, alloc, text);
-        let given = match put {
-            Sent::Nothing => Given::Missing,
-            Sent::Json(json) => Given::Json(octets_of(rt, alloc, json.as_bytes())),
-            _ => Given::Scalar(value_of(rt, alloc, *put)),
-        };
-        match *word {
-            "delete" => ask.deletes.push(path).expect(rt, "memory"),
-            "replace" => ask
-                .replaces
-                .push(Change { path, given })
-                .expect(rt, "memory"),
-            _ => ask
-                .updates
-                .push(Change { path, given })
-                .expect(rt, "memory"),
-        }
+    let mut ask = nothing(rt, alloc, path_of(rt, alloc, prefix), action);
+    for line in lines {
+        add(rt, alloc, &mut ask, line);
     }
     ask
 }
@@ -220,31 +240,34 @@ fn asked(rt: &impl Abort, alloc: Global, ask: &Ask) -> Bytes {
     }
 }
 
+/// What becomes of the request in the schema.
+pub(crate) fn resolved(rt: &impl Abort, alloc: Global, ask: UnresolvedSet) -> Result<Ask, Refusal> {
+    resolve(alloc, &schema_of(rt, alloc, SCHEMA), &ask)
+}
+
 /// What becomes of the request, as a text.
-pub(crate) fn answer(
-    rt: &impl Abort,
-    alloc: Global,
-    schema: &Schema,
-    ask: &UnresolvedSet,
-) -> Bytes {
-    match resolve(alloc, schema, ask) {
+pub(crate) fn answer(rt: &impl Abort, alloc: Global, ask: UnresolvedSet) -> Bytes {
+    match resolved(rt, alloc, ask) {
         Err(refusal) => refused(rt, alloc, refusal),
         Ok(ask) => asked(rt, alloc, &ask),
     }
 }
 
-pub(crate) fn assert_answer(
+/// Whether this text is what becomes of the request.
+pub(crate) fn is_answered(
     rt: &impl Abort,
     alloc: Global,
-    schema: &Schema,
-    ask: &UnresolvedSet,
+    ask: UnresolvedSet,
     expected: &str,
-) {
-    let answer = answer(rt, alloc, schema, ask);
-    let shown = Text::of(alloc, answer.items()).expect(rt, "a text");
-    assert_eq!(rt;
-        answer.items(),
-        expected.as_bytes(),
-        "{shown:?} for {expected}"
-    );
+) -> bool {
+    answer(rt, alloc, ask).items() == expected.as_bytes()
+}
+
+fn assert_shown(rt: &impl Abort, answer: &[u8], expected: &str) {
+    let shown = std::str::from_utf8(answer).expect(rt, "a text");
+    assert!(rt; shown == expected, "{shown:?} for {expected}");
+}
+
+pub(crate) fn assert_answer(rt: &impl Abort, alloc: Global, ask: UnresolvedSet, expected: &str) {
+    assert_shown(rt, answer(rt, alloc, ask).items(), expected)
 }

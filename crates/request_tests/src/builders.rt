@@ -23,3 +23,8 @@ pub fn path_of(rt: &impl Abort, alloc: Global, text: &str) -> Path {
 pub fn schema_of(rt: &impl Abort, alloc: Global, text: &str) -> Schema {
     read_schema(alloc, text.as_bytes()).expect(rt, "a schema")
 }
+
+/// It is so of what this text says.
+pub fn assert_of(rt: &impl Abort, text: &str, is_so: bool) {
+    assert!(rt; is_so, "{text}");
+}

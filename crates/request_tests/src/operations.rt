@@ -1,9 +1,6 @@
 //! Operations of a request: their rows and key leaves, their refusals, and scalars at leaves.
-use crate::asked::{SCHEMA, Sent, assert_answer, request};
-use crate::builders::schema_of;
-use base_kinds::UnresolvedSet;
-use schema_core::Schema;
-use set_txn::resolve;
+use crate::asked::{Sent, assert_answer, request, resolved};
+use base_kinds::Action;
 use std::alloc::Global;
 use std::process::Abort;
 
@@ -272,9 +269,12 @@ fn assert_request(
     lines: &[(&str, &str, Sent)],
     expected: &str,
 ) {
-    let schema = schema_of(rt, alloc, SCHEMA);
-    let ask = request(rt, alloc, prefix, lines);
-    assert_answer(rt, alloc, &schema, &ask, expected);
+    assert_answer(
+        rt,
+        alloc,
+        request(rt, alloc, prefix, lines, Action::Plain),
+        expected,
+    );
 }
 
 /// An update of this path becomes this.
@@ -285,7 +285,7 @@ fn assert_update(rt: &impl Abort, alloc: Global, path: &str, sent: Sent, expecte
 #[test]
 fn operations_have_their_rows_and_key_leaves(rt: HostRuntime) {
     let alloc = rt.alloc();
-    for (prefix, lines, expected) in OPERATIONS.iter().copied() {
+    for (prefix, lines, expected) in OPERATIONS {
         assert_request(&rt, alloc, prefix, lines, expected);
     }
 }
@@ -310,7 +310,7 @@ fn assert_json(
 #[test]
 fn json_gives_rows_and_its_entries_key_leaves(rt: HostRuntime) {
     let alloc = rt.alloc();
-    for (prefix, path, json, expected) in JSON.iter().copied() {
+    for (prefix, path, json, expected) in JSON {
         assert_json(&rt, alloc, prefix, path, json, expected);
     }
 }
@@ -318,8 +318,8 @@ fn json_gives_rows_and_its_entries_key_leaves(rt: HostRuntime) {
 #[test]
 fn an_update_is_refused_by_its_first_cause(rt: HostRuntime) {
     let alloc = rt.alloc();
-    for (path, sent, expected) in REFUSED.iter().copied() {
-        assert_update(&rt, alloc, path, sent, expected);
+    for (path, sent, expected) in REFUSED {
+        assert_update(&rt, alloc, path, *sent, expected);
     }
 }
 
@@ -336,8 +336,8 @@ fn assert_scalar(rt: &impl Abort, alloc: Global, path: &str, sent: Sent, value: 
 #[test]
 fn a_scalar_stands_for_a_value_of_its_leaf(rt: HostRuntime) {
     let alloc = rt.alloc();
-    for (path, sent, value) in SCALARS.iter().copied() {
-        assert_scalar(&rt, alloc, path, sent, value);
+    for (path, sent, value) in SCALARS {
+        assert_scalar(&rt, alloc, path, *sent, value);
     }
 }
 
@@ -351,27 +351,17 @@ const COUNTS: &[(u32, u32, bool)] = &[
     (300, 0, false),
 ];
 
-fn is_taken(alloc: Global, schema: &Schema, ask: &UnresolvedSet) -> bool {
-    resolve(alloc, schema, ask).is_ok()
-}
-
 /// Whether so many texts are taken as a leaf-list, of which the last is that with this number.
-fn words_are_taken(rt: &impl Abort, alloc: Global, schema: &Schema, count: u32, last: u32) -> bool {
-    let ask = request(
-        rt,
-        alloc,
-        "/",
-        &[("update", "/lab/tag", Sent::Words(count, last))],
-    );
-    is_taken(alloc, schema, &ask)
+fn words_are_taken(rt: &impl Abort, alloc: Global, count: u32, last: u32) -> bool {
+    let lines = [("update", "/lab/tag", Sent::Words(count, last))];
+    let ask = request(rt, alloc, "/", &lines, Action::Plain);
+    resolved(rt, alloc, ask).err().is_none()
 }
 
 #[test]
 fn of_many_scalars_no_two_are_equal(rt: HostRuntime) {
-    let alloc = rt.alloc();
-    let schema = schema_of(&rt, alloc, SCHEMA);
-    for (count, last, wanted) in COUNTS.iter().copied() {
-        let is_taken = words_are_taken(&rt, alloc, &schema, count, last);
-        assert_eq!(rt; is_taken, wanted, "{count} {last}");
+    for (count, last, wanted) in COUNTS {
+        let is_taken = words_are_taken(&rt, rt.alloc(), *count, *last);
+        assert!(rt; is_taken == *wanted, "{count} {last}");
     }
 }

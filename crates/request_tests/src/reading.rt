@@ -2,7 +2,6 @@ use crate::builders::{path_of, schema_of};
 use base_kinds::{Bytes, Rows, Seq};
 use json_rows::{RowsFault, rows_of};
 use path_core::write_path_text;
-use schema_core::Schema;
 use std::alloc::Global;
 use std::process::Abort;
 use value_core::value_text;
@@ -67,25 +66,40 @@ fn lines_of(rt: &impl Abort, alloc: Global, rows: &Rows) -> Bytes {
     out
 }
 
+/// What the fault is called.
+fn name_of(rt: &impl Abort, alloc: Global, fault: RowsFault) -> Bytes {
+    let name = format!(in alloc; "{fault}").expect(rt, "memory");
+    Seq::from_vec(name.into_bytes())
+}
+
+/// The rows at the path that the JSON says.
+fn read(rt: &impl Abort, alloc: Global, path: &str, json: &[u8]) -> Result<Rows, RowsFault> {
+    let schema = schema_of(rt, alloc, SCHEMA);
+    rows_of(alloc, &schema, &path_of(rt, alloc, path), json)
+}
+
 /// The rows' lines, or what the fault is called.
-fn meant(rt: &impl Abort, alloc: Global, schema: &Schema, path: &str, json: &[u8]) -> Bytes {
-    let path = path_of(rt, alloc, path);
-    match rows_of(alloc, schema, &path, json) {
+fn meant(rt: &impl Abort, alloc: Global, path: &str, json: &[u8]) -> Bytes {
+    match read(rt, alloc, path, json) {
         Ok(rows) => lines_of(rt, alloc, &rows),
         Err(fault) => {
             assert!(rt; fault != RowsFault::NoMemory, "memory");
-            let name = format!(in alloc; "{fault}").expect(rt, "memory");
-            Seq::from_vec(name.into_bytes())
+            name_of(rt, alloc, fault)
         }
     }
 }
 
+/// Whether the JSON at the path means these lines, or the fault that is called so.
+fn means(rt: &impl Abort, alloc: Global, path: &str, json: &[u8], lines: &str) -> bool {
+    meant(rt, alloc, path, json).items() == lines.as_bytes()
+}
+
 fn check(rt: &impl Abort, alloc: Global, table: &[(&str, &str, &str)]) {
-    let schema = schema_of(rt, alloc, SCHEMA);
     for (path, json, lines) in table {
-        let found = meant(rt, alloc, &schema, path, json.as_bytes());
-        let text = std::str::from_utf8(found.items()).expect(rt, "memory");
-        assert_eq!(rt; text, *lines, "{path} {json}");
+        assert!(rt;
+            means(rt, alloc, path, json.as_bytes(), lines),
+            "{path} {json}"
+        );
     }
 }
 
@@ -402,18 +416,24 @@ const COUNTS: &[(u32, u32, bool)] = &[
     (300, 0, false),
 ];
 
+/// The fault of the array of these texts.
+fn fault_of_words(rt: &impl Abort, alloc: Global, count: u32, last: u32) -> Option<RowsFault> {
+    read(rt, alloc, "/c/tags", words(rt, alloc, count, last).items()).err()
+}
+
+/// Whether a fault is that of a refusal, and none is where the values are taken.
+fn is_expected(fault: Option<RowsFault>, is_taken: bool) -> bool {
+    match fault {
+        None => is_taken,
+        Some(fault) => !is_taken && fault == RowsFault::BadValue,
+    }
+}
+
 #[test]
 fn of_many_values_no_two_are_equal(rt: HostRuntime) {
-    let alloc = rt.alloc();
-    let schema = schema_of(&rt, alloc, SCHEMA);
-    let path = path_of(&rt, alloc, "/c/tags");
-    for (count, last, is_taken) in COUNTS.iter().copied() {
-        let json = words(&rt, alloc, count, last);
-        let is_expected = match rows_of(alloc, &schema, &path, json.items()) {
-            Ok(_) => is_taken,
-            Err(fault) => !is_taken && fault == RowsFault::BadValue,
-        };
-        assert!(rt; is_expected, "{count} {last}");
+    for (count, last, is_taken) in COUNTS {
+        let fault = fault_of_words(&rt, rt.alloc(), *count, *last);
+        assert!(rt; is_expected(fault, *is_taken), "{count} {last}");
     }
 }
 
@@ -431,44 +451,38 @@ fn nested(rt: &impl Abort, alloc: Global, arrays: usize) -> Bytes {
     json
 }
 
+/// Whether so many arrays in the object mean this fault.
+fn nested_means(rt: &impl Abort, alloc: Global, arrays: usize, fault: &str) -> bool {
+    means(rt, alloc, "/c", nested(rt, alloc, arrays).items(), fault)
+}
+
 // 127 arrays and objects inside one another are JSON, and 128 aren't
 #[test]
 fn nesting_has_a_bound(rt: HostRuntime) {
-    let alloc = rt.alloc();
-    let schema = schema_of(&rt, alloc, SCHEMA);
-    let deepest = nested(&rt, alloc, 126);
-    assert_eq!(rt;
-        meant(&rt, alloc, &schema, "/c", deepest.items()).items(),
-        b"not in schema".as_slice()
-    );
-    let deeper = nested(&rt, alloc, 127);
-    assert_eq!(rt;
-        meant(&rt, alloc, &schema, "/c", deeper.items()).items(),
-        b"bad value".as_slice()
-    );
+    assert!(rt; nested_means(&rt, rt.alloc(), 126, "not in schema"));
+    assert!(rt; nested_means(&rt, rt.alloc(), 127, "bad value"));
 }
 
 const NO_TEXTS: &[&[u8]] = &[b"\"\xff\"", b"\"\xed\xa0\x80\"", b"\xef\xbb\xbf\"x\""];
 
 #[test]
 fn octets_that_are_no_text_are_no_json(rt: HostRuntime) {
-    let alloc = rt.alloc();
-    let schema = schema_of(&rt, alloc, SCHEMA);
-    for json in NO_TEXTS.iter().copied() {
-        let is_bad = meant(&rt, alloc, &schema, "/c/s", json).items() == b"bad value".as_slice();
-        assert!(rt; is_bad, "{json:?}");
+    for json in NO_TEXTS {
+        assert!(rt;
+            means(&rt, rt.alloc(), "/c/s", json, "bad value"),
+            "{json:?}"
+        );
     }
+}
+
+fn is_called(rt: &impl Abort, alloc: Global, fault: RowsFault, name: &str) -> bool {
+    name_of(rt, alloc, fault).items() == name.as_bytes()
 }
 
 #[test]
 fn faults_print_as_they_are_called(rt: HostRuntime) {
     let alloc = rt.alloc();
-    let text = format!(in alloc;
-        "{}, {}, {}",
-        RowsFault::NotInSchema,
-        RowsFault::BadValue,
-        RowsFault::NoMemory
-    )
-    .expect(&rt, "memory");
-    assert_eq!(rt; text.as_str(), "not in schema, bad value, no memory");
+    assert!(rt; is_called(&rt, alloc, RowsFault::NotInSchema, "not in schema"));
+    assert!(rt; is_called(&rt, alloc, RowsFault::BadValue, "bad value"));
+    assert!(rt; is_called(&rt, alloc, RowsFault::NoMemory, "no memory"));
 }

@@ -23,17 +23,29 @@ fn row_prints(rt: &impl Abort, alloc: Global, row: &Row, calls: &'static str) ->
 
 fn assert_each(rt: &impl Abort, alloc: Global, rows: &[Row]) {
     for row in rows {
-        for (number, calls) in CALLS.iter().copied().enumerate() {
-            let number = number as u64;
-            if row.2 <= number && number <= row.3 {
+        for (number, calls) in CALLS {
+            if row.2 <= *number && *number <= row.3 {
                 assert!(rt; row_prints(rt, alloc, row, calls), "fail {calls}");
             }
         }
     }
 }
 
-const CALLS: &[&str] = &[
-    "0", "1", "2", "3", "4", "5", "6", "7", "8", "9", "10", "11", "12",
+/// Numbers and their texts.
+const CALLS: &[(u64, &str)] = &[
+    (0, "0"),
+    (1, "1"),
+    (2, "2"),
+    (3, "3"),
+    (4, "4"),
+    (5, "5"),
+    (6, "6"),
+    (7, "7"),
+    (8, "8"),
+    (9, "9"),
+    (10, "10"),
+    (11, "11"),
+    (12, "12"),
 ];
 
 const THREE_SETS: &str =

@@ -19,7 +19,11 @@ fn on_disk<'a>(journal: &'a [u8], passes: u64) -> Given<'a> {
 /// What a disk holds, and no octets where there is none.
 pub(crate) fn held<A: Abort>(rt: &A, alloc: Global, disk: Option<FuseDisk>) -> Bytes {
     match disk {
-        Some(mut disk) => read_whole(alloc, &mut disk).expect(rt, "a disk that doesn't fail"),
+        Some(mut disk) => {
+            let read = read_whole(alloc, &mut disk);
+            drop(disk);
+            read.expect(rt, "a disk that doesn't fail")
+        }
         None => Bytes::empty(alloc),
     }
 }
@@ -49,20 +53,16 @@ fn leaves(
     status: u8,
     left: &[u8],
 ) -> bool {
-    let End {
-        status: ended,
-        output,
-        disk,
-        ..
-    } = run_with(rt, alloc, words, &on_disk(octets, passes));
-    let held = held(rt, alloc, disk);
-    output.octets() == printed.as_bytes() && ended == status && held.items() == left
+    let end = run_with(rt, alloc, words, &on_disk(octets, passes));
+    let is_printed = end.output.octets() == printed.as_bytes() && end.status == status;
+    let held = held(rt, alloc, end.disk);
+    is_printed && held.items() == left
 }
 
 #[test]
 fn a_journal_is_made_on_an_empty_disk(rt: HostRuntime) {
     let alloc = rt.alloc();
-    for (words, made) in MADE.iter().copied() {
+    for (words, made) in MADE {
         assert!(rt;
             leaves(&rt, alloc, words, b"", NO_STOP, "journal ready\n", 0, made),
             "{words}"
@@ -83,9 +83,11 @@ fn ends_with_5(
     given: bool,
 ) -> bool {
     let end = run_with(rt, alloc, words, &on_disk(octets, passes));
-    end.output.octets() == b"disk fault\n".as_slice()
+    let is_told = end.output.octets() == b"disk fault\n".as_slice()
         && end.status == 5
-        && end.disk.is_some() == given
+        && end.disk.is_some() == given;
+    drop(end);
+    is_told
 }
 
 #[test]
@@ -127,16 +129,23 @@ fn changed(rt: &impl Abort, alloc: Global, place: usize, octet: u8, length: usiz
     octets
 }
 
+/// Whether the log of the journal that is changed so prints this and ends so, and the disk stays as it is.
+fn is_logged(
+    rt: &(impl Abort + Threads + Wait + Copy + Drop + Send + Sync + 'static),
+    alloc: Global,
+    row: &(usize, u8, usize, &str, u8),
+) -> bool {
+    let (place, octet, length, printed, status) = *row;
+    let octets = changed(rt, alloc, place, octet, length);
+    leaves(
+        rt, alloc, "log J", &octets, NO_STOP, printed, status, &octets,
+    )
+}
+
 #[test]
 fn the_log_of_a_journal_is_printed(rt: HostRuntime) {
     let alloc = rt.alloc();
-    for (place, octet, length, printed, status) in DISKS.iter().copied() {
-        let octets = changed(&rt, alloc, place, octet, length);
-        assert!(rt;
-            leaves(
-                &rt, alloc, "log J", &octets, NO_STOP, printed, status, &octets
-            ),
-            "{place} {length}"
-        );
+    for row in DISKS {
+        assert!(rt; is_logged(&rt, alloc, row), "{} {}", row.0, row.2);
     }
 }

@@ -24,7 +24,9 @@ fn prints<'a>(
         ..NOTHING
     };
     let end = run_with(rt, alloc, words, &given);
-    end.output.octets() == printed.as_bytes() && end.status == status
+    let is_printed = end.output.octets() == printed.as_bytes() && end.status == status;
+    drop(end);
+    is_printed
 }
 
 /// Whether the words print this over an input that fails at its first read and this text of a file, where these writes fail, and
@@ -45,7 +47,10 @@ fn fails_so<'a>(
         ..NOTHING
     };
     let end = run_with(rt, alloc, words, &given);
-    end.output.octets() == printed.as_bytes() && (end.status, end.file_faults, end.reads) == wanted
+    let is_printed = end.output.octets() == printed.as_bytes();
+    let found = (end.status, end.file_faults, end.reads);
+    drop(end);
+    is_printed && found == wanted
 }
 
 /// Whether a script's run, octet by octet, writes this where these reads and writes fail, and ends so.
@@ -67,7 +72,9 @@ fn drips<'a>(
         ..NOTHING
     };
     let end = run_with(rt, alloc, "script S", &given);
-    end.output.octets() == written && end.status == status
+    let is_written = end.output.octets() == written && end.status == status;
+    drop(end);
+    is_written
 }
 
 /// Words, a script, what is printed, and the status.
@@ -92,9 +99,9 @@ const SCRIPTS: &[(&str, &str, &str, u8)] = &[
 #[test]
 fn a_script_runs_under_its_schema_and_limits(rt: HostRuntime) -> Result<(), Fail> {
     let alloc = rt.alloc();
-    for (words, script, printed, status) in SCRIPTS.iter().copied() {
+    for (words, script, printed, status) in SCRIPTS {
         assert!(rt;
-            prints(&rt, alloc, words, SCHEMA, script, &[], printed, status),
+            prints(&rt, alloc, words, SCHEMA, script, &[], printed, *status),
             "of {script}"
         );
     }
@@ -151,7 +158,7 @@ const BAD_WORDS: &[&str] = &[
 #[test]
 fn other_words_are_refused(rt: HostRuntime) -> Result<(), Fail> {
     let alloc = rt.alloc();
-    for words in BAD_WORDS.iter().copied() {
+    for words in BAD_WORDS {
         assert!(rt;
             prints(&rt, alloc, words, SCHEMA, "set 1\n", &[], "bad words\n", 2),
             "{words}"
@@ -176,10 +183,10 @@ const SCHEMAS: &[(&str, &str, u8)] = &[
 #[test]
 fn a_schema_is_checked(rt: HostRuntime) -> Result<(), Fail> {
     let alloc = rt.alloc();
-    for (text, printed, status) in SCHEMAS.iter().copied() {
+    for (text, printed, status) in SCHEMAS {
         let octets = Some(text.as_bytes());
         assert!(rt;
-            fails_so(&rt, alloc, "check S", octets, &[], printed, (status, 0, 0)),
+            fails_so(&rt, alloc, "check S", octets, &[], printed, (*status, 0, 0)),
             "of {text}"
         );
         assert!(rt;
@@ -269,13 +276,13 @@ fn an_input_that_gives_octets_and_then_fails_is_told_as_such(rt: HostRuntime) ->
 const HELP: &str =
     "check SCHEMA: print how many nodes the schema in the file SCHEMA has, or its first fault\ninit JOURNAL: write a journal without entries into the file JOURNAL, which must be empty or not there yet\ninit JOURNAL ENTRIES OCTETS: the same, for a log of at most ENTRIES entries and OCTETS octets\nlog JOURNAL: print the commit log in the journal in the file JOURNAL\nscript SCHEMA: run the script on standard input under the schema, and print its answers and its log\nscript SCHEMA ENTRIES OCTETS: the same, with a log of at most ENTRIES entries and OCTETS octets\nsession SCHEMA JOURNAL: serve one gNMI connection over standard input and output, on the journal in the file JOURNAL\nserve SCHEMA JOURNAL ADDRESS SESSIONS: accept SESSIONS gNMI connections at ADDRESS, a host and a port, and serve them side by side, on the journal in the file JOURNAL\nload SEED COUNT: serve a client that makes COUNT generated Sets over memory, and print what came of them\n--help: print these lines\n--version: print the name and the version of the program\n";
 
+/// Words that ask for nothing but a text, and that.
+const PRINTED: &[(&str, &str)] = &[("--help", HELP), ("--version", "gnmid 0.1.0\n")];
+
 #[test]
 fn help_and_version_are_printed_and_nothing_is_read(rt: HostRuntime) {
     let alloc = rt.alloc();
-    for (words, printed) in [("--help", HELP), ("--version", "gnmid 0.1.0\n")]
-        .iter()
-        .copied()
-    {
+    for (words, printed) in PRINTED {
         assert!(rt;
             fails_so(&rt, alloc, words, None, &[], printed, (0, 0, 0)),
             "{words}"
@@ -287,11 +294,14 @@ fn help_and_version_are_printed_and_nothing_is_read(rt: HostRuntime) {
     }
 }
 
+/// Words with names of files that aren't there.
+const UNREADABLE: &[&str] = &["check T", "script T", "check s"];
+
 #[test]
 fn a_file_is_asked_for_by_its_name(rt: HostRuntime) {
     let alloc = rt.alloc();
     let schema = Some(SCHEMA.as_bytes());
-    for words in ["check T", "script T", "check s"].iter().copied() {
+    for words in UNREADABLE {
         assert!(rt;
             fails_so(&rt, alloc, words, schema, &[], "input fault\n", (6, 1, 0)),
             "{words}"
@@ -311,7 +321,7 @@ const LOADS: &[(&str, &str)] = &[
 #[test]
 fn a_load_is_served_and_counted(rt: HostRuntime) {
     let alloc = rt.alloc();
-    for (words, printed) in LOADS.iter().copied() {
+    for (words, printed) in LOADS {
         assert!(rt;
             fails_so(&rt, alloc, words, None, &[], printed, (0, 0, 0)),
             "{words}"

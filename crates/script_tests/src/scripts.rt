@@ -53,7 +53,7 @@ pub fn begins_with(
 /// These texts, one after the other.
 pub fn joined(rt: &impl Abort, alloc: Global, texts: &[&str]) -> String {
     let mut all = String::new(alloc);
-    for text in texts.iter().copied() {
+    for text in texts {
         all.push_str(text).expect(rt, "memory");
     }
     all
@@ -161,8 +161,8 @@ const SCRIPTS: &[(&str, &str, bool)] = &[
 #[test]
 fn scripts_print_the_answers_of_one_history_and_its_log(rt: HostRuntime) -> Result<(), Fail> {
     let alloc = rt.alloc();
-    for (script, printed, whole) in SCRIPTS.iter().copied() {
-        let ending = ending_of(whole);
+    for (script, printed, whole) in SCRIPTS {
+        let ending = ending_of(*whole);
         assert!(rt;
             prints(&rt, alloc, LIMITS, script.as_bytes(), printed, ending),
             "of {script}"
@@ -204,9 +204,9 @@ fn replace_prints(rt: &impl Abort, alloc: Global, rest: &str, printed: &str, who
 #[test]
 fn a_replace_leaves_only_its_own_rows(rt: HostRuntime) -> Result<(), Fail> {
     let alloc = rt.alloc();
-    for (rest, printed, whole) in REPLACED.iter().copied() {
+    for (rest, printed, whole) in REPLACED {
         assert!(rt;
-            replace_prints(&rt, alloc, rest, printed, whole),
+            replace_prints(&rt, alloc, rest, printed, *whole),
             "of {rest}"
         );
     }
@@ -268,9 +268,9 @@ fn hostname_prints(
 #[test]
 fn a_tree_and_a_log_have_limits(rt: HostRuntime) -> Result<(), Fail> {
     let alloc = rt.alloc();
-    for (limits, count, printed) in LIMITED.iter().copied() {
+    for (limits, count, printed) in LIMITED {
         assert!(rt;
-            hostname_prints(&rt, alloc, limits, count, printed),
+            hostname_prints(&rt, alloc, *limits, *count, printed),
             "{count} octets"
         );
     }
@@ -301,8 +301,11 @@ fn line_prints(rt: &impl Abort, alloc: Global, octets: usize, printed: &str) -> 
 #[test]
 fn a_line_has_1_048_576_octets_at_most(rt: HostRuntime) -> Result<(), Fail> {
     let alloc = rt.alloc();
-    for (octets, printed) in LINES.iter().copied() {
-        assert!(rt; line_prints(&rt, alloc, octets, printed), "{octets} octets");
+    for (octets, printed) in LINES {
+        assert!(rt;
+            line_prints(&rt, alloc, *octets, printed),
+            "{octets} octets"
+        );
     }
     Ok(())
 }
@@ -326,8 +329,8 @@ fn lines_print(rt: &impl Abort, alloc: Global, last: usize, printed: &str) -> bo
 #[test]
 fn a_script_has_67_108_864_octets_at_most(rt: HostRuntime) -> Result<(), Fail> {
     let alloc = rt.alloc();
-    for (last, printed) in LAST_LINES.iter().copied() {
-        assert!(rt; lines_print(&rt, alloc, last, printed), "{last} octets");
+    for (last, printed) in LAST_LINES {
+        assert!(rt; lines_print(&rt, alloc, *last, printed), "{last} octets");
     }
     Ok(())
 }
@@ -341,10 +344,14 @@ fn many_lines(rt: &impl Abort, alloc: Global, count: u32) -> Vec<u8> {
     script
 }
 
+fn many_lines_print(rt: &impl Abort, alloc: Global, count: u32, printed: &str) -> bool {
+    let script = many_lines(rt, alloc, count);
+    prints(rt, alloc, LIMITS, &script, printed, ScriptEnd::Whole)
+}
+
 #[test]
 fn a_script_may_have_many_lines(rt: HostRuntime) -> Result<(), Fail> {
     let alloc = rt.alloc();
-    let script = many_lines(&rt, alloc, 70_000);
-    assert!(rt; prints(&rt, alloc, LIMITS, &script, "log\n", ScriptEnd::Whole));
+    assert!(rt; many_lines_print(&rt, alloc, 70_000, "log\n"));
     Ok(())
 }

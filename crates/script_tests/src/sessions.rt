@@ -1,6 +1,7 @@
 //! The command that serves a connection: over files, a disk, streams and a clock in memory.
 use crate::journals::held;
 use crate::program::{End, Given, NOTHING, run_with};
+use base_lists::Bytes;
 use session_core::How;
 use std::alloc::Global;
 use std::process::Abort;
@@ -56,18 +57,48 @@ fn ended(end: &End, status: u8, how: Option<How>, written: &[u8]) -> bool {
     end.status == status && end.how == how && end.output.octets() == written
 }
 
+/// Whether a run with these words ends so: its status, how the connection ended, and what was written.
+fn ends(
+    rt: &(impl Abort + Threads + Wait + Copy + Drop + Send + Sync + 'static),
+    alloc: Global,
+    words: &str,
+    given: &Given<'_>,
+    wanted: (u8, Option<How>, &[u8]),
+) -> bool {
+    let (status, how, written) = wanted;
+    let end = run_with(rt, alloc, words, given);
+    let is_wanted = ended(&end, status, how, written);
+    drop(end);
+    is_wanted
+}
+
+/// The journal that a session with this input leaves, where it ends so.
+fn journal_left(
+    rt: &(impl Abort + Threads + Wait + Copy + Drop + Send + Sync + 'static),
+    alloc: Global,
+    input: &[u8],
+    how: How,
+    status: u8,
+) -> Option<Bytes> {
+    let end = run_with(rt, alloc, "session S J", &without_faults(SCHEMA, input));
+    let is_wanted = ended(&end, status, Some(how), REPLY);
+    let journal = held(rt, alloc, end.disk);
+    if is_wanted { Some(journal) } else { None }
+}
+
 #[test]
 fn a_session_answers_a_set_and_leaves_it_in_the_journal(rt: HostRuntime) -> Result<(), Fail> {
     let alloc = rt.alloc();
-    let end = run_with(&rt, alloc, "session S J", &without_faults(SCHEMA, SET));
-    assert!(rt; ended(&end, 0, Some(How::Closed), REPLY));
-    let journal = held(&rt, alloc, end.disk);
-    let left = Given {
-        journal: journal.items(),
-        ..without_faults(SCHEMA, b"")
-    };
-    let log = run_with(&rt, alloc, "log J", &left);
-    assert!(rt; ended(&log, 0, None, LOG));
+    match journal_left(&rt, alloc, SET, How::Closed, 0) {
+        Some(journal) => {
+            let left = Given {
+                journal: journal.items(),
+                ..without_faults(SCHEMA, b"")
+            };
+            assert!(rt; ends(&rt, alloc, "log J", &left, (0, None, LOG)));
+        }
+        None => panic!(rt; "the Set is answered"),
+    }
     Ok(())
 }
 
@@ -114,14 +145,20 @@ fn row_holds(
         bad_writes: if write_fails { &[1] } else { &[] },
         ..without_faults(schema, input)
     };
-    let end = run_with(rt, alloc, "session S J", &given);
-    written <= REPLY.len() && ended(&end, status, how, &REPLY[..written])
+    written <= REPLY.len()
+        && ends(
+            rt,
+            alloc,
+            "session S J",
+            &given,
+            (status, how, &REPLY[..written]),
+        )
 }
 
 #[test]
 fn a_session_ends_by_its_cause_and_writes_nothing_else(rt: HostRuntime) -> Result<(), Fail> {
     let alloc = rt.alloc();
-    for row in TABLE.iter() {
+    for row in TABLE {
         assert!(rt; row_holds(&rt, alloc, row), "status {}", row.4);
     }
     Ok(())
@@ -130,20 +167,16 @@ fn a_session_ends_by_its_cause_and_writes_nothing_else(rt: HostRuntime) -> Resul
 #[test]
 fn a_cut_session_has_answered_what_was_whole(rt: HostRuntime) -> Result<(), Fail> {
     let alloc = rt.alloc();
-    let cut = run_with(
-        &rt,
-        alloc,
-        "session S J",
-        &without_faults(SCHEMA, &SET[..226]),
-    );
-    assert!(rt; ended(&cut, 10, Some(How::Cut), REPLY));
-    let journal = held(&rt, alloc, cut.disk);
-    let unfit = Given {
-        journal: journal.items(),
-        ..without_faults(b"", SET)
-    };
-    let refused = run_with(&rt, alloc, "session S J", &unfit);
-    assert!(rt; ended(&refused, 3, None, b""));
+    match journal_left(&rt, alloc, &SET[..226], How::Cut, 10) {
+        Some(journal) => {
+            let unfit = Given {
+                journal: journal.items(),
+                ..without_faults(b"", SET)
+            };
+            assert!(rt; ends(&rt, alloc, "session S J", &unfit, (3, None, b"")));
+        }
+        None => panic!(rt; "the Set is answered"),
+    }
     Ok(())
 }
 
@@ -155,8 +188,8 @@ fn a_disk_that_stops_ends_the_opening(rt: HostRuntime) -> Result<(), Fail> {
             passes,
             ..without_faults(SCHEMA, SET)
         };
-        let end = run_with(&rt, alloc, "session S J", &stopped);
-        assert!(rt; ended(&end, 5, None, b""), "behind {passes} calls");
+        let has_ended = ends(&rt, alloc, "session S J", &stopped, (5, None, b""));
+        assert!(rt; has_ended, "behind {passes} calls");
     }
     Ok(())
 }

@@ -103,9 +103,9 @@ fn row_prints(
 }
 
 fn assert_row(rt: &impl Abort, alloc: Global, row: &Row) {
-    for (calls, stop) in row.calls.iter().copied() {
-        for filling in FILLS.iter() {
-            let printed = row.printed(stop, filling);
+    for (calls, stop) in row.calls {
+        for filling in FILLS {
+            let printed = row.printed(*stop, filling);
             assert!(rt;
                 row_prints(rt, alloc, row, calls, filling.fill, printed),
                 "stop {calls}"
@@ -403,9 +403,9 @@ fn a_stop_falls_on_a_failed_gate_its_repair_and_the_next_append(
     rt: HostRuntime,
 ) -> Result<(), Fail> {
     let alloc = rt.alloc();
-    for row in FAILING.iter() {
+    for row in FAILING {
         let calls = row.calls;
-        for filling in FILLS.iter() {
+        for filling in FILLS {
             let printed = row.printed(filling);
             assert!(rt;
                 failing_prints(&rt, alloc, row, filling.fill, printed),
@@ -480,8 +480,8 @@ const WAITING: &[(&str, &str, bool)] = &[
 #[test]
 fn stops_and_failures_wait_for_their_calls(rt: HostRuntime) -> Result<(), Fail> {
     let alloc = rt.alloc();
-    for (script, printed, whole) in WAITING.iter().copied() {
-        let ending = if whole {
+    for (script, printed, whole) in WAITING {
+        let ending = if *whole {
             ScriptEnd::Whole
         } else {
             ScriptEnd::DiskFault

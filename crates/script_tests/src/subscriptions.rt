@@ -54,7 +54,7 @@ const SUBSCRIPTIONS: &[(&str, &str)] = &[
 #[test]
 fn streams_send_what_is_due_of_one_history(rt: HostRuntime) -> Result<(), Fail> {
     let alloc = rt.alloc();
-    for (script, printed) in SUBSCRIPTIONS.iter().copied() {
+    for (script, printed) in SUBSCRIPTIONS {
         assert!(rt;
             prints(
                 &rt,

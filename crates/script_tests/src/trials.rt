@@ -62,18 +62,22 @@ const BEHIND: &[(&str, &str, &str)] = &[
 
 /// Whether this behind the trial prints this and then this log.
 fn trial_prints(rt: &impl Abort, alloc: Global, behind: &str, printed: &str, logged: &str) -> bool {
-    let script = joined(rt, alloc, &[BEGUN, behind]);
     let wanted = joined(
         rt,
         alloc,
         &["ok 1000\n", printed, "log\n", BEGUN_LOG, logged],
     );
+    begun_prints(rt, alloc, behind, &wanted)
+}
+
+fn begun_prints(rt: &impl Abort, alloc: Global, behind: &str, wanted: &str) -> bool {
+    let script = joined(rt, alloc, &[BEGUN, behind]);
     prints(
         rt,
         alloc,
         LIMITS,
         script.as_bytes(),
-        &wanted,
+        wanted,
         ScriptEnd::Whole,
     )
 }
@@ -81,7 +85,7 @@ fn trial_prints(rt: &impl Abort, alloc: Global, behind: &str, printed: &str, log
 #[test]
 fn a_trial_is_confirmed_or_taken_back(rt: HostRuntime) -> Result<(), Fail> {
     let alloc = rt.alloc();
-    for (behind, printed, logged) in BEHIND.iter().copied() {
+    for (behind, printed, logged) in BEHIND {
         assert!(rt;
             trial_prints(&rt, alloc, behind, printed, logged),
             "of {behind}"
@@ -118,7 +122,7 @@ const ANSWERS: &[(&str, &str)] = &[
 #[test]
 fn trials_are_answered(rt: HostRuntime) -> Result<(), Fail> {
     let alloc = rt.alloc();
-    for (script, printed) in ANSWERS.iter().copied() {
+    for (script, printed) in ANSWERS {
         assert!(rt;
             begins_with(&rt, alloc, LIMITS, script.as_bytes(), printed),
             "of {script}"
@@ -138,9 +142,9 @@ fn long_trial_prints(rt: &impl Abort, alloc: Global, count: usize, printed: &str
 #[test]
 fn a_log_keeps_room_for_the_end_of_a_trial(rt: HostRuntime) -> Result<(), Fail> {
     let alloc = rt.alloc();
-    for (count, printed) in ROOM.iter().copied() {
+    for (count, printed) in ROOM {
         assert!(rt;
-            long_trial_prints(&rt, alloc, count, printed),
+            long_trial_prints(&rt, alloc, *count, printed),
             "{count} octets"
         );
     }

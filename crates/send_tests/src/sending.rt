@@ -9,7 +9,6 @@ use h2_recv::Recv;
 use h2_send::{Wire, WirePort};
 use std::alloc::Global;
 use std::process::Abort;
-use std::test::Fail;
 
 const PREFACE: &[u8] = b"PRI * HTTP/2.0\r\n\r\nSM\r\n\r\n";
 
@@ -63,40 +62,53 @@ fn answered(alloc: Global, settings: &[u8]) -> (Took, MemSink) {
     (took, wire.give())
 }
 
+// Whether an answer was taken, and an ACK and these octets were written.
+fn is_answer(took: Took, sink: &MemSink, octets: &[u8]) -> bool {
+    took == Took::Taken && written(sink).starts_with(ACK) && behind(sink, 9) == octets
+}
+
+// Whether these octets of a client and a call are answered by an ACK and those.
+fn is_answered(alloc: Global, settings: &[u8], octets: &[u8]) -> bool {
+    let (took, sink) = answered(alloc, settings);
+    is_answer(took, &sink, octets)
+}
+
 #[test]
-fn another_type_of_content_is_answered_with_415(rt: HostRuntime) -> Result<(), Fail> {
-    let (took, sink) = answered(rt.alloc(), SETTINGS);
-    assert_eq!(rt; took, Took::Taken);
-    assert!(rt; written(&sink).starts_with(ACK));
+fn another_type_of_content_is_answered_with_415(rt: HostRuntime) {
     let expected: &[u8] = &[0, 0, 5, 1, 5, 0, 0, 0, 1, 8, 3, 0x34, 0x31, 0x35];
-    assert_eq!(rt; behind(&sink, 9), expected);
-    Ok(())
+    assert!(rt; is_answered(rt.alloc(), SETTINGS, expected));
 }
 
 #[test]
-fn the_first_answer_behind_a_change_of_the_table_begins_with_a_size_update(
-    rt: HostRuntime,
-) -> Result<(), Fail> {
-    let (took, sink) = answered(rt.alloc(), NO_TABLE);
-    assert_eq!(rt; took, Took::Taken);
-    assert!(rt; written(&sink).starts_with(ACK));
+fn the_first_answer_behind_a_change_of_the_table_begins_with_a_size_update(rt: HostRuntime) {
     let expected: &[u8] = &[0, 0, 6, 1, 5, 0, 0, 0, 1, 0x20, 8, 3, 0x34, 0x31, 0x35];
-    assert_eq!(rt; behind(&sink, 9), expected);
-    Ok(())
+    assert!(rt; is_answered(rt.alloc(), NO_TABLE, expected));
 }
 
-// What octets come to behind the preface, and what was written for them. A fault of the peer ends the connection.
-fn behind_the_preface(alloc: Global, octets: &[u8]) -> (Came, MemSink) {
-    let mut recv = Recv::make(alloc);
-    let mut wire = new_wire(alloc);
-    let _preface = feed(alloc, &mut recv, &mut wire, PREFACE);
-    let all = feed(alloc, &mut recv, &mut wire, octets);
+// What octets come to. A fault of the peer ends the connection.
+fn come(alloc: Global, recv: &mut Recv, wire: &mut Wire<MemSink>, octets: &[u8]) -> Came {
+    let all = feed(alloc, recv, wire, octets);
     let _end = match all {
         Came::Protocol(code) => wire.finish(code),
         Came::Overflow => wire.finish(3),
         _ => Ok(()),
     };
+    all
+}
+
+// What octets come to behind the preface, and what was written for them.
+fn behind_the_preface(alloc: Global, octets: &[u8]) -> (Came, MemSink) {
+    let mut recv = Recv::make(alloc);
+    let mut wire = new_wire(alloc);
+    let _preface = feed(alloc, &mut recv, &mut wire, PREFACE);
+    let all = come(alloc, &mut recv, &mut wire, octets);
     (all, wire.give())
+}
+
+// Whether octets behind the preface come to this, and those are written.
+fn come_behind_the_preface(alloc: Global, octets: &[u8], came: Came, expected: &[u8]) -> bool {
+    let (all, sink) = behind_the_preface(alloc, octets);
+    all == came && written(&sink) == expected
 }
 
 // Frames behind the preface, what they come to, and what is written.
@@ -110,13 +122,13 @@ const TABLE: &[(&[u8], Came, &[u8])] = &[
 ];
 
 #[test]
-fn faults_of_the_peer_end_the_connection_with_goaway(rt: HostRuntime) -> Result<(), Fail> {
-    for (octets, expected, expected_octets) in TABLE.iter().copied() {
-        let (all, sink) = behind_the_preface(rt.alloc(), octets);
-        assert_eq!(rt; all, expected);
-        assert_eq!(rt; written(&sink), expected_octets);
+fn faults_of_the_peer_end_the_connection_with_goaway(rt: HostRuntime) {
+    for (octets, came, expected) in TABLE {
+        assert!(rt;
+            come_behind_the_preface(rt.alloc(), octets, *came, expected),
+            "{octets:?}"
+        );
     }
-    Ok(())
 }
 
 // What comes behind SETTINGS.
@@ -125,13 +137,14 @@ fn behind_settings(alloc: Global, octets: &[u8]) -> (Came, MemSink) {
     let mut wire = new_wire(alloc);
     let _preface = feed(alloc, &mut recv, &mut wire, PREFACE);
     let _settings = feed(alloc, &mut recv, &mut wire, SETTINGS);
-    let all = feed(alloc, &mut recv, &mut wire, octets);
-    let _end = match all {
-        Came::Protocol(code) => wire.finish(code),
-        Came::Overflow => wire.finish(3),
-        _ => Ok(()),
-    };
+    let all = come(alloc, &mut recv, &mut wire, octets);
     (all, wire.give())
+}
+
+// Whether octets behind SETTINGS come to this, and those are written behind the ACK.
+fn come_behind_settings(alloc: Global, octets: &[u8], came: Came, expected: &[u8]) -> bool {
+    let (all, sink) = behind_settings(alloc, octets);
+    all == came && behind(&sink, 9) == expected
 }
 
 // WINDOW_UPDATE of 2,147,483,647 for the connection.
@@ -157,13 +170,13 @@ const BEHIND_SETTINGS: &[(&[u8], Came, &[u8])] = &[
 ];
 
 #[test]
-fn pings_are_answered_and_other_streams_and_windows_refused(rt: HostRuntime) -> Result<(), Fail> {
-    for (octets, expected, expected_octets) in BEHIND_SETTINGS.iter().copied() {
-        let (all, sink) = behind_settings(rt.alloc(), octets);
-        assert_eq!(rt; all, expected);
-        assert_eq!(rt; behind(&sink, 9), expected_octets);
+fn pings_are_answered_and_other_streams_and_windows_refused(rt: HostRuntime) {
+    for (octets, came, expected) in BEHIND_SETTINGS {
+        assert!(rt;
+            come_behind_settings(rt.alloc(), octets, *came, expected),
+            "{octets:?}"
+        );
     }
-    Ok(())
 }
 
 // ---- a reply under small windows
@@ -231,25 +244,41 @@ fn is_taken(
     }
 }
 
+// Takes these steps behind the preface, and answers whether each came to what is expected.
+fn are_taken(
+    rt: &impl Abort,
+    alloc: Global,
+    recv: &mut Recv,
+    wire: &mut Wire<MemSink>,
+    steps: &[(Step, usize)],
+) -> bool {
+    let mut all = feed(alloc, recv, wire, PREFACE) == Came::Read;
+    for (step, _) in steps {
+        all = is_taken(rt, alloc, recv, wire, *step) && all;
+    }
+    all
+}
+
 // What is written behind these steps, and whether each came to what is expected.
 fn replied(rt: &impl Abort, alloc: Global, steps: &[(Step, usize)]) -> (bool, MemSink) {
     let mut recv = Recv::make(alloc);
     let mut wire = new_wire(alloc);
-    let mut all = feed(alloc, &mut recv, &mut wire, PREFACE) == Came::Read;
-    for (step, _) in steps.iter().copied() {
-        all = is_taken(rt, alloc, &mut recv, &mut wire, step) && all;
-    }
+    let all = are_taken(rt, alloc, &mut recv, &mut wire, steps);
     (all, wire.give())
 }
 
+// Whether each of these steps comes to what is expected, and so many octets are written behind them.
+fn is_replied(rt: &impl Abort, alloc: Global, steps: &[(Step, usize)], count: usize) -> bool {
+    let (all, sink) = replied(rt, alloc, steps);
+    all && behind(&sink, 0).len() == count
+}
+
 #[test]
-fn a_reply_is_sent_as_far_as_the_windows_let_it_through(rt: HostRuntime) -> Result<(), Fail> {
-    for (place, (_, count)) in REPLY.iter().copied().enumerate() {
-        let (all, sink) = replied(&rt, rt.alloc(), REPLY.get(..=place).unwrap_or(&[]));
-        assert!(rt; all, "step {place}");
-        assert_eq!(rt; behind(&sink, 0).len(), count, "step {place}");
+fn a_reply_is_sent_as_far_as_the_windows_let_it_through(rt: HostRuntime) {
+    for (place, (_, count)) in REPLY.iter().enumerate() {
+        let steps = REPLY.get(..=place).unwrap_or(&[]);
+        assert!(rt; is_replied(&rt, rt.alloc(), steps, *count), "step {place}");
     }
-    Ok(())
 }
 
 // Where frames of the reply begin, and their heads.
@@ -264,13 +293,17 @@ const HEADS: &[(usize, &[u8])] = &[
     (40_070, &[0, 0, 15, 1, 5, 0, 0, 0, 1]),
 ];
 
+// Whether a frame with this head begins there in the reply.
+fn has_head(rt: &impl Abort, alloc: Global, place: usize, head: &[u8]) -> bool {
+    let (_all, sink) = replied(rt, alloc, REPLY);
+    behind(&sink, place).starts_with(head)
+}
+
 #[test]
-fn a_reply_is_headers_data_and_trailers(rt: HostRuntime) -> Result<(), Fail> {
-    let (_all, sink) = replied(&rt, rt.alloc(), REPLY);
-    for (place, head) in HEADS.iter().copied() {
-        assert!(rt; behind(&sink, place).starts_with(head), "at {place}");
+fn a_reply_is_headers_data_and_trailers(rt: HostRuntime) {
+    for (place, head) in HEADS {
+        assert!(rt; has_head(&rt, rt.alloc(), *place, head), "at {place}");
     }
-    Ok(())
 }
 
 // ---- the greeting
@@ -287,13 +320,21 @@ fn begun(alloc: Global, greets_first: bool) -> MemSink {
     wire.give()
 }
 
+// Whether a wire that is greeted first answers a PING behind its greeting.
+fn answers_once_greeted(alloc: Global) -> bool {
+    let sink = begun(alloc, true);
+    sink.octets().len() == 38 && behind(&sink, 0).get(3) == Some(&6)
+}
+
+// Whether a wire that is greeted later writes its greeting alone.
+fn writes_greeting_alone(alloc: Global) -> bool {
+    let sink = begun(alloc, false);
+    sink.octets() == GREETING
+}
+
 #[test]
-fn a_wire_is_greeted_once_and_writes_nothing_before(rt: HostRuntime) -> Result<(), Fail> {
-    let greeted = begun(rt.alloc(), true);
-    assert_eq!(rt; greeted.octets().len(), 38);
-    assert_eq!(rt; behind(&greeted, 0).get(3), Some(&6));
-    assert_eq!(rt; begun(rt.alloc(), false).octets(), GREETING);
-    Ok(())
+fn a_wire_is_greeted_once_and_writes_nothing_before(rt: HostRuntime) {
+    assert!(rt; answers_once_greeted(rt.alloc()) && writes_greeting_alone(rt.alloc()));
 }
 
 // What is written by these calls on a new wire: finish, greet, finish.
@@ -305,64 +346,108 @@ fn ended(alloc: Global, code: u32) -> MemSink {
     wire.give()
 }
 
+// Whether so many octets are written by them, and these behind the greeting.
+fn is_ended_with(alloc: Global, code: u32, count: usize, octets: &[u8]) -> bool {
+    let sink = ended(alloc, code);
+    sink.octets().len() == count && written(&sink) == octets
+}
+
 #[test]
-fn a_wire_that_ends_before_its_greeting_writes_it_before_goaway(
-    rt: HostRuntime,
-) -> Result<(), Fail> {
-    assert_eq!(rt; ended(rt.alloc(), 0).octets().len(), 0);
+fn a_wire_that_ends_before_its_greeting_writes_it_before_goaway(rt: HostRuntime) {
     let goaway: &[u8] = &[0, 0, 8, 7, 0, 0, 0, 0, 0, 0, 0, 0, 0, 0, 0, 0, 1];
-    assert_eq!(rt; written(&ended(rt.alloc(), 1)), goaway);
-    Ok(())
+    assert!(rt; is_ended_with(rt.alloc(), 0, 0, &[]) && is_ended_with(rt.alloc(), 1, 38, goaway));
 }
 
 // ---- a status behind a message
+
+// What opens stream 1.
+const OPENING: &[&[u8]] = &[PREFACE, SETTINGS, CALL];
+
+// The client opens stream 1.
+fn open_stream(rt: &impl Abort, alloc: Global, recv: &mut Recv, wire: &mut Wire<MemSink>) {
+    for octets in OPENING {
+        if feed(alloc, recv, wire, octets) != Came::Read {
+            rt.abort();
+        }
+    }
+}
 
 // A wire on which the client has opened stream 1.
 fn called(rt: &impl Abort, alloc: Global) -> Wire<MemSink> {
     let mut recv = Recv::make(alloc);
     let mut wire = new_wire(alloc);
-    for octets in [PREFACE, SETTINGS, CALL] {
-        if feed(alloc, &mut recv, &mut wire, octets) != Came::Read {
-            rt.abort();
-        }
-    }
+    open_stream(rt, alloc, &mut recv, &mut wire);
     wire
 }
 
+// Whether no status is said on stream 1 behind a message, nor behind its end.
+fn refuses_late_statuses(alloc: Global, wire: &mut Wire<MemSink>) -> bool {
+    wire.offer(alloc, 1, Piece::Message(Bytes::empty(alloc))) == Took::Taken
+        && wire.http(alloc, 1, 415) == Took::Gone
+        && wire.ready(1) == Ready::Free
+        && wire.offer(alloc, 1, Piece::Finish(None)) == Took::Taken
+        && wire.http(alloc, 1, 415) == Took::Gone
+}
+
+// Whether that is so on a new call, and nothing of a status is written.
+fn writes_no_late_status(rt: &impl Abort, alloc: Global) -> bool {
+    let mut wire = called(rt, alloc);
+    let is_refused = refuses_late_statuses(alloc, &mut wire);
+    let sink = wire.give();
+    is_refused && behind(&sink, 9).len() == 67
+}
+
 #[test]
-fn a_status_is_said_before_all_else_or_not_at_all(rt: HostRuntime) -> Result<(), Fail> {
-    let alloc = rt.alloc();
-    let mut wire = called(&rt, alloc);
-    let small = Piece::Message(Bytes::empty(alloc));
-    assert_eq!(rt; wire.offer(alloc, 1, small), Took::Taken);
-    assert_eq!(rt; wire.http(alloc, 1, 415), Took::Gone);
-    assert_eq!(rt; wire.ready(1), Ready::Free);
-    assert_eq!(rt; wire.offer(alloc, 1, Piece::Finish(None)), Took::Taken);
-    assert_eq!(rt; wire.http(alloc, 1, 415), Took::Gone);
-    assert_eq!(rt; behind(&wire.give(), 9).len(), 67);
-    Ok(())
+fn a_status_is_said_before_all_else_or_not_at_all(rt: HostRuntime) {
+    assert!(rt; writes_no_late_status(&rt, rt.alloc()));
 }
 
 // ---- what is taken and what waits
 
+// Whether so many octets were taken on stream 1, and so many wait, behind this event.
+fn leaves(
+    alloc: Global,
+    wire: &mut Wire<MemSink>,
+    event: RecvEvent,
+    taken: u64,
+    held: usize,
+) -> bool {
+    let _done = wire.act(alloc, &event);
+    (wire.taken(1), wire.held()) == (taken, held)
+}
+
+// Whether a message is taken, and then so many octets were taken on stream 1, and so many wait.
+fn takes_message(
+    rt: &impl Abort,
+    alloc: Global,
+    wire: &mut Wire<MemSink>,
+    taken: u64,
+    held: usize,
+) -> bool {
+    wire.offer(alloc, 1, message(rt, alloc)) == Took::Taken
+        && (wire.taken(1), wire.held()) == (taken, held)
+}
+
+// Whether messages are taken on stream 1 and wait for the windows, until the stream is reset.
+fn keeps_back(rt: &impl Abort, alloc: Global, wire: &mut Wire<MemSink>) -> bool {
+    leaves(alloc, wire, RecvEvent::Settings(0, false), 0, 0)
+        && takes_message(rt, alloc, wire, 40_005, 40_005)
+        && leaves(alloc, wire, RecvEvent::Window(1, 10_000), 40_005, 30_005)
+        && leaves(alloc, wire, RecvEvent::Window(1, 100_000), 40_005, 0)
+        && takes_message(rt, alloc, wire, 80_010, 14_475)
+        && wire.taken(3) == 0
+        && leaves(alloc, wire, RecvEvent::Reset(1), 0, 0)
+}
+
+// Whether that is so on a new call.
+fn call_keeps_back(rt: &impl Abort, alloc: Global) -> bool {
+    let mut wire = called(rt, alloc);
+    keeps_back(rt, alloc, &mut wire)
+}
+
 #[test]
-fn octets_are_taken_and_wait_until_they_go(rt: HostRuntime) -> Result<(), Fail> {
-    let alloc = rt.alloc();
-    let mut wire = called(&rt, alloc);
-    let _none = wire.act(alloc, &RecvEvent::Settings(0, false));
-    assert_eq!(rt; (wire.taken(1), wire.held()), (0, 0));
-    assert_eq!(rt; wire.offer(alloc, 1, message(&rt, alloc)), Took::Taken);
-    assert_eq!(rt; (wire.taken(1), wire.held()), (40_005, 40_005));
-    let _some = wire.act(alloc, &RecvEvent::Window(1, 10_000));
-    assert_eq!(rt; (wire.taken(1), wire.held()), (40_005, 30_005));
-    let _rest = wire.act(alloc, &RecvEvent::Window(1, 100_000));
-    assert_eq!(rt; (wire.taken(1), wire.held()), (40_005, 0));
-    assert_eq!(rt; wire.offer(alloc, 1, message(&rt, alloc)), Took::Taken);
-    assert_eq!(rt; (wire.taken(1), wire.held()), (80_010, 14_475));
-    assert_eq!(rt; wire.taken(3), 0);
-    let _reset = wire.act(alloc, &RecvEvent::Reset(1));
-    assert_eq!(rt; (wire.taken(1), wire.held()), (0, 0));
-    Ok(())
+fn octets_are_taken_and_wait_until_they_go(rt: HostRuntime) {
+    assert!(rt; call_keeps_back(&rt, rt.alloc()));
 }
 
 // ---- a port of any kind
@@ -376,23 +461,37 @@ fn accepts<W: WirePort>(alloc: Global, port: &mut W, stream: u32) -> Took {
     }
 }
 
+// Whether a call is accepted on stream 1 alone, and once.
+fn accepts_once(alloc: Global, wire: &mut Wire<MemSink>) -> bool {
+    accepts(alloc, wire, 3) == Took::Gone
+        && accepts(alloc, wire, 1) == Took::Taken
+        && accepts(alloc, wire, 1) == Took::Gone
+}
+
+// Whether that is so of a wire on which the client has opened stream 1.
+fn call_is_accepted_once(rt: &impl Abort, alloc: Global) -> bool {
+    let mut wire = called(rt, alloc);
+    accepts_once(alloc, &mut wire)
+}
+
 #[test]
-fn a_wire_is_a_port(rt: HostRuntime) -> Result<(), Fail> {
-    let alloc = rt.alloc();
-    let mut wire = called(&rt, alloc);
-    assert_eq!(rt; accepts(alloc, &mut wire, 3), Took::Gone);
-    assert_eq!(rt; accepts(alloc, &mut wire, 1), Took::Taken);
-    assert_eq!(rt; accepts(alloc, &mut wire, 1), Took::Gone);
-    Ok(())
+fn a_wire_is_a_port(rt: HostRuntime) {
+    assert!(rt; call_is_accepted_once(&rt, rt.alloc()));
 }
 
 // ---- a sink that fails
 
+// The numbers of the writes that fail: this one.
+fn one_number(rt: &impl Abort, alloc: Global, number: &[u8]) -> Texts {
+    let number = Text::of(alloc, number).expect(rt, "memory");
+    let mut fails = Texts::empty(alloc);
+    fails.push(number).expect(rt, "memory");
+    fails
+}
+
 // What becomes of a call, a reply and its end where the write with this number fails, and how many octets are written.
 fn failing(rt: &impl Abort, alloc: Global, number: &[u8]) -> (Took, Took, usize) {
-    let mut fails = Texts::empty(alloc);
-    let number = Text::of(alloc, number).expect(rt, "memory");
-    fails.push(number).expect(rt, "memory");
+    let fails = one_number(rt, alloc, number);
     let mut wire = Wire::make(alloc, MemSink::make(alloc, fails));
     let _greeting = wire.greet();
     let _call = wire.act(alloc, &RecvEvent::TooLong(1));
@@ -410,13 +509,12 @@ const FAILING: &[(&[u8], (Took, Took, usize))] = &[
 ];
 
 #[test]
-fn a_failed_write_closes_the_wire(rt: HostRuntime) -> Result<(), Fail> {
-    for (number, expected) in FAILING.iter().copied() {
+fn a_failed_write_closes_the_wire(rt: HostRuntime) {
+    for (number, expected) in FAILING {
         assert_eq!(rt;
             failing(&rt, rt.alloc(), number),
-            expected,
+            *expected,
             "write {number:?}"
         );
     }
-    Ok(())
 }

@@ -25,24 +25,34 @@ pub(crate) fn payloads(alloc: Global, octets: &[u8], stream: u8, data_alone: boo
     payloads
 }
 
+/// Whether both wrote the same on a stream.
+fn same_on_stream(alloc: Global, one: &[u8], other: &[u8], stream: u8) -> bool {
+    let first = payloads(alloc, one, stream, false);
+    let second = payloads(alloc, other, stream, false);
+    first.items() == second.items()
+}
+
 /// Whether both wrote the same on each stream below this number, however it was cut into frames, and however streams took turns.
 pub(crate) fn same_on_streams(alloc: Global, one: &[u8], other: &[u8], streams: u8) -> bool {
     for stream in 0..streams {
-        let first = payloads(alloc, one, stream, false);
-        let second = payloads(alloc, other, stream, false);
-        if first.items() != second.items() {
+        if !same_on_stream(alloc, one, other, stream) {
             return false;
         }
     }
     true
 }
 
+/// Whether what one wrote on a stream is a front of what the other did.
+fn front_on_stream(alloc: Global, front: &[u8], whole: &[u8], stream: u8) -> bool {
+    let first = payloads(alloc, front, stream, false);
+    let second = payloads(alloc, whole, stream, false);
+    second.items().starts_with(first.items())
+}
+
 /// Whether what one wrote on each stream is a front of what the other did.
 pub(crate) fn fronts_on_streams(alloc: Global, front: &[u8], whole: &[u8], streams: u8) -> bool {
     for stream in 0..streams {
-        let first = payloads(alloc, front, stream, false);
-        let second = payloads(alloc, whole, stream, false);
-        if !second.items().starts_with(first.items()) {
+        if !front_on_stream(alloc, front, whole, stream) {
             return false;
         }
     }
@@ -107,6 +117,14 @@ fn update_of(octets: &[u8]) -> Option<(&[u8], &[u8])> {
     Some((path.value, value.value))
 }
 
+/// The leaves with that of an Update in its place.
+fn updated<'a>(alloc: Global, leaves: &Leaves<'a>, update: &'a [u8]) -> Option<Leaves<'a>> {
+    let (path, value) = update_of(update)?;
+    let mut left = without(alloc, leaves, path)?;
+    left.push((path, value)).ok()?;
+    Some(left)
+}
+
 /// The leaves behind a Notification.
 fn noted<'a>(alloc: Global, leaves: Leaves<'a>, note: &'a [u8]) -> Option<Leaves<'a>> {
     let mut leaves = leaves;
@@ -116,11 +134,7 @@ fn noted<'a>(alloc: Global, leaves: Leaves<'a>, note: &'a [u8]) -> Option<Leaves
             break;
         };
         match next.tag {
-            0x22 => {
-                let (path, value) = update_of(next.value)?;
-                leaves = without(alloc, &leaves, path)?;
-                leaves.push((path, value)).ok()?;
-            }
+            0x22 => leaves = updated(alloc, &leaves, next.value)?,
             0x2a => leaves = without(alloc, &leaves, next.value)?,
             _ => {}
         }
@@ -129,20 +143,27 @@ fn noted<'a>(alloc: Global, leaves: Leaves<'a>, note: &'a [u8]) -> Option<Leaves
     Some(leaves)
 }
 
+/// The first field of the message of gRPC that comes first, and what stands behind the message.
+fn first_message(data: &[u8]) -> Option<(Field<'_>, &[u8])> {
+    let [0, 0, 0, high, low, rest @ ..] = data else {
+        return None;
+    };
+    let length = *high as usize * 256 + *low as usize;
+    Some((first_field(rest.get(..length)?)?, rest.get(length..)?))
+}
+
 /// What the messages of Subscribe that stand in the DATA of a stream fold to.
 pub(crate) fn folded(alloc: Global, data: &[u8]) -> Option<Leaves<'_>> {
     let mut leaves = Vec::new(alloc);
     let mut left = data;
     for _ in 0..data.len() {
-        let [0, 0, 0, high, low, rest @ ..] = left else {
+        let Some((message, rest)) = first_message(left) else {
             break;
         };
-        let length = *high as usize * 256 + *low as usize;
-        let message = first_field(rest.get(..length)?)?;
         if message.tag == 0x0a {
             leaves = noted(alloc, leaves, message.value)?;
         }
-        left = rest.get(length..)?;
+        left = rest;
     }
     if left.is_empty() { Some(leaves) } else { None }
 }
@@ -160,12 +181,19 @@ fn same_leaves(one: &Leaves<'_>, other: &Leaves<'_>) -> bool {
     true
 }
 
+/// Whether both are there, and the same leaves, so many.
+fn same_folds(one: &Option<Leaves<'_>>, other: &Option<Leaves<'_>>, count: usize) -> bool {
+    match (one, other) {
+        (Some(one), Some(other)) => one.len() == count && same_leaves(one, other),
+        _ => false,
+    }
+}
+
 /// Whether what is said on two streams folds to the same leaves, so many.
 pub(crate) fn fold_alike(alloc: Global, octets: &[u8], one: u8, other: u8, count: usize) -> bool {
     let first = payloads(alloc, octets, one, true);
     let second = payloads(alloc, octets, other, true);
-    match (folded(alloc, first.items()), folded(alloc, second.items())) {
-        (Some(first), Some(second)) => first.len() == count && same_leaves(&first, &second),
-        _ => false,
-    }
+    let one = folded(alloc, first.items());
+    let other = folded(alloc, second.items());
+    same_folds(&one, &other, count)
 }

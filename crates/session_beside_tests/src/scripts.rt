@@ -1,6 +1,7 @@
 //! What the peer of a connection sends.
 use base_lists::{Bytes, NoMemory};
 use std::alloc::Global;
+use std::process::Abort;
 
 /// The preface, and an empty SETTINGS frame.
 const BEGIN: &[u8] = b"PRI * HTTP/2.0\r\n\r\nSM\r\n\r\n\0\0\0\x04\0\0\0\0\0";
@@ -96,10 +97,10 @@ fn put(octets: &mut Bytes, step: &Step) -> Result<(), NoMemory> {
 }
 
 /// All octets of a client that takes these steps.
-pub(crate) fn octets_of(alloc: Global, steps: &[Step]) -> Result<Bytes, NoMemory> {
-    let mut octets = Bytes::of(alloc, BEGIN)?;
+pub(crate) fn octets_of(rt: &impl Abort, alloc: Global, steps: &[Step]) -> Bytes {
+    let mut octets = Bytes::of(alloc, BEGIN).expect(rt, "memory");
     for step in steps {
-        put(&mut octets, step)?;
+        put(&mut octets, step).expect(rt, "memory");
     }
-    Ok(octets)
+    octets
 }

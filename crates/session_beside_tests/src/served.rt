@@ -65,13 +65,17 @@ pub(crate) struct Outcome {
     pub(crate) started: u64,
 }
 
+/// The number in decimal.
+fn text_of(rt: &impl Abort, alloc: Global, number: u64) -> Text {
+    let decimal = format!(in alloc; "{number}").expect(rt, "memory");
+    Text::of(alloc, decimal.as_bytes()).expect(rt, "a text")
+}
+
 /// The numbers in decimal.
 fn texts_of(rt: &impl Abort, alloc: Global, numbers: &[u64]) -> Texts {
     let mut texts = Texts::empty(alloc);
     for number in numbers {
-        let decimal = format!(in alloc; "{number}").expect(rt, "memory");
-        let text = Text::of(alloc, decimal.as_bytes()).expect(rt, "a text");
-        texts.push(text).expect(rt, "memory");
+        texts.push(text_of(rt, alloc, *number)).expect(rt, "memory");
     }
     texts
 }
@@ -118,27 +122,37 @@ fn counters(rt: &impl Abort, alloc: Global) -> (Counter, Counter) {
     (one, other)
 }
 
-/// Where octets come in and go out.
-fn edges(rt: &impl Abort, alloc: Global, given: &Given<'_>) -> (WaitingSource, CountingSink) {
-    let (taken, theirs) = counters(rt, alloc);
+/// Where octets come in.
+fn source_of(rt: &impl Abort, alloc: Global, given: &Given<'_>, taken: Counter) -> WaitingSource {
     let octets = Bytes::of(alloc, given.octets).expect(rt, "memory");
-    let source = WaitingSource {
+    let each = Seq::of(alloc, given.each).expect(rt, "memory");
+    WaitingSource {
         source: MemSource::make(octets, texts_of(rt, alloc, &[given.read])),
         left: given.octets.len(),
         taken,
         goals: Goals {
-            each: Seq::of(alloc, given.each).expect(rt, "memory"),
+            each,
             last: given.last,
         },
         found: Seq::empty(alloc),
         patience: PATIENCE,
-    };
-    let sink = CountingSink {
+    }
+}
+
+/// Where octets go out.
+fn sink_of(rt: &impl Abort, alloc: Global, given: &Given<'_>, taken: Counter) -> CountingSink {
+    CountingSink {
         sink: MemSink::make(alloc, texts_of(rt, alloc, &[given.write])),
         text: given.text,
-        taken: theirs,
-    };
-    (source, sink)
+        taken,
+    }
+}
+
+/// Where octets come in and go out.
+fn edges(rt: &impl Abort, alloc: Global, given: &Given<'_>) -> (WaitingSource, CountingSink) {
+    let (taken, theirs) = counters(rt, alloc);
+    let source = source_of(rt, alloc, given, taken);
+    (source, sink_of(rt, alloc, given, theirs))
 }
 
 /// What is looked at of what a session handed back.
@@ -159,7 +173,7 @@ fn outcome_of<R: Wait + Abort + Copy + Drop>(
         how,
         written: Bytes::of(alloc, output.sink.octets()).expect(&rt, "memory"),
         entries: book.finish().count(),
-        found: Seq::of(alloc, input.found.items()).expect(&rt, "memory"),
+        found: input.found,
         started,
     }
 }

@@ -1,12 +1,10 @@
 use crate::folds::{fold_alike, fronts_on_streams, same_on_streams};
 use crate::scripts::{GET, SET, SUBSCRIBE, Step, octets_of};
 use crate::served::{Given, Outcome, alone, beside};
-use base_lists::Bytes;
 use session_core::How;
 use std::alloc::Global;
 use std::process::Abort;
 use std::sync::Wait;
-use std::test::Fail;
 use std::thread::Threads;
 
 /// Lists of mode STREAM: of the root, of /a and of /b; of the root with updates alone.
@@ -235,10 +233,6 @@ fn freely(octets: &[u8]) -> Given<'_> {
     }
 }
 
-fn sent(rt: &impl Abort, alloc: Global, steps: &[Step]) -> Bytes {
-    octets_of(alloc, steps).expect(rt, "memory")
-}
-
 /// Whether both ended well and alike, and wrote the same on each stream.
 fn are_alike(alloc: Global, one: &Outcome, other: &Outcome) -> bool {
     one.how == How::Closed
@@ -267,7 +261,7 @@ fn comes_to_the_same<R: Threads + Wait + Abort + Copy + Drop + Send + Sync + 'st
     starts: &[u64],
 ) -> bool {
     let (calls, steps) = *row;
-    let octets = sent(&rt, alloc, steps);
+    let octets = octets_of(&rt, alloc, steps);
     let one = alone(rt, alloc, &freely(octets.items()));
     let given = Given {
         each: one.found.items(),
@@ -279,15 +273,14 @@ fn comes_to_the_same<R: Threads + Wait + Abort + Copy + Drop + Send + Sync + 'st
 }
 
 #[test]
-fn each_stream_is_told_what_it_is_told_by_a_session_alone(rt: HostRuntime) -> Result<(), Fail> {
+fn each_stream_is_told_what_it_is_told_by_a_session_alone(rt: HostRuntime) {
     let alloc = rt.alloc();
     for (number, row) in CALLS.iter().enumerate() {
-        for starts in REFUSED.iter() {
+        for starts in REFUSED {
             let same = comes_to_the_same(rt, alloc, row, starts);
             assert!(rt; same, "call {number}");
         }
     }
-    Ok(())
 }
 
 /// Whether a session that starts no feeder writes just what it writes alone, octet for octet.
@@ -296,7 +289,7 @@ fn writes_the_same<R: Threads + Wait + Abort + Copy + Drop + Send + Sync + 'stat
     alloc: Global,
     steps: &[Step],
 ) -> bool {
-    let octets = sent(&rt, alloc, steps);
+    let octets = octets_of(&rt, alloc, steps);
     let one = alone(rt, alloc, &freely(octets.items()));
     let given = Given {
         starts: &[1, 2, 3, 4],
@@ -309,29 +302,16 @@ fn writes_the_same<R: Threads + Wait + Abort + Copy + Drop + Send + Sync + 'stat
 }
 
 #[test]
-fn a_session_without_feeders_serves_all_calls_itself(rt: HostRuntime) -> Result<(), Fail> {
+fn a_session_without_feeders_serves_all_calls_itself(rt: HostRuntime) {
     let alloc = rt.alloc();
     for (number, steps) in FURTHER.iter().enumerate() {
         let same = writes_the_same(rt, alloc, steps);
         assert!(rt; same, "call {number}");
     }
-    Ok(())
 }
 
-/// Whether each call of mode STREAM folds to what one of mode ONCE then says, of two leaves and of one each.
-fn folds_to_the_last_state<R: Threads + Wait + Abort + Copy + Drop + Send + Sync + 'static>(
-    rt: R,
-    alloc: Global,
-    starts: &[u64],
-) -> bool {
-    let octets = sent(&rt, alloc, FREE);
-    let given = Given {
-        text: LAST,
-        last: LASTS,
-        starts,
-        ..freely(octets.items())
-    };
-    let end = beside(rt, alloc, &given);
+/// Whether each call of mode STREAM folded to what one of mode ONCE then said, of two leaves and of one each.
+fn folded_to_the_last_state(alloc: Global, end: &Outcome, starts: &[u64]) -> bool {
     let written = end.written.items();
     end.how == How::Closed
         && end.started == 3_u64.saturating_sub(count_of(starts, 3))
@@ -341,15 +321,38 @@ fn folds_to_the_last_state<R: Threads + Wait + Abort + Copy + Drop + Send + Sync
         && fold_alike(alloc, written, 7, 21, 1)
 }
 
+/// Whether they do so where these starts are refused.
+fn folds_to_the_last_state<R: Threads + Wait + Abort + Copy + Drop + Send + Sync + 'static>(
+    rt: R,
+    alloc: Global,
+    starts: &[u64],
+) -> bool {
+    let octets = octets_of(&rt, alloc, FREE);
+    let given = Given {
+        text: LAST,
+        last: LASTS,
+        starts,
+        ..freely(octets.items())
+    };
+    let end = beside(rt, alloc, &given);
+    folded_to_the_last_state(alloc, &end, starts)
+}
+
 #[test]
-fn each_stream_folds_to_its_part_of_the_last_state(rt: HostRuntime) -> Result<(), Fail> {
+fn each_stream_folds_to_its_part_of_the_last_state(rt: HostRuntime) {
     let alloc = rt.alloc();
     for (number, starts) in REFUSED.iter().enumerate() {
         let folds = folds_to_the_last_state(rt, alloc, starts);
         assert!(rt; folds, "refused {number}");
     }
-    Ok(())
 }
+
+/// A call that fails, of the source or of the sink, and how a session ends with it.
+type Fault = (&'static str, How);
+
+const READ: Fault = ("read", How::ReadFault);
+
+const WRITE: Fault = ("write", How::WriteFault);
 
 /// Whether a session ended with this fault, and wrote a front of what it writes without.
 fn is_broken_off(alloc: Global, end: &Outcome, whole: &Outcome, how: How) -> bool {
@@ -358,30 +361,40 @@ fn is_broken_off(alloc: Global, end: &Outcome, whole: &Outcome, how: How) -> boo
         && fronts_on_streams(alloc, end.written.items(), whole.written.items(), STREAMS)
 }
 
-/// Whether a session whose source fails in the read with this number has answered all that was read before; None where it ended
-/// well.
-fn breaks_off_at_read<R: Threads + Wait + Abort + Copy + Drop + Send + Sync + 'static>(
+/// Whether a session made so many reads, and has answered all that was read before the last one.
+fn has_answered(end: &Outcome, whole: &Outcome, reads: u64) -> bool {
+    let written = whole.found.get(end.found.len().saturating_sub(1)).copied();
+    end.found.len() as u64 == reads && written == Some(end.written.len() as u64)
+}
+
+/// Whether a session broke off at the call with this number, and has answered all that was read before where that is a read.
+fn broke_off(alloc: Global, end: &Outcome, whole: &Outcome, how: How, number: u64) -> bool {
+    (how != How::ReadFault || has_answered(end, whole, number))
+        && is_broken_off(alloc, end, whole, how)
+}
+
+/// Whether a session breaks off so where the call with this number fails; None where it ended well.
+fn breaks_off<R: Threads + Wait + Abort + Copy + Drop + Send + Sync + 'static>(
     rt: R,
     alloc: Global,
     octets: &[u8],
     whole: &Outcome,
+    how: How,
     number: u64,
 ) -> Option<bool> {
+    let is_read = how == How::ReadFault;
     let given = Given {
         each: whole.found.items(),
-        read: number,
+        read: if is_read { number } else { 0 },
+        write: if is_read { 0 } else { number },
         ..freely(octets)
     };
     let end = beside(rt, alloc, &given);
     if are_alike(alloc, &end, whole) {
-        return None;
+        None
+    } else {
+        Some(broke_off(alloc, &end, whole, how, number))
     }
-    let written = whole.found.get(end.found.len().saturating_sub(1)).copied();
-    Some(
-        end.found.len() as u64 == number
-            && written == Some(end.written.len() as u64)
-            && is_broken_off(alloc, &end, whole, How::ReadFault),
-    )
 }
 
 /// More than a session reads or writes, and fewer than it does.
@@ -389,56 +402,47 @@ const MOST_CALLS: u64 = 200;
 
 const FEWEST_CALLS: u64 = 40;
 
-#[test]
-fn a_read_that_fails_ends_the_session_and_its_feeders(rt: HostRuntime) -> Result<(), Fail> {
-    let alloc = rt.alloc();
-    let octets = sent(&rt, alloc, NARROW);
-    let whole = alone(rt, alloc, &freely(octets.items()));
-    for number in 1..MOST_CALLS {
-        match breaks_off_at_read(rt, alloc, octets.items(), &whole, number) {
-            Some(breaks) => assert!(rt; breaks, "read {number}"),
-            None => {
-                assert!(rt; number > FEWEST_CALLS);
-                return Ok(());
-            }
-        }
-    }
-    Err("each read fails".into())
-}
-
-/// Whether a session whose sink fails in the write with this number broke off; None where it ended well.
-fn breaks_off_at_write<R: Threads + Wait + Abort + Copy + Drop + Send + Sync + 'static>(
+/// The number of the first call that a session doesn't make, where it breaks off at each one before; None where each one fails.
+fn first_without_fault<R: Threads + Wait + Abort + Copy + Drop + Send + Sync + 'static>(
     rt: R,
     alloc: Global,
     octets: &[u8],
     whole: &Outcome,
-    number: u64,
-) -> Option<bool> {
-    let given = Given {
-        each: whole.found.items(),
-        write: number,
-        ..freely(octets)
-    };
-    let end = beside(rt, alloc, &given);
-    if are_alike(alloc, &end, whole) {
-        return None;
+    fault: Fault,
+) -> Option<u64> {
+    let (call, how) = fault;
+    for number in 1..MOST_CALLS {
+        match breaks_off(rt, alloc, octets, whole, how, number) {
+            Some(breaks) => assert!(&rt; breaks, "{call} {number}"),
+            None => return Some(number),
+        }
     }
-    Some(is_broken_off(alloc, &end, whole, How::WriteFault))
+    None
+}
+
+/// The same of the session whose answers wait for the peer.
+fn narrow_without_fault<R: Threads + Wait + Abort + Copy + Drop + Send + Sync + 'static>(
+    rt: R,
+    alloc: Global,
+    fault: Fault,
+) -> Option<u64> {
+    let octets = octets_of(&rt, alloc, NARROW);
+    let whole = alone(rt, alloc, &freely(octets.items()));
+    first_without_fault(rt, alloc, octets.items(), &whole, fault)
 }
 
 #[test]
-fn a_write_that_fails_ends_the_session_and_its_feeders(rt: HostRuntime) -> Result<(), Fail> {
-    let alloc = rt.alloc();
-    let octets = sent(&rt, alloc, NARROW);
-    let whole = alone(rt, alloc, &freely(octets.items()));
-    for number in 1..MOST_CALLS {
-        match breaks_off_at_write(rt, alloc, octets.items(), &whole, number) {
-            Some(breaks) => assert!(rt; breaks, "write {number}"),
-            None => {
-                assert!(rt; number > FEWEST_CALLS);
-                return Ok(());
-            }
-        }
+fn a_read_that_fails_ends_the_session_and_its_feeders(rt: HostRuntime) {
+    match narrow_without_fault(rt, rt.alloc(), READ) {
+        Some(number) => assert!(rt; number > FEWEST_CALLS),
+        None => panic!(rt; "each read fails"),
     }
-    Err("each write fails".into())
+}
+
+#[test]
+fn a_write_that_fails_ends_the_session_and_its_feeders(rt: HostRuntime) {
+    match narrow_without_fault(rt, rt.alloc(), WRITE) {
+        Some(number) => assert!(rt; number > FEWEST_CALLS),
+        None => panic!(rt; "each write fails"),
+    }
 }

@@ -3,7 +3,6 @@ use crate::served::{Outcome, served};
 use session_core::How;
 use std::alloc::Global;
 use std::process::Abort;
-use std::test::Fail;
 
 /// The preface, and an empty SETTINGS frame.
 const BEGIN: &[u8] = b"PRI * HTTP/2.0\r\n\r\nSM\r\n\r\n\0\0\0\x04\0\0\0\0\0";
@@ -73,29 +72,72 @@ const ROWS: &[Row] = &[
     ),
 ];
 
-/// Whether a connection ended so, and wrote just these octets behind its beginning.
-pub(crate) fn came_to(served: &Outcome, how: How, written: &[u8]) -> bool {
-    match served.written.items().strip_prefix(BEGUN) {
-        Some(behind) => served.how == how && behind == written,
+/// What is behind these frames, where the octets begin with them.
+pub(crate) fn behind_frames<'a>(octets: &'a [u8], frames: &[&[u8]]) -> Option<&'a [u8]> {
+    let mut left = octets;
+    for frame in frames {
+        left = left.strip_prefix(frame)?;
+    }
+    Some(left)
+}
+
+/// Whether the octets are just these frames.
+pub(crate) fn are_frames(octets: &[u8], frames: &[&[u8]]) -> bool {
+    match behind_frames(octets, frames) {
+        Some(left) => left.is_empty(),
         None => false,
     }
 }
 
-/// What a connection comes to that goes on so.
-pub(crate) fn behind(rt: &impl Abort, alloc: Global, octets: &[u8]) -> Outcome {
-    let mut all = BEGIN.to_vec(alloc).expect(rt, "memory");
-    all.extend_from_slice(octets).expect(rt, "memory");
-    served(rt, alloc, all.as_slice(), 1000)
+/// What a connection wrote behind its beginning, where it ended so.
+pub(crate) fn written_behind(served: &Outcome, how: How) -> Option<&[u8]> {
+    if served.how == how {
+        served.written.items().strip_prefix(BEGUN)
+    } else {
+        None
+    }
+}
+
+/// Whether a connection ended so, and wrote just these frames behind its beginning.
+fn came_to(served: &Outcome, how: How, frames: &[&[u8]]) -> bool {
+    match written_behind(served, how) {
+        Some(written) => are_frames(written, frames),
+        None => false,
+    }
+}
+
+pub(crate) fn put_frames(rt: &impl Abort, octets: &mut Vec<u8>, frames: &[&[u8]]) {
+    for frame in frames {
+        octets.extend_from_slice(frame).expect(rt, "memory");
+    }
+}
+
+/// What a connection comes to that goes on with these frames.
+pub(crate) fn behind(rt: &impl Abort, alloc: Global, frames: &[&[u8]]) -> Outcome {
+    let mut octets = BEGIN.to_vec(alloc).expect(rt, "memory");
+    put_frames(rt, &mut octets, frames);
+    served(rt, alloc, octets.as_slice(), 1000)
+}
+
+/// Whether a connection that goes on with these frames ends so, and writes just those behind its beginning.
+pub(crate) fn comes_to(
+    rt: &impl Abort,
+    alloc: Global,
+    sent: &[&[u8]],
+    how: How,
+    written: &[&[u8]],
+) -> bool {
+    let end = behind(rt, alloc, sent);
+    came_to(&end, how, written)
 }
 
 #[test]
-fn frames_are_answered(rt: HostRuntime) -> Result<(), Fail> {
+fn frames_are_answered(rt: HostRuntime) {
     let alloc = rt.alloc();
     for (number, (octets, how, written)) in ROWS.iter().enumerate() {
-        let end = behind(&rt, alloc, octets);
-        assert!(rt; came_to(&end, *how, written), "row {number}");
+        let came = comes_to(&rt, alloc, &[*octets], *how, &[*written]);
+        assert!(rt; came, "row {number}");
     }
-    Ok(())
 }
 
 /// The headers of a Set on stream 1.
@@ -133,15 +175,12 @@ const MESSAGES: &[(&[u8], &[u8])] = &[
 ];
 
 #[test]
-fn messages_are_refused_at_their_limits(rt: HostRuntime) -> Result<(), Fail> {
+fn messages_are_refused_at_their_limits(rt: HostRuntime) {
     let alloc = rt.alloc();
     for (number, (octets, written)) in MESSAGES.iter().enumerate() {
-        let mut all = SET.to_vec(alloc)?;
-        all.extend_from_slice(octets)?;
-        let end = behind(&rt, alloc, all.as_slice());
-        assert!(rt; came_to(&end, How::Closed, written), "row {number}");
+        let came = comes_to(&rt, alloc, &[SET, *octets], How::Closed, &[*written]);
+        assert!(rt; came, "row {number}");
     }
-    Ok(())
 }
 
 /// HEADERS with one header whose name has an octet and whose value so many that the list has 16,385.
@@ -154,15 +193,25 @@ fn long_list(rt: &impl Abort, alloc: Global) -> Vec<u8> {
     octets
 }
 
+/// What is written for it.
+const LONG_LIST_REFUSED: &[u8] =
+    b"\0\0\x3b\x01\x05\0\0\0\x01\x88\x0f\x10\x10application/grpc\0\x0bgrpc-status\x018\0\x0cgrpc-message\x09too large";
+
+fn long_list_is_refused(rt: &impl Abort, alloc: Global) -> bool {
+    let octets = long_list(rt, alloc);
+    comes_to(
+        rt,
+        alloc,
+        &[octets.as_slice()],
+        How::Closed,
+        &[LONG_LIST_REFUSED],
+    )
+}
+
 #[test]
-fn a_list_of_headers_that_is_too_long_is_refused(rt: HostRuntime) -> Result<(), Fail> {
+fn a_list_of_headers_that_is_too_long_is_refused(rt: HostRuntime) {
     let alloc = rt.alloc();
-    let octets = long_list(&rt, alloc);
-    let end = behind(&rt, alloc, octets.as_slice());
-    let refused: &[u8] =
-        b"\0\0\x3b\x01\x05\0\0\0\x01\x88\x0f\x10\x10application/grpc\0\x0bgrpc-status\x018\0\x0cgrpc-message\x09too large";
-    assert!(rt; came_to(&end, How::Closed, refused));
-    Ok(())
+    assert!(rt; long_list_is_refused(&rt, alloc));
 }
 
 /// An initial window of 0, a Set of nothing, WINDOW_UPDATE of 4 and of 100 on its stream.
@@ -181,12 +230,11 @@ const WAITED: &[u8] = b"\0\0\0\x04\x01\0\0\0\0\
     \0\0\x0f\x01\x05\0\0\0\x01\0\x0bgrpc-status\x010";
 
 #[test]
-fn a_reply_and_its_end_wait_for_the_window(rt: HostRuntime) -> Result<(), Fail> {
+fn a_reply_and_its_end_wait_for_the_window(rt: HostRuntime) {
     let alloc = rt.alloc();
-    let end = behind(&rt, alloc, WAITING);
-    assert!(rt; came_to(&end, How::Closed, WAITED));
+    assert!(rt; comes_to(&rt, alloc, &[WAITING], How::Closed, &[WAITED]));
     // Without the last update the end of the reply still waits.
-    let end = behind(&rt, alloc, &WAITING[..WAITING.len() - 13]);
-    assert!(rt; came_to(&end, How::Closed, &WAITED[..WAITED.len() - 37]));
-    Ok(())
+    let sent = &WAITING[..WAITING.len() - 13];
+    let written = &WAITED[..WAITED.len() - 37];
+    assert!(rt; comes_to(&rt, alloc, &[sent], How::Closed, &[written]));
 }

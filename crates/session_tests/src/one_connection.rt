@@ -2,11 +2,10 @@
 use crate::captures::{
     GRPCIO_CAPABILITIES, GRPCIO_GET, GRPCIO_SET, GRPCIO_SET_TWO, GRPCIO_SUBSCRIBE, NGHTTP_SET,
 };
-use crate::served::{Outcome, fails, served, served_with};
+use crate::served::{Outcome, served, served_with};
 use session_core::How;
 use std::alloc::Global;
 use std::process::Abort;
-use std::test::Fail;
 
 /// The preface, SETTINGS, WINDOW_UPDATE, the headers of a Set on stream 1, its message of an mtu of 1500, and GOAWAY.
 const SET: &[u8] = b"PRI * HTTP/2.0\r\n\r\nSM\r\n\r\n\
@@ -30,46 +29,59 @@ const REPLY: &[u8] = b"\0\0\x0c\x04\0\0\0\0\0\0\x03\0\0\0\x20\0\x06\0\0\x40\0\
     \x1a\x08\x0a\x06config\x1a\x05\x0a\x03mtu\x20\x03\x20\xe8\x07\
     \0\0\x0f\x01\x05\0\0\0\x01\0\x0bgrpc-status\x010";
 
+/// The sizes of the pieces in which the Set comes.
+const SIZES: &[usize] = &[1, 2, 9, 24, 100, 227];
+
+/// Whether the Set in pieces of this size is answered by its reply, and is one entry.
+fn set_is_answered(rt: &impl Abort, alloc: Global, size: usize) -> bool {
+    let end = served(rt, alloc, SET, size);
+    end.came_to(How::Closed, REPLY) && end.entries == 1
+}
+
 #[test]
-fn a_set_is_answered_however_its_octets_are_cut(rt: HostRuntime) -> Result<(), Fail> {
+fn a_set_is_answered_however_its_octets_are_cut(rt: HostRuntime) {
     let alloc = rt.alloc();
-    assert_eq!(rt; SET.len(), 227usize);
-    assert_eq!(rt; REPLY.len(), 177usize);
-    for size in [1, 2, 9, 24, 100, 227] {
-        let end = served(&rt, alloc, SET, size);
-        assert!(rt; end.came_to(How::Closed, REPLY), "in pieces of {size}");
-        assert_eq!(rt; end.entries, 1u64);
+    assert!(rt; SET.len() == 227 && REPLY.len() == 177);
+    for size in SIZES {
+        assert!(rt; set_is_answered(&rt, alloc, *size), "in pieces of {size}");
     }
-    Ok(())
 }
 
 /// Where a frame of the client ends, past the preface.
 const ENDS: &[usize] = &[33, 46, 129, 210, 227];
 
-/// Whether what was written for a front of the Set is a front of its reply, and the connection is cut but at a frame's end.
+/// Where the message of the Set ends: behind that the reply is whole.
+const MESSAGE_END: usize = 210;
+
+/// Whether what was written for a front of the Set is a front of its reply, the whole one where that is due, and the connection is
+/// cut but at a frame's end.
 fn is_cut_at(end: &Outcome, length: usize) -> bool {
     let how = if ENDS.contains(&length) {
         How::Closed
     } else {
         How::Cut
     };
-    end.how == how && REPLY.starts_with(end.written.items())
+    end.how == how
+        && REPLY.starts_with(end.written.items())
+        && (length < MESSAGE_END || end.written.items() == REPLY)
+}
+
+/// Whether this front of the Set is answered as far as it goes.
+fn front_is_answered(rt: &impl Abort, alloc: Global, front: &[u8]) -> bool {
+    let end = served(rt, alloc, front, 100);
+    is_cut_at(&end, front.len())
 }
 
 #[test]
-fn a_set_that_is_cut_is_answered_as_far_as_it_goes(rt: HostRuntime) -> Result<(), Fail> {
+fn a_set_that_is_cut_is_answered_as_far_as_it_goes(rt: HostRuntime) {
     let alloc = rt.alloc();
     for length in 0..SET.len() {
-        let end = served(&rt, alloc, &SET[..length], 100);
-        assert!(rt; is_cut_at(&end, length), "behind {length}");
-        if 210 <= length {
-            assert_eq!(rt; end.written.items(), REPLY);
-        }
+        let is_answered = front_is_answered(&rt, alloc, &SET[..length]);
+        assert!(rt; is_answered, "behind {length}");
     }
-    Ok(())
 }
 
-/// A client's octets, how the connection ends, how many entries there are then, and which octets end what is written.
+/// A client's octets, how many entries there are at the end, and which octets stand in what is written.
 type Row = (&'static [u8], u64, &'static [u8]);
 
 const ACCEPTED: &[u8] = b"\0\x0bgrpc-status\x010";
@@ -107,21 +119,27 @@ const CLIENTS: &[Row] = &[
 ];
 
 fn has(octets: &[u8], part: &[u8]) -> bool {
-    octets
-        .windows(part.len().max(1))
-        .any(|window| window == part)
+    for window in octets.windows(part.len().max(1)) {
+        if window == part {
+            return true;
+        }
+    }
+    false
+}
+
+/// Whether the connection of a client closes, has its answer in what is written, and leaves so many entries.
+fn client_is_answered(rt: &impl Abort, alloc: Global, row: &Row) -> bool {
+    let (octets, entries, answer) = *row;
+    let end = served(rt, alloc, octets, 1000);
+    end.how == How::Closed && has(end.written.items(), answer) && end.entries == entries
 }
 
 #[test]
-fn real_clients_are_answered(rt: HostRuntime) -> Result<(), Fail> {
+fn real_clients_are_answered(rt: HostRuntime) {
     let alloc = rt.alloc();
-    for (octets, entries, answer) in CLIENTS.iter() {
-        let end = served(&rt, alloc, octets, 1000);
-        assert_eq!(rt; end.how, How::Closed);
-        assert!(rt; has(end.written.items(), answer));
-        assert_eq!(rt; end.entries, *entries);
+    for row in CLIENTS {
+        assert!(rt; client_is_answered(&rt, alloc, row));
     }
-    Ok(())
 }
 
 /// Whether a write failed, and just the octets before it are a front of the reply.
@@ -134,26 +152,38 @@ fn broke_off(end: &Outcome) -> bool {
 /// The numbers of the writes of the reply, the greeting's first.
 const WRITES: &[&str] = &["1", "2", "3", "4", "5"];
 
-#[test]
-fn a_write_that_fails_ends_the_connection(rt: HostRuntime) -> Result<(), Fail> {
-    let alloc = rt.alloc();
-    for number in WRITES.iter() {
-        let none = fails(&rt, alloc, "");
-        let end = served_with(&rt, alloc, SET, 100, none, fails(&rt, alloc, number));
-        assert!(rt; broke_off(&end), "at write {number}");
-    }
-    Ok(())
+/// Whether the write with this number breaks the connection off where it fails.
+fn breaks_off_at_write(rt: &impl Abort, alloc: Global, number: &str) -> bool {
+    let end = served_with(rt, alloc, SET, 100, "", number);
+    broke_off(&end)
 }
 
 #[test]
-fn a_read_that_fails_ends_the_connection(rt: HostRuntime) -> Result<(), Fail> {
+fn a_write_that_fails_ends_the_connection(rt: HostRuntime) {
     let alloc = rt.alloc();
-    let none = fails(&rt, alloc, "");
-    let end = served_with(&rt, alloc, SET, 100, fails(&rt, alloc, "11"), none);
-    assert!(rt; end.came_to(How::ReadFault, REPLY));
-    let none = fails(&rt, alloc, "");
-    let end = served_with(&rt, alloc, SET, 100, fails(&rt, alloc, "2"), none);
-    assert_eq!(rt; end.how, How::ReadFault);
-    assert_eq!(rt; end.written.items().len(), 21usize);
-    Ok(())
+    for number in WRITES {
+        assert!(rt;
+            breaks_off_at_write(&rt, alloc, number),
+            "at write {number}"
+        );
+    }
+}
+
+/// Whether a read that fails behind the Set ends the connection behind the reply.
+fn late_read_breaks_off(rt: &impl Abort, alloc: Global) -> bool {
+    let end = served_with(rt, alloc, SET, 100, "11", "");
+    end.came_to(How::ReadFault, REPLY)
+}
+
+/// Whether the second read, where it fails, ends the connection behind 21 octets.
+fn second_read_breaks_off(rt: &impl Abort, alloc: Global) -> bool {
+    let end = served_with(rt, alloc, SET, 100, "2", "");
+    end.how == How::ReadFault && end.written.items().len() == 21
+}
+
+#[test]
+fn a_read_that_fails_ends_the_connection(rt: HostRuntime) {
+    let alloc = rt.alloc();
+    assert!(rt; late_read_breaks_off(&rt, alloc));
+    assert!(rt; second_read_breaks_off(&rt, alloc));
 }

@@ -13,7 +13,7 @@ use plain_tree::PlainTree;
 use rpc_desk::Desk;
 use schema_core::Schema;
 use schema_text::read_schema;
-use session_core::{How, serve_alone};
+use session_core::{How, SessionEnd, serve_alone};
 use std::alloc::Global;
 use std::process::Abort;
 use time_traits::StepClock;
@@ -24,7 +24,7 @@ const LIMITS: Limits = Limits {
 };
 
 /// What a connection came to: how it ended, what was written, and how many entries its book has.
-#[derive(Debug, Drop)]
+#[derive(Drop)]
 pub(crate) struct Outcome {
     pub(crate) how: How,
     pub(crate) written: Bytes,
@@ -63,7 +63,7 @@ fn clock(rt: &impl Abort, alloc: Global) -> StepClock {
 }
 
 /// The calls of an object that fail: none, or the one with this number.
-pub(crate) fn fails(rt: &impl Abort, alloc: Global, number: &str) -> Texts {
+fn fails(rt: &impl Abort, alloc: Global, number: &str) -> Texts {
     let mut fails = Texts::empty(alloc);
     if !number.is_empty() {
         let text = Text::of(alloc, number.as_bytes()).expect(rt, "memory");
@@ -72,41 +72,56 @@ pub(crate) fn fails(rt: &impl Abort, alloc: Global, number: &str) -> Texts {
     fails
 }
 
-/// Serves a connection over a source that fails in the reads, and a sink that fails in the writes, with the listed numbers. The
-/// octets come in pieces of this size, at least 1. The clock always reads 1000.
+/// A source of these octets in pieces of this size, at least 1, that fails in the read with this number.
+fn pieces(rt: &impl Abort, alloc: Global, octets: &[u8], size: usize, read: &str) -> Pieces {
+    let octets = Bytes::of(alloc, octets).expect(rt, "memory");
+    Pieces {
+        source: MemSource::make(octets, fails(rt, alloc, read)),
+        size: size.max(1),
+    }
+}
+
+/// What is looked at of what a session handed back.
+fn outcome_of(
+    rt: &impl Abort,
+    alloc: Global,
+    end: SessionEnd<Pieces, MemSink, Single<MemDisk, PlainTree>, StepClock>,
+) -> Outcome {
+    let SessionEnd {
+        how,
+        input: _,
+        output,
+        book,
+        clock: _,
+    } = end;
+    Outcome {
+        how,
+        written: Bytes::of(alloc, output.octets()).expect(rt, "memory"),
+        entries: book.give().count(),
+    }
+}
+
+/// Serves a connection over a source that fails in the read, and a sink that fails in the write, with this number; none where it
+/// is empty. The octets come in pieces of this size, at least 1. The clock always reads 1000.
 pub(crate) fn served_with(
     rt: &impl Abort,
     alloc: Global,
     octets: &[u8],
     size: usize,
-    reads: Texts,
-    writes: Texts,
+    read: &str,
+    write: &str,
 ) -> Outcome {
-    let octets = Bytes::of(alloc, octets).expect(rt, "memory");
-    let input = Pieces {
-        source: MemSource::make(octets, reads),
-        size: size.max(1),
-    };
-    let output = MemSink::make(alloc, writes);
+    let clock = clock(rt, alloc);
+    let input = pieces(rt, alloc, octets, size, read);
+    let output = MemSink::make(alloc, fails(rt, alloc, write));
     let schema = schema(rt, alloc);
     let desk = Desk::make(schema.copy(alloc).expect(rt, "memory"));
     let port = Single::make(book(rt, alloc, schema), 1);
-    let end = serve_alone(alloc, input, output, port, &desk, clock(rt, alloc));
-    Outcome {
-        how: end.how,
-        written: Bytes::of(alloc, end.output.octets()).expect(rt, "memory"),
-        entries: end.book.give().count(),
-    }
+    let end = serve_alone(alloc, input, output, port, &desk, clock);
+    outcome_of(rt, alloc, end)
 }
 
 /// Serves a connection over objects that don't fail.
 pub(crate) fn served(rt: &impl Abort, alloc: Global, octets: &[u8], size: usize) -> Outcome {
-    served_with(
-        rt,
-        alloc,
-        octets,
-        size,
-        Texts::empty(alloc),
-        Texts::empty(alloc),
-    )
+    served_with(rt, alloc, octets, size, "", "")
 }

@@ -1,14 +1,13 @@
 //! Subscribe calls of the modes STREAM and POLL over a connection.
 use crate::captures::GRPCIO_SUBSCRIBE;
-use crate::frames::{behind, came_to};
-use crate::served::served;
+use crate::frames::{behind, behind_frames, comes_to, put_frames, written_behind};
+use crate::served::{Outcome, served};
 use crate::subscribe::{
-    ANSWER, BAD_MESSAGE, BAD_SUBSCRIBE, COMPRESSED, DONE, HEAD, NO_ROWS, SYNC, TOO_LARGE, put_data,
+    ANSWER, BAD_MESSAGE, BAD_SUBSCRIBE, COMPRESSED, DONE, HEAD, NO_ROWS, SYNC, TOO_LARGE, data_head,
 };
 use session_core::How;
 use std::alloc::Global;
 use std::process::Abort;
-use std::test::Fail;
 
 /// SETTINGS with an initial window of 0, and the ACK of it.
 const NARROW: &[u8] = b"\0\0\x06\x04\0\0\0\0\0\0\x04\0\0\0\0";
@@ -422,29 +421,13 @@ const POLLS: &[Row] = &[
     ),
 ];
 
-/// Whether these frames come to those.
-fn come_to(
-    rt: &impl Abort,
-    alloc: Global,
-    sent: &[&[u8]],
-    written: &[&[u8]],
-) -> Result<bool, Fail> {
-    let mut octets = Vec::new(alloc);
-    put_frames(&mut octets, sent)?;
-    let mut answer = Vec::new(alloc);
-    put_frames(&mut answer, written)?;
-    let end = behind(rt, alloc, octets.as_slice());
-    Ok(came_to(&end, How::Closed, answer.as_slice()))
-}
-
 #[test]
-fn streams_say_what_changes(rt: HostRuntime) -> Result<(), Fail> {
+fn streams_say_what_changes(rt: HostRuntime) {
     let alloc = rt.alloc();
     for (number, (sent, written)) in STREAMS.iter().enumerate() {
-        let came = come_to(&rt, alloc, sent, written)?;
+        let came = comes_to(&rt, alloc, sent, How::Closed, written);
         assert!(rt; came, "row {number}");
     }
-    Ok(())
 }
 
 /// Frames, one frame of so many Polls and frames behind it, or what is written before and behind so many answers.
@@ -491,50 +474,54 @@ const MANY: &[(Many, Many)] = &[
     ),
 ];
 
-fn put_frames(octets: &mut Vec<u8>, frames: &[&[u8]]) -> Result<(), Fail> {
-    for frame in frames {
-        octets.extend_from_slice(frame)?;
-    }
-    Ok(())
-}
+/// The message of a Poll.
+const POLL_MESSAGE: &[u8] = b"\0\0\0\0\x02\x1a\0";
 
 /// Puts frames, one frame of Polls, and frames.
-fn put_polls(alloc: Global, octets: &mut Vec<u8>, many: &Many) -> Result<(), Fail> {
-    let (before, count, after) = many;
-    put_frames(octets, before)?;
-    let mut polls = Vec::new(alloc);
-    for _ in 0..*count {
-        polls.extend_from_slice(b"\0\0\0\0\x02\x1a\0")?;
+fn put_polls(rt: &impl Abort, octets: &mut Vec<u8>, many: &Many) {
+    let (before, count, after) = *many;
+    let head = data_head(0, count.saturating_mul(POLL_MESSAGE.len()));
+    put_frames(rt, octets, before);
+    put_frames(rt, octets, &[head.as_slice()]);
+    for _ in 0..count {
+        put_frames(rt, octets, &[POLL_MESSAGE]);
     }
-    put_data(octets, 0, polls.as_slice())?;
-    put_frames(octets, after)
+    put_frames(rt, octets, after);
 }
 
-/// Puts frames, the answers to Polls, and frames.
-fn put_answers(octets: &mut Vec<u8>, many: &Many) -> Result<(), Fail> {
-    let (before, count, after) = many;
-    put_frames(octets, before)?;
-    for _ in 0..*count {
-        put_frames(octets, &[NO_ROWS, SYNC])?;
+/// What was written behind frames, the answers to Polls, and frames, where it begins with those.
+fn behind_answers<'a>(served: &'a Outcome, many: &Many) -> Option<&'a [u8]> {
+    let (before, count, after) = *many;
+    let written = written_behind(served, How::Closed)?;
+    let mut left = behind_frames(written, before)?;
+    for _ in 0..count {
+        left = behind_frames(left, &[NO_ROWS, SYNC])?;
     }
-    put_frames(octets, after)
+    behind_frames(left, after)
+}
+
+/// Whether just frames, the answers to Polls, and frames were written.
+fn came_to_answers(served: &Outcome, many: &Many) -> bool {
+    match behind_answers(served, many) {
+        Some(left) => left.is_empty(),
+        None => false,
+    }
+}
+
+/// Whether so many Polls come to so many answers.
+fn polls_come_to(rt: &impl Abort, alloc: Global, sent: &Many, written: &Many) -> bool {
+    let mut octets = Vec::new(alloc);
+    put_polls(rt, &mut octets, sent);
+    let end = behind(rt, alloc, &[octets.as_slice()]);
+    came_to_answers(&end, written)
 }
 
 #[test]
-fn sixteen_polls_wait_at_most(rt: HostRuntime) -> Result<(), Fail> {
+fn sixteen_polls_wait_at_most(rt: HostRuntime) {
     let alloc = rt.alloc();
     for (number, (sent, written)) in MANY.iter().enumerate() {
-        let mut octets = Vec::new(alloc);
-        put_polls(alloc, &mut octets, sent)?;
-        let mut answer = Vec::new(alloc);
-        put_answers(&mut answer, written)?;
-        let end = behind(&rt, alloc, octets.as_slice());
-        assert!(rt;
-            came_to(&end, How::Closed, answer.as_slice()),
-            "row {number}"
-        );
+        assert!(rt; polls_come_to(&rt, alloc, sent, written), "row {number}");
     }
-    Ok(())
 }
 
 /// What is written for a call of grpcio: the greeting, the ACK of its SETTINGS, the updates of both windows, the headers, the
@@ -548,26 +535,32 @@ const GRPCIO_ANSWER: &[u8] = b"\0\0\x0c\x04\0\0\0\0\0\0\x03\0\0\0\x20\0\x06\0\0\
     \0\0\x07\0\0\0\0\0\x01\0\0\0\0\x02\x18\x01\
     \0\0\x08\x06\x01\0\0\0\0\0\0\0\0\0\0\0\0";
 
-#[test]
-fn a_real_client_is_answered_however_its_octets_are_cut(rt: HostRuntime) -> Result<(), Fail> {
-    let alloc = rt.alloc();
-    assert_eq!(rt; GRPCIO_SUBSCRIBE.len(), 406usize);
-    for size in [1, 9, 100, 406] {
-        let end = served(&rt, alloc, GRPCIO_SUBSCRIBE, size);
-        assert!(rt;
-            end.came_to(How::Closed, GRPCIO_ANSWER),
-            "in pieces of {size}"
-        );
-    }
-    Ok(())
+/// The sizes of the pieces in which the call comes.
+const SIZES: &[usize] = &[1, 9, 100, 406];
+
+/// Whether the call in pieces of this size is answered so.
+fn grpcio_is_answered(rt: &impl Abort, alloc: Global, size: usize) -> bool {
+    let end = served(rt, alloc, GRPCIO_SUBSCRIBE, size);
+    end.came_to(How::Closed, GRPCIO_ANSWER)
 }
 
 #[test]
-fn polls_are_answered(rt: HostRuntime) -> Result<(), Fail> {
+fn a_real_client_is_answered_however_its_octets_are_cut(rt: HostRuntime) {
+    let alloc = rt.alloc();
+    assert!(rt; GRPCIO_SUBSCRIBE.len() == 406);
+    for size in SIZES {
+        assert!(rt;
+            grpcio_is_answered(&rt, alloc, *size),
+            "in pieces of {size}"
+        );
+    }
+}
+
+#[test]
+fn polls_are_answered(rt: HostRuntime) {
     let alloc = rt.alloc();
     for (number, (sent, written)) in POLLS.iter().enumerate() {
-        let came = come_to(&rt, alloc, sent, written)?;
+        let came = comes_to(&rt, alloc, sent, How::Closed, written);
         assert!(rt; came, "row {number}");
     }
-    Ok(())
 }

@@ -1,9 +1,9 @@
 //! Subscribe calls over a connection.
-use crate::frames::{behind, came_to};
+use crate::frames::{are_frames, behind, comes_to, written_behind};
+use crate::served::Outcome;
 use session_core::How;
 use std::alloc::Global;
 use std::process::Abort;
-use std::test::Fail;
 
 /// The headers of a Subscribe call on stream 1.
 pub(crate) const HEAD: &[u8] =
@@ -113,44 +113,50 @@ const ROWS: &[Row] = &[
     ),
 ];
 
-/// A DATA frame on stream 1 with these octets, fewer than 256.
-pub(crate) fn put_data(octets: &mut Vec<u8>, flags: u8, data: &[u8]) -> Result<(), Fail> {
-    octets.extend_from_slice(b"\0\0")?;
-    octets.push((data.len() % 256) as u8)?;
-    octets.push(0)?;
-    octets.push(flags)?;
-    octets.extend_from_slice(b"\0\0\0\x01")?;
-    octets.extend_from_slice(data)?;
-    Ok(())
+/// The head of a DATA frame on stream 1 with so many octets, fewer than 256.
+pub(crate) fn data_head(flags: u8, length: usize) -> [u8; 9] {
+    [0, 0, (length % 256) as u8, 0, flags, 0, 0, 0, 1]
 }
 
-/// What is written where a DATA frame of so many octets ends the stream.
-fn put_answer(octets: &mut Vec<u8>, length: usize, answer: &[&[u8]]) -> Result<(), Fail> {
+/// The update of the connection's window for so many octets, fewer than 256.
+fn window_update(length: usize) -> [u8; 13] {
+    [0, 0, 4, 8, 0, 0, 0, 0, 0, 0, 0, 0, (length % 256) as u8]
+}
+
+/// What was written where a DATA frame of so many octets ended the stream, behind the update of the connection's window.
+fn answer_to(served: &Outcome, length: usize) -> Option<&[u8]> {
+    let written = written_behind(served, How::Closed)?;
     if length > 0 {
-        octets.extend_from_slice(b"\0\0\x04\x08\0\0\0\0\0\0\0\0")?;
-        octets.push((length % 256) as u8)?;
+        let update = window_update(length);
+        written.strip_prefix(update.as_slice())
+    } else {
+        Some(written)
     }
-    for frame in answer {
-        octets.extend_from_slice(frame)?;
+}
+
+/// Whether the DATA frame of a row was answered so.
+fn was_answered(served: &Outcome, row: &Row) -> bool {
+    let (data, answer) = *row;
+    match answer_to(served, data.len()) {
+        Some(written) => are_frames(written, answer),
+        None => false,
     }
-    Ok(())
+}
+
+/// Whether the DATA frame of a row is answered so.
+fn is_answered(rt: &impl Abort, alloc: Global, row: &Row) -> bool {
+    let data = row.0;
+    let head = data_head(1, data.len());
+    let end = behind(rt, alloc, &[HEAD, head.as_slice(), data]);
+    was_answered(&end, row)
 }
 
 #[test]
-fn the_first_message_decides(rt: HostRuntime) -> Result<(), Fail> {
+fn the_first_message_decides(rt: HostRuntime) {
     let alloc = rt.alloc();
-    for (number, (data, answer)) in ROWS.iter().enumerate() {
-        let mut sent = HEAD.to_vec(alloc)?;
-        put_data(&mut sent, 1, data)?;
-        let mut written = Vec::new(alloc);
-        put_answer(&mut written, data.len(), answer)?;
-        let end = behind(&rt, alloc, sent.as_slice());
-        assert!(rt;
-            came_to(&end, How::Closed, written.as_slice()),
-            "row {number}"
-        );
+    for (number, row) in ROWS.iter().enumerate() {
+        assert!(rt; is_answered(&rt, alloc, row), "row {number}");
     }
-    Ok(())
 }
 
 /// An initial window of 0, a ONCE call of the root, and WINDOW_UPDATE of 4, 3, 6 and 1 on its stream.
@@ -173,14 +179,14 @@ const NARROWED: &[u8] = b"\0\0\0\x04\x01\0\0\0\0\
     \0\0\x0f\x01\x05\0\0\0\x01\0\x0bgrpc-status\x010";
 
 #[test]
-fn a_sync_and_the_end_wait_behind_the_notification(rt: HostRuntime) -> Result<(), Fail> {
+fn a_sync_and_the_end_wait_behind_the_notification(rt: HostRuntime) {
     let alloc = rt.alloc();
-    let end = behind(&rt, alloc, NARROW);
-    assert!(rt; came_to(&end, How::Closed, NARROWED));
+    assert!(rt; comes_to(&rt, alloc, &[NARROW], How::Closed, &[NARROWED]));
     // Without the last update an octet of the sync waits, and the end behind it; without the last two the whole sync.
-    let end = behind(&rt, alloc, &NARROW[..NARROW.len() - 13]);
-    assert!(rt; came_to(&end, How::Closed, &NARROWED[..NARROWED.len() - 34]));
-    let end = behind(&rt, alloc, &NARROW[..NARROW.len() - 26]);
-    assert!(rt; came_to(&end, How::Closed, &NARROWED[..NARROWED.len() - 49]));
-    Ok(())
+    let sent = &NARROW[..NARROW.len() - 13];
+    let written = &NARROWED[..NARROWED.len() - 34];
+    assert!(rt; comes_to(&rt, alloc, &[sent], How::Closed, &[written]));
+    let sent = &NARROW[..NARROW.len() - 26];
+    let written = &NARROWED[..NARROWED.len() - 49];
+    assert!(rt; comes_to(&rt, alloc, &[sent], How::Closed, &[written]));
 }

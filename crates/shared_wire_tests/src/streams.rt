@@ -7,7 +7,6 @@ use h2_send::{WireFaultOut, WirePort};
 use std::alloc::Global;
 use std::process::Abort;
 use std::sync::Wait;
-use std::test::Fail;
 use std::thread;
 use std::thread::{Threads, join};
 
@@ -124,14 +123,25 @@ fn said_by_two<R: Threads + Wait + Clone + Drop + Send + Sync>(
     Some((first, second, reader.finish().give()))
 }
 
+/// Whether all messages were taken on both streams, and the sink holds just those, in order.
+fn is_all_said(alloc: Global, said: &(u8, u8, MemSink)) -> bool {
+    let (first, second, sink) = said;
+    (*first, *second) == (MESSAGES, MESSAGES)
+        && has_messages(alloc, sink, 1, MESSAGES)
+        && has_messages(alloc, sink, 3, MESSAGES)
+}
+
+/// Whether two threads say all so.
+fn two_say_all<R: Threads + Wait + Clone + Drop + Send + Sync>(rt: &R, alloc: Global) -> bool {
+    match said_by_two(rt, alloc) {
+        Some(said) => is_all_said(alloc, &said),
+        None => false,
+    }
+}
+
 #[test]
-fn two_threads_say_all_on_two_streams_in_order(rt: HostRuntime) -> Result<(), Fail> {
-    let alloc = rt.alloc();
-    let (first, second, sink) = said_by_two(&rt, alloc).ok_or("no wire")?;
-    assert!(rt; (first, second) == (MESSAGES, MESSAGES));
-    assert!(rt; has_messages(alloc, &sink, 1, MESSAGES));
-    assert!(rt; has_messages(alloc, &sink, 3, MESSAGES));
-    Ok(())
+fn two_threads_say_all_on_two_streams_in_order(rt: HostRuntime) {
+    assert!(rt; two_say_all(&rt, rt.alloc()));
 }
 
 /// What two ports find of a wire whose fourth write fails, which is that of the first message: what became of its offer by one, how
@@ -139,7 +149,18 @@ fn two_threads_say_all_on_two_streams_in_order(rt: HostRuntime) -> Result<(), Fa
 fn closed_by_one<R: Wait + Clone + Drop>(rt: &R, alloc: Global) -> Option<(Took, Ready, bool)> {
     let mut one = first_visit(rt, alloc, "4")?;
     let _opened = open_streams(alloc, &mut one, 100);
-    let mut other = another(&mut one)?;
+    match another(&mut one) {
+        Some(mut other) => found_by_both(alloc, &mut one, &mut other),
+        None => None,
+    }
+}
+
+/// What these two ports find of it.
+fn found_by_both<R: Wait + Clone + Drop>(
+    alloc: Global,
+    one: &mut TestVisit<R>,
+    other: &mut TestVisit<R>,
+) -> Option<(Took, Ready, bool)> {
     let took = one.offer(alloc, 1, piece(alloc, 1, 0)?);
     let ready = other.ready(3);
     let acted = other.act(alloc, &RecvEvent::Ping(7)).is_ok();
@@ -147,26 +168,34 @@ fn closed_by_one<R: Wait + Clone + Drop>(rt: &R, alloc: Global) -> Option<(Took,
 }
 
 #[test]
-fn a_write_fault_closes_the_wire_for_all_ports(rt: HostRuntime) -> Result<(), Fail> {
-    let found = closed_by_one(&rt, rt.alloc()).ok_or("no wire")?;
-    assert!(rt; found == (Took::WriteFault, Ready::Gone, false));
-    Ok(())
+fn a_write_fault_closes_the_wire_for_all_ports(rt: HostRuntime) {
+    let found = closed_by_one(&rt, rt.alloc());
+    assert!(rt; found == Some((Took::WriteFault, Ready::Gone, false)));
 }
 
+/// What a port is told of a stream, of a piece there, and of a status.
+type Told = (
+    Result<Ready, WireFaultOut>,
+    Result<Took, WireFaultOut>,
+    Result<Took, WireFaultOut>,
+);
+
 /// What the second port is told then of the other stream, of a piece there, and of a status.
-fn fault_told<R: Wait + Clone + Drop>(
-    rt: &R,
-    alloc: Global,
-) -> Option<
-    (
-        Result<Ready, WireFaultOut>,
-        Result<Took, WireFaultOut>,
-        Result<Took, WireFaultOut>,
-    ),
-> {
+fn fault_told<R: Wait + Clone + Drop>(rt: &R, alloc: Global) -> Option<Told> {
     let mut one = first_visit(rt, alloc, "4")?;
     let _opened = open_streams(alloc, &mut one, 100);
-    let mut other = another(&mut one)?;
+    match another(&mut one) {
+        Some(mut other) => told_to_other(alloc, &mut one, &mut other),
+        None => None,
+    }
+}
+
+/// What the other one of these two ports is told, where the stream was free before the fault.
+fn told_to_other<R: Wait + Clone + Drop>(
+    alloc: Global,
+    one: &mut TestVisit<R>,
+    other: &mut TestVisit<R>,
+) -> Option<Told> {
     let before = other.readiness_or_fault(3);
     let _faulty = one.offer(alloc, 1, piece(alloc, 1, 0)?);
     let ready = other.readiness_or_fault(3);
@@ -179,25 +208,20 @@ fn fault_told<R: Wait + Clone + Drop>(
 }
 
 #[test]
-fn a_fault_that_closed_the_wire_is_told_to_all_ports(rt: HostRuntime) -> Result<(), Fail> {
-    let (ready, took, stated) = fault_told(&rt, rt.alloc()).ok_or("no wire")?;
-    assert!(rt; ready == Err(WireFaultOut::WriteFault));
-    assert!(rt; took == Err(WireFaultOut::WriteFault));
-    assert!(rt; stated == Err(WireFaultOut::WriteFault));
-    Ok(())
+fn a_fault_that_closed_the_wire_is_told_to_all_ports(rt: HostRuntime) {
+    let fault = WireFaultOut::WriteFault;
+    assert!(rt; fault_told(&rt, rt.alloc()) == Some((Err(fault), Err(fault), Err(fault))));
 }
 
+/// What is told of an event, how a stream stands behind it, and what the sink holds.
+type Closed = (
+    Result<(), WireFaultOut>,
+    Result<Ready, WireFaultOut>,
+    MemSink,
+);
+
 /// What is told of an event that takes the connection's window too far, how a stream stands then, and what the sink holds.
-fn closed_by_event<R: Wait + Clone + Drop>(
-    rt: &R,
-    alloc: Global,
-) -> Option<
-    (
-        Result<(), WireFaultOut>,
-        Result<Ready, WireFaultOut>,
-        MemSink,
-    ),
-> {
+fn closed_by_event<R: Wait + Clone + Drop>(rt: &R, alloc: Global) -> Option<Closed> {
     let mut visit = first_visit(rt, alloc, "0")?;
     let _opened = open_streams(alloc, &mut visit, 100);
     let answer = visit.act_or_close(alloc, &RecvEvent::Window(0, 2_147_483_647));
@@ -205,14 +229,26 @@ fn closed_by_event<R: Wait + Clone + Drop>(
     Some((answer, ready, visit.finish().give()))
 }
 
-#[test]
-fn a_window_that_would_be_too_large_ends_the_connection(rt: HostRuntime) -> Result<(), Fail> {
-    let (answer, ready, sink) = closed_by_event(&rt, rt.alloc()).ok_or("no wire")?;
-    assert!(rt; answer == Err(WireFaultOut::Overflow));
-    assert!(rt; ready == Ok(Ready::Gone));
+/// Whether the event was too large, and ended the connection.
+fn has_ended(closed: &Closed) -> bool {
+    let (answer, ready, sink) = closed;
     // A GOAWAY ends with its code, which is FLOW_CONTROL_ERROR (RFC 9113 section 7).
-    assert!(rt; sink.octets().last().copied() == Some(3));
-    Ok(())
+    *answer == Err(WireFaultOut::Overflow)
+        && *ready == Ok(Ready::Gone)
+        && sink.octets().last().copied() == Some(3)
+}
+
+/// Whether such an event does so.
+fn event_ends<R: Wait + Clone + Drop>(rt: &R, alloc: Global) -> bool {
+    match closed_by_event(rt, alloc) {
+        Some(closed) => has_ended(&closed),
+        None => false,
+    }
+}
+
+#[test]
+fn a_window_that_would_be_too_large_ends_the_connection(rt: HostRuntime) {
+    assert!(rt; event_ends(&rt, rt.alloc()));
 }
 
 /// What becomes of a status on a stream that octets wait on, on one that is free, on the same one again, and on one that was
@@ -220,6 +256,14 @@ fn a_window_that_would_be_too_large_ends_the_connection(rt: HostRuntime) -> Resu
 fn statuses<R: Wait + Clone + Drop>(rt: &R, alloc: Global) -> Option<[Took; 5]> {
     let mut visit = first_visit(rt, alloc, "0")?;
     let _opened = open_streams(alloc, &mut visit, 2);
+    statuses_through(alloc, &mut visit)
+}
+
+/// What becomes of them through this port.
+fn statuses_through<R: Wait + Clone + Drop>(
+    alloc: Global,
+    visit: &mut TestVisit<R>,
+) -> Option<[Took; 5]> {
     let _begun = visit.offer(alloc, 1, piece(alloc, 1, 0)?);
     let waits = visit.http(alloc, 1, 405);
     let free = visit.http(alloc, 3, 405);
@@ -230,8 +274,7 @@ fn statuses<R: Wait + Clone + Drop>(rt: &R, alloc: Global) -> Option<[Took; 5]> 
 }
 
 #[test]
-fn a_status_is_busy_or_gone_as_its_stream_is(rt: HostRuntime) -> Result<(), Fail> {
-    let found = statuses(&rt, rt.alloc()).ok_or("no wire")?;
-    assert!(rt; found == [Took::Busy, Took::Taken, Took::Gone, Took::Gone, Took::Gone]);
-    Ok(())
+fn a_status_is_busy_or_gone_as_its_stream_is(rt: HostRuntime) {
+    let wanted = [Took::Busy, Took::Taken, Took::Gone, Took::Gone, Took::Gone];
+    assert!(rt; statuses(&rt, rt.alloc()) == Some(wanted));
 }

@@ -17,8 +17,9 @@ pub(crate) type TestVisit<R> = WireVisit<MemSink, R>;
 fn open_wire(alloc: Global, fails: &str) -> Option<Wire<MemSink>>
     ensures { IfSome result (λ wire. wire.condition ≡ Condition.Open) }
 {
+    let call = Text::of(alloc, fails.as_bytes()).ok()?;
     let mut calls = Texts::empty(alloc);
-    calls.push(Text::of(alloc, fails.as_bytes()).ok()?).ok()?;
+    calls.push(call).ok()?;
     let mut wire = Wire::make(alloc, MemSink::make(alloc, calls));
     match wire.greet() {
         Ok(()) => Some(wire),
@@ -32,8 +33,8 @@ pub(crate) fn first_visit<R: Wait + Clone + Drop>(
     alloc: Global,
     fails: &str,
 ) -> Option<TestVisit<R>> {
-    let wire = open_wire(alloc, fails)?;
     let rt = rt.clone().ok()?;
+    let wire = open_wire(alloc, fails)?;
     WireVisit::make(rt, alloc, wire).ok()
 }
 
@@ -94,7 +95,12 @@ fn data_on(alloc: Global, octets: &[u8], stream: u8) -> Bytes {
 /// before it, in their order.
 pub(crate) fn has_messages(alloc: Global, sink: &MemSink, stream: u8, count: u8) -> bool {
     let data = data_on(alloc, sink.octets(), stream);
-    let mut left = data.items();
+    are_messages(data.items(), stream, count)
+}
+
+/// Whether these octets are just such messages.
+fn are_messages(octets: &[u8], stream: u8, count: u8) -> bool {
+    let mut left = octets;
     for number in 0..count {
         let [one, two, three] = message(stream, number);
         let Some(rest) = left.strip_prefix(&[0, 0, 0, 0, 3, one, two, three]) else {

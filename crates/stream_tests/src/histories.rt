@@ -1,16 +1,14 @@
 // Streams over generated histories and plans, beside the slow body.
-use crate::builders::{Sub, ask_of_lines, line_of, row_of};
+use crate::builders::{Sub, accepted, ask_of_lines, line_of, push_line, push_row, row_of};
 use crate::reference::{
     ALL, CHANGES, PATHS, QUIET, Reference, SlowGroup, State, beat_at, beats, move_on,
 };
-use crate::streams::{put, put_number, text_of};
+use crate::streams::{assert_said, begun, put, put_number, said};
 use base_kinds::{Bytes, ListMode, Rows, SubLines, SubMode, View};
 use std::alloc::Global;
 use std::process::Abort;
-use std::test::Fail;
 use stream_core::Stream;
-use sub_plan::{Plan, plan_of};
-use tree_check::are_rising;
+use sub_plan::Plan;
 
 /// Numbers that look drawn by chance, and are the same in each run (Knuth's constants for MMIX).
 #[derive(Clone, Copy)]
@@ -135,6 +133,17 @@ fn add(reference: &mut Reference, place: usize, drawn: DrawnLine) {
     }
 }
 
+/// Three lines that are drawn, which the slow body has then too.
+fn lines(rt: &impl Abort, alloc: Global, draws: &mut Draws, reference: &mut Reference) -> SubLines {
+    let mut lines = SubLines::empty(alloc);
+    for place in 0..3usize {
+        let drawn = drawn(draws);
+        add(reference, place, drawn);
+        push_line(rt, line_of(rt, alloc, sub_of(drawn)), &mut lines);
+    }
+    lines
+}
+
 /// A plan of three lines, and the slow body of a stream of it.
 fn plan(rt: &impl Abort, alloc: Global, draws: &mut Draws, only: bool) -> (Plan, Reference) {
     let mut reference = Reference {
@@ -143,17 +152,10 @@ fn plan(rt: &impl Abort, alloc: Global, draws: &mut Draws, only: bool) -> (Plan,
         sent: [0; 8],
         time: 0,
     };
-    let mut lines = SubLines::empty(alloc);
-    for place in 0..3usize {
-        let drawn = drawn(draws);
-        add(&mut reference, place, drawn);
-        lines
-            .push(line_of(rt, alloc, sub_of(drawn)))
-            .expect(rt, "memory");
-    }
+    let lines = lines(rt, alloc, draws, &mut reference);
     let mut ask = ask_of_lines(rt, alloc, "/", ListMode::Stream, lines);
     ask.updates_only = only;
-    (plan_of(alloc, &ask).expect(rt, "a plan"), reference)
+    (accepted(rt, alloc, &ask), reference)
 }
 
 fn change(draws: &mut Draws, state: &mut State) {
@@ -169,8 +171,7 @@ fn view(rt: &impl Abort, alloc: Global, reference: &Reference, stamp: u64, state
     let mut rows = Rows::empty(alloc);
     for path in 0..8usize {
         if reference.owners[path] != 255 && state[path] != 0 {
-            rows.push(row_of(rt, alloc, PATHS[path], state[path]))
-                .expect(rt, "memory");
+            push_row(rt, row_of(rt, alloc, PATHS[path], state[path]), &mut rows);
         }
     }
     View { stamp, rows }
@@ -218,6 +219,24 @@ fn put_updates(
     }
 }
 
+fn put_turn(
+    rt: &impl Abort,
+    alloc: Global,
+    reference: &Reference,
+    beats: &[u8; 4],
+    stamp: u64,
+    now: &State,
+    out: &mut Bytes,
+) {
+    if *beats == [QUIET; 4] {
+        put(rt, b"quiet", out);
+    } else {
+        put_number(rt, alloc, stamp, out);
+        put_deletes(rt, reference, beats, now, out);
+        put_updates(rt, alloc, reference, beats, now, out);
+    }
+}
+
 fn wanted(
     rt: &impl Abort,
     alloc: Global,
@@ -227,13 +246,7 @@ fn wanted(
     now: &State,
 ) -> Bytes {
     let mut out = Bytes::empty(alloc);
-    if beats.iter().all(|beat| *beat == QUIET) {
-        put(rt, b"quiet", &mut out);
-        return out;
-    }
-    put_number(rt, alloc, stamp, &mut out);
-    put_deletes(rt, reference, beats, now, &mut out);
-    put_updates(rt, alloc, reference, beats, now, &mut out);
+    put_turn(rt, alloc, reference, beats, stamp, now, &mut out);
     out
 }
 
@@ -267,30 +280,36 @@ fn turn(
     stamp: u64,
     state: &State,
 ) {
-    let view = view(rt, alloc, reference, stamp, state);
-    let is_rising = are_rising(view.rows.items());
-    assert!(rt; is_rising);
-    let note = stream.turn(alloc, now, view).expect(rt, "memory");
+    let note = said(
+        rt,
+        alloc,
+        stream,
+        now,
+        view(rt, alloc, reference, stamp, state),
+    );
     let time = now.max(reference.time);
     let shown = shown(reference, state);
     let beats = beats(reference, time, &shown);
     let text = wanted(rt, alloc, reference, &beats, stamp, &shown);
-    assert_eq!(rt; text_of(rt, alloc, &note).items(), text.items());
+    assert_said(rt, alloc, &note, text.items(), "a turn");
     move_on(reference, time, &beats, &shown);
 }
 
-fn first_text(rt: &impl Abort, alloc: Global, reference: &Reference, only: bool) -> Bytes {
-    if only {
-        let mut out = Bytes::empty(alloc);
-        put(rt, b"quiet", &mut out);
-        return out;
-    }
-    let mut out = Bytes::empty(alloc);
-    put_number(rt, alloc, 0, &mut out);
+fn put_state(rt: &impl Abort, alloc: Global, reference: &Reference, out: &mut Bytes) {
+    put_number(rt, alloc, 0, out);
     for path in 0..8usize {
         if reference.sent[path] != 0 {
-            put_row(rt, alloc, path, reference.sent[path], &mut out);
+            put_row(rt, alloc, path, reference.sent[path], out);
         }
+    }
+}
+
+fn first_text(rt: &impl Abort, alloc: Global, reference: &Reference, only: bool) -> Bytes {
+    let mut out = Bytes::empty(alloc);
+    if only {
+        put(rt, b"quiet", &mut out);
+    } else {
+        put_state(rt, alloc, reference, &mut out);
     }
     out
 }
@@ -299,20 +318,36 @@ fn step(draws: &mut Draws) -> u64 {
     period(draw(draws, 3)) / 2
 }
 
-/// One history of twelve turns.
-fn history(rt: &impl Abort, alloc: Global, draws: &mut Draws) {
-    let only = draw(draws, 4) == 0;
-    let (plan, mut reference) = plan(rt, alloc, draws, only);
-    let mut state = [0u64; 8];
-    change(draws, &mut state);
-    let mut now = 1_000u64;
-    start(&mut reference, now, &state);
-    let view = view(rt, alloc, &reference, 0, &state);
-    let is_rising = are_rising(view.rows.items());
-    assert!(rt; is_rising);
-    let (mut stream, note) = Stream::start(alloc, plan, now, view).expect(rt, "memory");
-    let text = first_text(rt, alloc, &reference, only);
-    assert_eq!(rt; text_of(rt, alloc, &note).items(), text.items());
+/// The reading at the beginning.
+const BEGINNING: u64 = 1_000;
+
+/// A stream of the plan, which says first what the slow body does.
+fn begin(
+    rt: &impl Abort,
+    alloc: Global,
+    plan: Plan,
+    reference: &Reference,
+    state: &State,
+    only: bool,
+) -> Stream {
+    let view = view(rt, alloc, reference, 0, state);
+    let (stream, note) = begun(rt, alloc, plan, BEGINNING, view);
+    let text = first_text(rt, alloc, reference, only);
+    assert_said(rt, alloc, &note, text.items(), "the beginning");
+    stream
+}
+
+/// Twelve turns of both behind this state.
+fn go_on(
+    rt: &impl Abort,
+    alloc: Global,
+    draws: &mut Draws,
+    stream: &mut Stream,
+    reference: &mut Reference,
+    state: State,
+) {
+    let mut state = state;
+    let mut now = BEGINNING;
     for stamp in 1..13u64 {
         if draw(draws, 3) != 0 {
             change(draws, &mut state);
@@ -322,8 +357,19 @@ fn history(rt: &impl Abort, alloc: Global, draws: &mut Draws) {
         } else {
             now.saturating_add(step(draws))
         };
-        turn(rt, alloc, &mut stream, &mut reference, now, stamp, &state);
+        turn(rt, alloc, stream, reference, now, stamp, &state);
     }
+}
+
+/// One history of twelve turns.
+fn history(rt: &impl Abort, alloc: Global, draws: &mut Draws) {
+    let only = draw(draws, 4) == 0;
+    let (plan, mut reference) = plan(rt, alloc, draws, only);
+    let mut state = [0u64; 8];
+    change(draws, &mut state);
+    start(&mut reference, BEGINNING, &state);
+    let mut stream = begin(rt, alloc, plan, &reference, &state, only);
+    go_on(rt, alloc, draws, &mut stream, &mut reference, state);
 }
 
 #[test]

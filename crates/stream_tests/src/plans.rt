@@ -1,11 +1,10 @@
 // Plans: which lists are refused, and the groups of those that aren't.
-use crate::builders::{Sub, ask_of};
-use base_kinds::{ListMode, Refusal, SubMode, Text};
-use gnmi_kinds::Encoding;
+use crate::builders::{Sub, accepted, ask_of, plain_text};
+use base_kinds::{ListMode, Refusal, SubMode};
+use gnmi_kinds::{Encoding, SubAsk};
 use std::alloc::Global;
 use std::process::Abort;
-use std::test::Fail;
-use sub_plan::{Group, GroupSort, patterns, plan_of};
+use sub_plan::{Group, GroupSort, Plan, patterns, plan_of};
 
 const CHANGE: SubMode = SubMode::Change;
 
@@ -63,6 +62,14 @@ const REFUSED: &[(&str, ListMode, &[Sub], Refusal)] = &[
     ),
 ];
 
+/// How many groups the plan of a list has.
+fn group_count(alloc: Global, ask: &SubAsk) -> Result<usize, Refusal> {
+    match plan_of(alloc, ask) {
+        Ok(plan) => Ok(plan.groups.len()),
+        Err(refusal) => Err(refusal),
+    }
+}
+
 fn answer(
     rt: &impl Abort,
     alloc: Global,
@@ -70,14 +77,15 @@ fn answer(
     subs: &'static [Sub],
 ) -> Result<usize, Refusal> {
     let ask = ask_of(rt, alloc, "/1", mode, subs);
-    Ok(plan_of(alloc, &ask)?.groups.len())
+    group_count(alloc, &ask)
 }
 
 #[test]
 fn lists_that_are_none_are_refused(rt: HostRuntime) {
     let alloc = rt.alloc();
-    for (what, mode, subs, refusal) in REFUSED.iter().copied() {
-        assert_eq!(rt; answer(&rt, alloc, mode, subs), Err(refusal), "{what}");
+    for (what, mode, subs, refusal) in REFUSED {
+        let found = answer(&rt, alloc, *mode, *subs);
+        assert_eq!(rt; found, Err(*refusal), "{what}");
     }
 }
 
@@ -89,40 +97,68 @@ const FOUR: &[Sub] = &[
     ("/c", SAMPLE, 1_000_000_000, 0, false),
 ];
 
+/// The group of the lines that send changes.
+const CHANGES: Group = Group {
+    sort: GroupSort::Change,
+    interval: 0,
+    suppress: false,
+    heartbeat: 200_000_000,
+};
+
+/// That of the first line that is sampled.
+const SAMPLES: Group = Group {
+    sort: GroupSort::Sample,
+    interval: 100_000_000,
+    suppress: true,
+    heartbeat: 0,
+};
+
+/// How many patterns a plan has.
+fn pattern_count(rt: &impl Abort, alloc: Global, plan: &Plan) -> usize {
+    patterns(alloc, plan).expect(rt, "memory").len()
+}
+
+/// Whether a plan has three groups, those of changes and of samples first, and four lines and patterns.
+fn has_groups(rt: &impl Abort, alloc: Global, plan: &Plan) -> bool {
+    plan.groups.len() == 3
+        && plan.groups.get(0).copied() == Some(CHANGES)
+        && plan.groups.get(1).copied() == Some(SAMPLES)
+        && plan.lines.len() == 4
+        && pattern_count(rt, alloc, plan) == 4
+}
+
+/// Whether the plan of the four lines has.
+fn is_grouped(rt: &impl Abort, alloc: Global) -> bool {
+    let ask = ask_of(rt, alloc, "/1", ListMode::Stream, FOUR);
+    let plan = accepted(rt, alloc, &ask);
+    has_groups(rt, alloc, &plan)
+}
+
 #[test]
 fn changes_are_one_group_and_each_sample_is_another(rt: HostRuntime) {
-    let alloc = rt.alloc();
-    let ask = ask_of(&rt, alloc, "/1", ListMode::Stream, FOUR);
-    let plan = plan_of(alloc, &ask).expect(&rt, "a plan");
-    let groups = plan.groups.items();
-    assert_eq!(rt; groups.len(), 3);
-    let changes = Group {
-        sort: GroupSort::Change,
-        interval: 0,
-        suppress: false,
-        heartbeat: 200_000_000,
-    };
-    let samples = Group {
-        sort: GroupSort::Sample,
-        interval: 100_000_000,
-        suppress: true,
-        heartbeat: 0,
-    };
-    assert_eq!(rt; plan.groups.get(0).copied(), Some(changes));
-    assert_eq!(rt; plan.groups.get(1).copied(), Some(samples));
-    assert_eq!(rt; plan.lines.len(), 4);
-    let found = patterns(alloc, &plan).expect(&rt, "memory");
-    assert_eq!(rt; found.len(), 4);
+    assert!(rt; is_grouped(&rt, rt.alloc()));
+}
+
+/// Whether a list of no mode, with this origin and this encoding, is refused so.
+fn is_refused(
+    rt: &impl Abort,
+    alloc: Global,
+    origin: &[u8],
+    encoding: Encoding,
+    refusal: Refusal,
+) -> bool {
+    let mut ask = ask_of(rt, alloc, "/", ListMode::Other, &[]);
+    ask.prefix.origin = plain_text(rt, alloc, origin);
+    ask.encoding = encoding;
+    group_count(alloc, &ask) == Err(refusal)
 }
 
 #[test]
 fn what_is_not_supported_is_refused_first(rt: HostRuntime) {
     let alloc = rt.alloc();
-    let mut ask = ask_of(&rt, alloc, "/", ListMode::Other, &[]);
-    ask.prefix.origin = Text::of(alloc, b"ietf").expect(&rt, "a text");
-    assert!(rt; plan_of(alloc, &ask) == Err(Refusal::Unsupported));
-    ask.prefix.origin = Text::of(alloc, b"").expect(&rt, "a text");
-    assert!(rt; plan_of(alloc, &ask) == Err(Refusal::BadSubscribe));
-    ask.encoding = Encoding::Other;
-    assert!(rt; plan_of(alloc, &ask) == Err(Refusal::Unsupported));
+    assert!(rt;
+        is_refused(&rt, alloc, b"ietf", Encoding::Proto, Refusal::Unsupported)
+            && is_refused(&rt, alloc, b"", Encoding::Proto, Refusal::BadSubscribe)
+            && is_refused(&rt, alloc, b"", Encoding::Other, Refusal::Unsupported)
+    );
 }

@@ -1,12 +1,11 @@
 // Streams: the notifications of turns that are worked out by hand.
-use crate::builders::{Sub, ask_of, rows_of};
+use crate::builders::{Sub, accepted, ask_of, rows_of};
 use base_kinds::{Bytes, ListMode, Note, SubMode, Value, View};
 use path_core::write_path_text;
 use std::alloc::Global;
 use std::process::Abort;
-use std::test::Fail;
 use stream_core::Stream;
-use sub_plan::{Plan, plan_of};
+use sub_plan::Plan;
 use tree_check::are_rising;
 
 /// A turn: the reading, the stamp of the state, its rows, and the notification that is wanted. Of that the deletes have a `-`
@@ -64,35 +63,58 @@ fn plan_in(
 ) -> Plan {
     let mut ask = ask_of(rt, alloc, "/", mode, subs);
     ask.updates_only = updates_only;
-    plan_of(alloc, &ask).expect(rt, "a plan")
+    accepted(rt, alloc, &ask)
 }
 
-fn start(rt: &impl Abort, alloc: Global, plan: Plan, step: Step) -> (Stream, Bytes) {
-    let (now, stamp, rows, _) = step;
-    let rows = rows_of(rt, alloc, rows);
-    let is_rising = are_rising(rows.items());
+/// A stream of the plan, and what it says first.
+pub fn begun(
+    rt: &impl Abort,
+    alloc: Global,
+    plan: Plan,
+    now: u64,
+    view: View,
+) -> (Stream, Option<Note>) {
+    let is_rising = are_rising(view.rows.items());
     assert!(rt; is_rising);
-    let (stream, note) = Stream::start(alloc, plan, now, View { stamp, rows }).expect(rt, "memory");
-    (stream, text_of(rt, alloc, &note))
+    Stream::start(alloc, plan, now, view).expect(rt, "memory")
 }
 
-fn turn(rt: &impl Abort, alloc: Global, stream: &mut Stream, step: Step) -> Bytes {
-    let (now, stamp, rows, _) = step;
-    let rows = rows_of(rt, alloc, rows);
-    let is_rising = are_rising(rows.items());
+/// What the stream says in a turn.
+pub fn said(
+    rt: &impl Abort,
+    alloc: Global,
+    stream: &mut Stream,
+    now: u64,
+    view: View,
+) -> Option<Note> {
+    let is_rising = are_rising(view.rows.items());
     assert!(rt; is_rising);
-    let note = stream
-        .turn(alloc, now, View { stamp, rows })
-        .expect(rt, "memory");
-    text_of(rt, alloc, &note)
+    stream.turn(alloc, now, view).expect(rt, "memory")
 }
 
-fn follow(rt: &impl Abort, alloc: Global, plan: Plan, first: Step, steps: &'static [Step]) {
-    let (mut stream, text) = start(rt, alloc, plan, first);
-    assert_eq!(rt; text.items(), first.3.as_bytes());
-    for step in steps.iter().copied() {
-        let text = turn(rt, alloc, &mut stream, step);
-        assert_eq!(rt; text.items(), step.3.as_bytes(), "{}", step.3);
+/// That a notification is this text; where it isn't, this is named.
+pub fn assert_said(rt: &impl Abort, alloc: Global, note: &Option<Note>, text: &[u8], what: &str) {
+    let found = text_of(rt, alloc, note);
+    assert_eq!(rt; found.items(), text, "{what}");
+}
+
+fn view_of(rt: &impl Abort, alloc: Global, step: &Step) -> View {
+    View {
+        stamp: step.1,
+        rows: rows_of(rt, alloc, step.2),
+    }
+}
+
+fn take_step(rt: &impl Abort, alloc: Global, stream: &mut Stream, step: &Step) {
+    let note = said(rt, alloc, stream, step.0, view_of(rt, alloc, step));
+    assert_said(rt, alloc, &note, step.3.as_bytes(), step.3);
+}
+
+fn follow(rt: &impl Abort, alloc: Global, plan: Plan, first: &Step, steps: &'static [Step]) {
+    let (mut stream, note) = begun(rt, alloc, plan, first.0, view_of(rt, alloc, first));
+    assert_said(rt, alloc, &note, first.3.as_bytes(), first.3);
+    for step in steps {
+        take_step(rt, alloc, &mut stream, step);
     }
 }
 
@@ -127,7 +149,7 @@ const LATER: &[Step] = &[
 #[test]
 fn changes_come_at_once_and_samples_after_their_interval(rt: HostRuntime) {
     let alloc = rt.alloc();
-    follow(&rt, alloc, plan(&rt, alloc, TWO, false), FIRST, LATER);
+    follow(&rt, alloc, plan(&rt, alloc, TWO, false), &FIRST, LATER);
 }
 
 const ONE_LATER: &[Step] = &[(2_000, 1_001, &[("/system/host", 2)], "1001 +/system/host=2")];
@@ -136,7 +158,7 @@ const ONE_LATER: &[Step] = &[(2_000, 1_001, &[("/system/host", 2)], "1001 +/syst
 fn the_state_at_the_beginning_may_be_left_out(rt: HostRuntime) {
     let alloc = rt.alloc();
     let first = (FIRST.0, FIRST.1, FIRST.2, "quiet");
-    follow(&rt, alloc, plan(&rt, alloc, TWO, true), first, ONE_LATER);
+    follow(&rt, alloc, plan(&rt, alloc, TWO, true), &first, ONE_LATER);
 }
 
 /// Samples that have changes alone, and all rows after half a second.
@@ -165,7 +187,7 @@ const HEARTBEATS: &[Step] = &[
 fn samples_without_a_change_wait_for_the_heartbeat(rt: HostRuntime) {
     let alloc = rt.alloc();
     let plan = plan(&rt, alloc, SUPPRESSED, false);
-    follow(&rt, alloc, plan, BEFORE_HEARTBEATS, HEARTBEATS);
+    follow(&rt, alloc, plan, &BEFORE_HEARTBEATS, HEARTBEATS);
 }
 
 /// Rows that are deleted and changed between two turns. The name "e0" is the number 100, and the texts are their letters'
@@ -201,15 +223,10 @@ const WORKED_LATER: &[Step] = &[
 fn what_was_deleted_and_changed_comes_in_one_notification(rt: HostRuntime) {
     let alloc = rt.alloc();
     let told = plan(&rt, alloc, TWO, false);
-    follow(&rt, alloc, told, WORKED, WORKED_LATER);
+    follow(&rt, alloc, told, &WORKED, WORKED_LATER);
+    let first = (WORKED.0, WORKED.1, WORKED.2, "quiet");
     let silent = plan(&rt, alloc, TWO, true);
-    follow(
-        &rt,
-        alloc,
-        silent,
-        (WORKED.0, WORKED.1, WORKED.2, "quiet"),
-        WORKED_LATER,
-    );
+    follow(&rt, alloc, silent, &first, WORKED_LATER);
 }
 
 const CHANGES: &[Sub] = &[("/system", SubMode::Change, 0, 0, false)];
@@ -226,6 +243,6 @@ fn each_poll_begins_anew(rt: HostRuntime) {
     let alloc = rt.alloc();
     for _ in 0..2 {
         let plan = plan_in(&rt, alloc, ListMode::Poll, CHANGES, false);
-        follow(&rt, alloc, plan, POLLED, &[]);
+        follow(&rt, alloc, plan, &POLLED, &[]);
     }
 }

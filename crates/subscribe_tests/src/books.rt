@@ -1,5 +1,5 @@
 //! A book with two leaves, and Sets of them.
-use base_kinds::Limits;
+use base_kinds::{Limits, UnresolvedSet};
 use book_core::{Book, BookOpening, Single};
 use book_port::BookPort;
 use commit_journal::Ledger;
@@ -23,10 +23,16 @@ pub fn schema(rt: &impl Abort, alloc: Global) -> Schema {
     read_schema(alloc, b"module m\nleaf /a string\nleaf /b string\n").expect(rt, "a schema")
 }
 
-/// A port of a book without entries.
-pub fn port(rt: &impl Abort, alloc: Global) -> Port {
+/// A disk with a journal without entries.
+fn disk(rt: &impl Abort, alloc: Global) -> MemDisk {
     let mut disk = MemDisk::make(alloc);
     Ledger::create(alloc, &mut disk, &LIMITS).expect(rt, "a journal");
+    disk
+}
+
+/// A port of a book without entries.
+pub fn port(rt: &impl Abort, alloc: Global) -> Port {
+    let disk = disk(rt, alloc);
     let schema = schema(rt, alloc);
     match Book::reopen(alloc, disk, PlainTree::empty(alloc), schema, 0) {
         BookOpening::Ready(book) => Single::make(book, 1),
@@ -34,14 +40,33 @@ pub fn port(rt: &impl Abort, alloc: Global) -> Port {
     }
 }
 
-/// Makes the octets of a SetRequest an entry of the book.
-pub fn set(rt: &impl Abort, alloc: Global, now: u64, body: &[u8], port: &mut Port) {
-    let request = read_set(alloc, body).expect(rt, "a SetRequest");
-    match resolve(alloc, &schema(rt, alloc), &request) {
+/// Makes what a SetRequest asks under the schema an entry of the book.
+fn enter(
+    rt: &impl Abort,
+    alloc: Global,
+    schema: &Schema,
+    now: u64,
+    request: &UnresolvedSet,
+    port: &mut Port,
+) {
+    match resolve(alloc, schema, request) {
         Ok(ask) => {
             let is_set = port.set(alloc, now, ask).is_ok();
             assert!(rt; is_set);
         }
         Err(_) => panic!(rt; "a request of this schema"),
     }
+}
+
+/// Makes the octets of a SetRequest an entry of the book, under its schema.
+pub fn set(
+    rt: &impl Abort,
+    alloc: Global,
+    schema: &Schema,
+    now: u64,
+    body: &[u8],
+    port: &mut Port,
+) {
+    let request = read_set(alloc, body).expect(rt, "a SetRequest");
+    enter(rt, alloc, schema, now, &request, port);
 }

@@ -2,9 +2,9 @@
 use crate::books::{Port, port, schema, set};
 use base_kinds::ListMode;
 use rpc_desk::{Desk, SubscribeStep};
+use schema_core::Schema;
 use std::alloc::Global;
 use std::process::Abort;
-use std::test::Fail;
 use sub_plan::Plan;
 use subscribe_calls::{Messages, SubscribeCall, calls_go_on};
 
@@ -35,12 +35,17 @@ const B_IS_SET: &[u8] = b"\x0a\x11\x08\xe9\x07\x22\x0c\x0a\x05\x1a\x03\x0a\x01b\
 
 const A_IS_GONE: &[u8] = b"\x0a\x0a\x08\xea\x07\x2a\x05\x1a\x03\x0a\x01a";
 
-fn plan(rt: &impl Abort, alloc: Global, body: &[u8]) -> Plan {
-    let desk = Desk::make(schema(rt, alloc));
+/// The plan of a list at this desk.
+fn plan_at(rt: &impl Abort, alloc: Global, desk: &Desk, body: &[u8]) -> Plan {
     match desk.subscribe(alloc, body, None).expect(rt, "a list") {
         SubscribeStep::Begin(plan) => plan,
         SubscribeStep::Poll => panic!(rt; "a poll"),
     }
+}
+
+fn plan(rt: &impl Abort, alloc: Global, body: &[u8]) -> Plan {
+    let desk = Desk::make(schema(rt, alloc));
+    plan_at(rt, alloc, &desk, body)
 }
 
 fn call(rt: &impl Abort, alloc: Global, body: &[u8]) -> SubscribeCall {
@@ -48,40 +53,65 @@ fn call(rt: &impl Abort, alloc: Global, body: &[u8]) -> SubscribeCall {
 }
 
 fn are_said(messages: &Messages, wanted: &[&[u8]]) -> bool {
-    messages.len() == wanted.len()
-        && messages
-            .items()
-            .iter()
-            .zip(wanted)
-            .all(|(message, wanted)| message.items() == *wanted)
+    let mut are_said = messages.len() == wanted.len();
+    for (message, wanted) in messages.items().iter().zip(wanted) {
+        are_said = are_said && message.items() == *wanted;
+    }
+    are_said
 }
 
 /// What is set before a turn, if anything, and the messages that the turn says.
 type Step = (&'static [u8], &'static [&'static [u8]]);
 
+/// Whether a turn says these messages.
+fn turn_says(
+    alloc: Global,
+    schema: &Schema,
+    port: &mut Port,
+    call: &mut SubscribeCall,
+    wanted: &[&[u8]],
+) -> bool {
+    match call.turn(alloc, schema, 1_000, port) {
+        Ok(messages) => are_said(&messages, wanted),
+        Err(_) => false,
+    }
+}
+
 fn take_step(
     rt: &impl Abort,
     alloc: Global,
+    schema: &Schema,
     port: &mut Port,
     call: &mut SubscribeCall,
     step: &Step,
 ) {
     if !step.0.is_empty() {
-        set(rt, alloc, 1_000, step.0, port);
+        set(rt, alloc, schema, 1_000, step.0, port);
     }
-    let schema = schema(rt, alloc);
-    let messages = call.turn(alloc, &schema, 1_000, port).expect(rt, "a turn");
-    let are_said = are_said(&messages, step.1);
+    let are_said = turn_says(alloc, schema, port, call, step.1);
     assert!(rt; are_said, "{:?}", step.0);
 }
 
-/// A call with this list takes a turn behind each of these Sets.
+/// The call takes a turn behind each of these Sets.
+fn take_steps(
+    rt: &impl Abort,
+    alloc: Global,
+    schema: &Schema,
+    port: &mut Port,
+    call: &mut SubscribeCall,
+    steps: &[Step],
+) {
+    for step in steps {
+        take_step(rt, alloc, schema, port, call, step);
+    }
+}
+
+/// A call with this list does so.
 fn follow(rt: &impl Abort, alloc: Global, list: &[u8], steps: &[Step]) {
+    let schema = schema(rt, alloc);
     let mut port = port(rt, alloc);
     let mut call = call(rt, alloc, list);
-    for step in steps {
-        take_step(rt, alloc, &mut port, &mut call, step);
-    }
+    take_steps(rt, alloc, &schema, &mut port, &mut call, steps);
 }
 
 const CHANGES: &[Step] = &[
@@ -93,43 +123,58 @@ const CHANGES: &[Step] = &[
 ];
 
 #[test]
-fn changes_come_as_they_are_committed(rt: HostRuntime) -> Result<(), Fail> {
+fn changes_come_as_they_are_committed(rt: HostRuntime) {
     follow(&rt, rt.alloc(), STREAM, CHANGES);
     calls_go_on();
-    Ok(())
 }
 
 const UPDATES: &[Step] = &[(SET_A, &[SYNC]), (SET_B, &[B_IS_SET])];
 
 #[test]
-fn updates_alone_begin_with_a_sync(rt: HostRuntime) -> Result<(), Fail> {
+fn updates_alone_begin_with_a_sync(rt: HostRuntime) {
     follow(&rt, rt.alloc(), UPDATES_ONLY, UPDATES);
-    Ok(())
 }
 
-/// A Poll at this reading says the state of `/a` and a sync.
-fn poll(rt: &impl Abort, alloc: Global, port: &mut Port, call: &SubscribeCall, now: u64) {
-    let schema = schema(rt, alloc);
-    let messages = call.poll(alloc, &schema, now, port).expect(rt, "a poll");
-    let are_said = are_said(&messages, &[A_IS_SET, SYNC]);
-    assert!(rt; are_said, "at {now}");
+/// Whether a Poll at this reading says the state of `/a` and a sync.
+fn poll_says_the_state(
+    alloc: Global,
+    schema: &Schema,
+    port: &mut Port,
+    call: &SubscribeCall,
+    now: u64,
+) -> bool {
+    match call.poll(alloc, schema, now, port) {
+        Ok(messages) => are_said(&messages, &[A_IS_SET, SYNC]),
+        Err(_) => false,
+    }
 }
 
-/// A book in which `/a` is `x`.
-fn port_with_a(rt: &impl Abort, alloc: Global) -> Port {
-    let mut port = port(rt, alloc);
-    set(rt, alloc, 1_000, SET_A, &mut port);
-    port
-}
-
-#[test]
-fn each_poll_says_the_state_and_a_sync(rt: HostRuntime) -> Result<(), Fail> {
-    let mut port = port_with_a(&rt, rt.alloc());
-    let call = call(&rt, rt.alloc(), POLLED);
+/// The call is one of mode POLL, and each Poll of it says so.
+fn take_polls(
+    rt: &impl Abort,
+    alloc: Global,
+    schema: &Schema,
+    port: &mut Port,
+    call: &SubscribeCall,
+) {
     let mode = call.plan().mode;
     assert!(rt; mode == ListMode::Poll);
     for now in &[1_000, 2_000] {
-        poll(&rt, rt.alloc(), &mut port, &call, *now);
+        let are_said = poll_says_the_state(alloc, schema, port, call, *now);
+        assert!(rt; are_said, "at {now}");
     }
-    Ok(())
+}
+
+/// A call with a list of mode POLL is asked for the state again and again, over a book in which `/a` is `x`.
+fn follow_polls(rt: &impl Abort, alloc: Global) {
+    let schema = schema(rt, alloc);
+    let mut port = port(rt, alloc);
+    set(rt, alloc, &schema, 1_000, SET_A, &mut port);
+    let call = call(rt, alloc, POLLED);
+    take_polls(rt, alloc, &schema, &mut port, &call);
+}
+
+#[test]
+fn each_poll_says_the_state_and_a_sync(rt: HostRuntime) {
+    follow_polls(&rt, rt.alloc());
 }

@@ -1,130 +1,124 @@
 // Paths: texts, patterns, order, prefixes.
+use crate::builders::{assert_of, prints, text_of};
 use base_kinds::{Bytes, Elem, Keys, Path, Same, Text};
 use path_core::{
     PathFault, cmp_paths, covers, join_prefix, matches, read_path_text, read_value_text,
     write_path_text, write_value_text,
 };
 use std::alloc::Global;
+use std::cmp::Ordering;
 use std::process::Abort;
-use std::test::Fail;
 
-type Pairs = &'static [(&'static str, &'static str)];
-
-/// Path texts and the elements that they name, worked out by hand from the rule.
-const TAKEN: &[(&str, &[(&str, Pairs)])] = &[
-    ("/", &[]),
-    ("/a", &[("a", &[])]),
-    (
-        "/system/config/hostname",
-        &[("system", &[]), ("config", &[]), ("hostname", &[])],
-    ),
-    ("/Z.9-_*", &[("Z.9-_*", &[])]),
-    ("/*", &[("*", &[])]),
-    ("/a/.../b", &[("a", &[]), ("...", &[]), ("b", &[])]),
-    ("/l[k=x]", &[("l", &[("k", "x")])]),
-    ("/l[k=]", &[("l", &[("k", "")])]),
-    ("/l[=x]", &[("l", &[("", "x")])]),
-    ("/l[k=*]", &[("l", &[("k", "*")])]),
-    ("/l[a=1][b=2]", &[("l", &[("a", "1"), ("b", "2")])]),
-    ("/l[a=2][aa=1]", &[("l", &[("a", "2"), ("aa", "1")])]),
-    ("/l[B=1][a=2]", &[("l", &[("B", "1"), ("a", "2")])]),
-    ("/l[=1][*=2]", &[("l", &[("", "1"), ("*", "2")])]),
-    (
-        "/l[k=v]/m[k=v]",
-        &[("l", &[("k", "v")]), ("m", &[("k", "v")])],
-    ),
-    ("/l[k=a=b/c[d\"]", &[("l", &[("k", "a=b/c[d\"")])]),
-    ("/l[k=!~]", &[("l", &[("k", "!~")])]),
-    ("/l[k=a\\20b]", &[("l", &[("k", "a b")])]),
-    ("/l[k=\\5c\\5d]", &[("l", &[("k", "\\]")])]),
-    ("/l[k=\\7f\\00]", &[("l", &[("k", "\u{7f}\0")])]),
-    ("/l[k=\\0a]/b", &[("l", &[("k", "\n")]), ("b", &[])]),
-    ("/a\\20b", &[("a b", &[])]),
-    ("/a\\2fb/c", &[("a/b", &[]), ("c", &[])]),
-    ("/\\5b\\5d\\3d\\5c", &[("[]=\\", &[])]),
-    (
-        "/openconfig\\3ainterfaces",
-        &[("openconfig:interfaces", &[])],
-    ),
-    ("/l[k\\3a=v]", &[("l", &[("k:", "v")])]),
-    ("/\\c3\\a9", &[("\u{e9}", &[])]),
+/// Path texts and the elements that they name, worked out by hand from the rule: elements between `;`, each of a name and
+/// of keys with their values, between `,`.
+const TAKEN: &[(&str, &str)] = &[
+    ("/", ""),
+    ("/a", "a"),
+    ("/system/config/hostname", "system;config;hostname"),
+    ("/Z.9-_*", "Z.9-_*"),
+    ("/*", "*"),
+    ("/a/.../b", "a;...;b"),
+    ("/l[k=x]", "l,k=x"),
+    ("/l[k=]", "l,k="),
+    ("/l[=x]", "l,=x"),
+    ("/l[k=*]", "l,k=*"),
+    ("/l[a=1][b=2]", "l,a=1,b=2"),
+    ("/l[a=2][aa=1]", "l,a=2,aa=1"),
+    ("/l[B=1][a=2]", "l,B=1,a=2"),
+    ("/l[=1][*=2]", "l,=1,*=2"),
+    ("/l[k=v]/m[k=v]", "l,k=v;m,k=v"),
+    ("/l[k=a=b/c[d\"]", "l,k=a=b/c[d\""),
+    ("/l[k=!~]", "l,k=!~"),
+    ("/l[k=a\\20b]", "l,k=a b"),
+    ("/l[k=\\5c\\5d]", "l,k=\\]"),
+    ("/l[k=\\7f\\00]", "l,k=\u{7f}\0"),
+    ("/l[k=\\0a]/b", "l,k=\n;b"),
+    ("/a\\20b", "a b"),
+    ("/a\\2fb/c", "a/b;c"),
+    ("/\\5b\\5d\\3d\\5c", "[]=\\"),
+    ("/openconfig\\3ainterfaces", "openconfig:interfaces"),
+    ("/l[k\\3a=v]", "l,k:=v"),
+    ("/\\c3\\a9", "\u{e9}"),
     (
         "/\\e2\\82\\ac[\\c2\\a0=\\f0\\9f\\98\\80]",
-        &[("\u{20ac}", &[("\u{a0}", "\u{1f600}")])],
+        "\u{20ac},\u{a0}=\u{1f600}",
     ),
-    ("/l[k=\\f4\\8f\\bf\\bf]", &[("l", &[("k", "\u{10ffff}")])]),
-    ("/l[k=\\ef\\bf\\bfx]", &[("l", &[("k", "\u{ffff}x")])]),
+    ("/l[k=\\f4\\8f\\bf\\bf]", "l,k=\u{10ffff}"),
+    ("/l[k=\\ef\\bf\\bfx]", "l,k=\u{ffff}x"),
 ];
 
-/// Octets that are no path's text: the form, the escapes, the order of the keys, UTF-8.
-const REFUSED: &[&[u8]] = &[
-    b"",
-    b"a",
-    b"a/b",
-    b"//",
-    b"//a",
-    b"/a/",
-    b"/a//b",
-    b"/[k=v]",
-    b"/a b",
-    b"/a ",
-    b"/a\n",
-    b"/a:b",
-    b"/a=b",
-    b"/\xc3\xa9",
-    b"/\xff",
-    b"/a\\",
-    b"/a\\2",
-    b"/a\\2/b",
-    b"/a\\g0",
-    b"/a\\2F",
-    b"/a\\2fB\\2F",
-    b"/a\\41",
-    b"/a\\2a",
-    b"/a\\5f",
-    b"/l[k",
-    b"/l[",
-    b"/l]",
-    b"/l[k]",
-    b"/l[k=v",
-    b"/l[k=v]x",
-    b"/l[k=v] ",
-    b"/l[k=v]/",
-    b"/l[k=v]]",
-    b"/l[k=a]b]",
-    b"/l[k=a b]",
-    b"/l[k=\x7f]",
-    b"/l[k=\\]",
-    b"/l[k=\\5]",
-    b"/l[k=\\5C]",
-    b"/l[k=\\41]",
-    b"/l[k=\\2f]",
-    b"/l[k=\\7e]",
-    b"/l[k=\xc3\xa9]",
-    b"/l[k/=v]",
-    b"/l[b=1][a=2]",
-    b"/l[a=1][a=2]",
-    b"/l[a=1][a=1]",
-    b"/l[aa=1][a=2]",
-    b"/\\ff",
-    b"/\\c3",
-    b"/\\c3/\\a9",
-    b"/\\c0\\af",
-    b"/\\ed\\a0\\80",
-    b"/l[k=\\80]",
-    b"/l[\\e2\\82=v]",
-    b"/l[k=\\f4\\90\\80\\80]",
+/// Texts that are no path's: the form, the escapes, the order of the keys, escapes that are no UTF-8.
+const REFUSED: &[&str] = &[
+    "",
+    "a",
+    "a/b",
+    "//",
+    "//a",
+    "/a/",
+    "/a//b",
+    "/[k=v]",
+    "/a b",
+    "/a ",
+    "/a\n",
+    "/a:b",
+    "/a=b",
+    "/\u{e9}",
+    "/a\\",
+    "/a\\2",
+    "/a\\2/b",
+    "/a\\g0",
+    "/a\\2F",
+    "/a\\2fB\\2F",
+    "/a\\41",
+    "/a\\2a",
+    "/a\\5f",
+    "/l[k",
+    "/l[",
+    "/l]",
+    "/l[k]",
+    "/l[k=v",
+    "/l[k=v]x",
+    "/l[k=v] ",
+    "/l[k=v]/",
+    "/l[k=v]]",
+    "/l[k=a]b]",
+    "/l[k=a b]",
+    "/l[k=\x7f]",
+    "/l[k=\\]",
+    "/l[k=\\5]",
+    "/l[k=\\5C]",
+    "/l[k=\\41]",
+    "/l[k=\\2f]",
+    "/l[k=\\7e]",
+    "/l[k=\u{e9}]",
+    "/l[k/=v]",
+    "/l[b=1][a=2]",
+    "/l[a=1][a=2]",
+    "/l[a=1][a=1]",
+    "/l[aa=1][a=2]",
+    "/\\ff",
+    "/\\c3",
+    "/\\c3/\\a9",
+    "/\\c0\\af",
+    "/\\ed\\a0\\80",
+    "/l[k=\\80]",
+    "/l[\\e2\\82=v]",
+    "/l[k=\\f4\\90\\80\\80]",
 ];
 
-fn text_of(rt: &impl Abort, alloc: Global, word: &str) -> Text {
-    Text::of(alloc, word.as_bytes()).expect(rt, "a text")
+/// The key of a text as `k=x`, and its value.
+fn key_of(rt: &impl Abort, alloc: Global, key: &str) -> (Text, Text) {
+    let (key, value) = key.split_once('=').expect(rt, "a key and its value");
+    (text_of(rt, alloc, key), text_of(rt, alloc, value))
 }
 
-fn elem_of(rt: &impl Abort, alloc: Global, name: &str, pairs: Pairs) -> Elem {
+/// The element of a text as `l,k=x`.
+fn elem_of(rt: &impl Abort, alloc: Global, elem: &str) -> Elem {
     let mut keys = Keys::empty(alloc);
-    for (key, value) in pairs {
-        keys.push((text_of(rt, alloc, key), text_of(rt, alloc, value)))
-            .expect(rt, "memory");
+    let mut parts = elem.split(',');
+    let name = parts.next().unwrap_or("");
+    for part in parts {
+        keys.push(key_of(rt, alloc, part)).expect(rt, "memory");
     }
     Elem {
         name: text_of(rt, alloc, name),
@@ -132,11 +126,14 @@ fn elem_of(rt: &impl Abort, alloc: Global, name: &str, pairs: Pairs) -> Elem {
     }
 }
 
-fn path_of(rt: &impl Abort, alloc: Global, elems: &[(&str, Pairs)]) -> Path {
+/// The path of elements as `a;l,k=x`, where there are any.
+fn path_of(rt: &impl Abort, alloc: Global, elems: &str) -> Path {
     let mut path = Path::empty(alloc);
-    for (name, pairs) in elems {
-        path.push(elem_of(rt, alloc, name, pairs))
-            .expect(rt, "memory");
+    if elems.is_empty() {
+        return path;
+    }
+    for elem in elems.split(';') {
+        path.push(elem_of(rt, alloc, elem)).expect(rt, "memory");
     }
     path
 }
@@ -152,29 +149,40 @@ fn is_written_as(rt: &impl Abort, alloc: Global, path: &Path, text: &str) -> boo
     out.items().split_first() == Some((&b'>', text.as_bytes()))
 }
 
+/// Whether the path of these elements is written as this text.
+fn elems_are_written_as(rt: &impl Abort, alloc: Global, elems: &str, text: &str) -> bool {
+    is_written_as(rt, alloc, &path_of(rt, alloc, elems), text)
+}
+
+/// Whether the text is read as the path of these elements.
+fn is_read_as(rt: &impl Abort, alloc: Global, text: &str, elems: &str) -> bool {
+    read(rt, alloc, text).same(&path_of(rt, alloc, elems))
+}
+
 /// Whether the text is that of the path of these elements.
-fn is_text_of(rt: &impl Abort, alloc: Global, text: &str, elems: &[(&str, Pairs)]) -> bool {
-    let path = path_of(rt, alloc, elems);
-    let read = read(rt, alloc, text);
-    read.same(&path) && is_written_as(rt, alloc, &path, text)
+fn is_text_of(rt: &impl Abort, alloc: Global, text: &str, elems: &str) -> bool {
+    is_read_as(rt, alloc, text, elems) && elems_are_written_as(rt, alloc, elems, text)
 }
 
 #[test]
 fn texts_are_read_and_written_back(rt: HostRuntime) {
-    for (text, elems) in TAKEN.iter().copied() {
-        assert!(rt; is_text_of(&rt, rt.alloc(), text, elems), "{text}");
+    for (text, elems) in TAKEN {
+        assert_of(&rt, text, is_text_of(&rt, rt.alloc(), text, elems));
     }
+}
+
+/// Whether the octets are no path's text.
+fn is_no_path(alloc: Global, text: &[u8]) -> bool {
+    matches!(read_path_text(alloc, text), Err(PathFault::BadPath))
 }
 
 #[test]
 fn other_octets_are_refused(rt: HostRuntime) {
-    for text in REFUSED.iter().copied() {
-        assert_eq!(rt;
-            read_path_text(rt.alloc(), text),
-            Err(PathFault::BadPath),
-            "{text:?}"
-        );
+    for text in REFUSED {
+        assert_of(&rt, text, is_no_path(rt.alloc(), text.as_bytes()));
     }
+    // an octet that is no UTF-8
+    assert!(rt; is_no_path(rt.alloc(), b"/\xff"));
 }
 
 /// Texts of values by themselves, and what they say.
@@ -189,17 +197,8 @@ const VALUES: &[(&str, &str)] = &[
     ("\\00\\7f", "\0\u{7f}"),
 ];
 
-const NO_VALUES: &[&[u8]] = &[
-    b"a]",
-    b"a b",
-    b"\\",
-    b"\\5",
-    b"\\5D",
-    b"\\61",
-    b"\\c3",
-    b"\xc3\xa9",
-    b"\\5d]",
-    b"\x7f",
+const NO_VALUES: &[&str] = &[
+    "a]", "a b", "\\", "\\5", "\\5D", "\\61", "\\c3", "\u{e9}", "\\5d]", "\x7f",
 ];
 
 /// Whether the value is written as this text.
@@ -209,13 +208,18 @@ fn is_value_written_as(rt: &impl Abort, alloc: Global, value: &Text, text: &str)
     written.items() == text.as_bytes()
 }
 
+/// Whether the text is read as this value.
+fn is_read_as_value(alloc: Global, text: &str, value: &Text) -> bool {
+    match read_value_text(alloc, text.as_bytes()) {
+        Ok(read) => read.same(value),
+        Err(_) => false,
+    }
+}
+
 /// Whether the text is that of this value alone.
 fn is_text_of_value(rt: &impl Abort, alloc: Global, text: &str, value: &str) -> bool {
     let value = text_of(rt, alloc, value);
-    match read_value_text(alloc, text.as_bytes()) {
-        Ok(read) => read.same(&value) && is_value_written_as(rt, alloc, &value, text),
-        Err(_) => false,
-    }
+    is_read_as_value(alloc, text, &value) && is_value_written_as(rt, alloc, &value, text)
 }
 
 /// Whether the octets are no value's text.
@@ -225,22 +229,17 @@ fn is_no_value(alloc: Global, text: &[u8]) -> bool {
 
 #[test]
 fn values_are_read_and_written_alone(rt: HostRuntime) {
-    for (text, value) in VALUES.iter().copied() {
-        assert!(rt; is_text_of_value(&rt, rt.alloc(), text, value), "{text}");
+    for (text, value) in VALUES {
+        assert_of(&rt, text, is_text_of_value(&rt, rt.alloc(), text, value));
     }
-    for text in NO_VALUES.iter().copied() {
-        assert!(rt; is_no_value(rt.alloc(), text), "{text:?}");
+    for text in NO_VALUES {
+        assert_of(&rt, text, is_no_value(rt.alloc(), text.as_bytes()));
     }
 }
 
 #[test]
-fn an_empty_name_is_written_as_no_octets(rt: HostRuntime) -> Result<(), Fail> {
-    let alloc = rt.alloc();
-    let path = path_of(&rt, alloc, &[("a", &[]), ("", &[("k", "v")])]);
-    let mut out = Bytes::empty(alloc);
-    write_path_text(alloc, &path, &mut out)?;
-    assert_eq!(rt; out.items(), b"/a/[k=v]".as_slice());
-    Ok(())
+fn an_empty_name_is_written_as_no_octets(rt: HostRuntime) {
+    assert!(rt; elems_are_written_as(&rt, rt.alloc(), "a;,k=v", "/a/[k=v]"));
 }
 
 /// A pattern, a path, whether it matches, and whether it covers.
@@ -274,19 +273,28 @@ const PATTERNS: &[(&str, &str, bool, bool)] = &[
     ("/...[k=x]/m", "/l[k=y]/m", true, true),
 ];
 
-/// Whether the pattern matches the path, and whether it covers it.
-fn matches_and_covers(rt: &impl Abort, alloc: Global, pattern: &str, path: &str) -> (bool, bool) {
+/// Whether the pattern of a row matches and covers the path as the row says.
+fn matches_and_covers(
+    rt: &impl Abort,
+    alloc: Global,
+    (pattern, path, is_match, is_covered): &(&str, &str, bool, bool),
+) -> bool {
     let pattern = read(rt, alloc, pattern);
     let path = read(rt, alloc, path);
-    (matches(&pattern, &path), covers(&pattern, &path))
+    let agrees_on_match = matches(&pattern, &path) == *is_match;
+    let agrees_on_cover = covers(&pattern, &path) == *is_covered;
+    agrees_on_match && agrees_on_cover
 }
 
 #[test]
 fn patterns_match_and_cover(rt: HostRuntime) {
-    let alloc = rt.alloc();
-    for (pattern, path, is_match, is_covered) in PATTERNS.iter().copied() {
-        let found = matches_and_covers(&rt, alloc, pattern, path);
-        assert_eq!(rt; found, (is_match, is_covered), "{pattern} and {path}");
+    for row in PATTERNS {
+        assert!(rt;
+            matches_and_covers(&rt, rt.alloc(), row),
+            "{} and {}",
+            row.0,
+            row.1
+        );
     }
 }
 
@@ -305,13 +313,17 @@ const RISING: &[&str] = &[
     "/\\c3\\a9",
 ];
 
+/// The order of the paths of two texts.
+fn order_of(rt: &impl Abort, alloc: Global, one: &str, other: &str) -> Ordering {
+    cmp_paths(&read(rt, alloc, one), &read(rt, alloc, other))
+}
+
 #[test]
 fn paths_compare_by_their_elements(rt: HostRuntime) {
     let alloc = rt.alloc();
     for (i, a) in RISING.iter().enumerate() {
         for (j, b) in RISING.iter().enumerate() {
-            let order = cmp_paths(&read(&rt, alloc, a), &read(&rt, alloc, b));
-            assert_eq!(rt; order, i.cmp(&j), "{a} and {b}");
+            assert!(rt; order_of(&rt, alloc, a, b) == i.cmp(&j), "{a} and {b}");
         }
     }
 }
@@ -319,7 +331,7 @@ fn paths_compare_by_their_elements(rt: HostRuntime) {
 fn same_elems(rt: &impl Abort, alloc: Global, count: usize) -> Path {
     let mut path = Path::empty(alloc);
     for _ in 0..count {
-        path.push(elem_of(rt, alloc, "a", &[])).expect(rt, "memory");
+        path.push(elem_of(rt, alloc, "a")).expect(rt, "memory");
     }
     path
 }
@@ -335,15 +347,22 @@ const LENGTHS: &[(usize, usize, Option<PathFault>)] = &[
     (32, 32, Some(PathFault::BadPath)),
 ];
 
-/// Whether the paths of the first two texts together are that of the third.
-fn are_joined(rt: &impl Abort, alloc: Global, prefix: &str, path: &str, whole: &str) -> bool {
-    let prefix = read(rt, alloc, prefix);
-    let path = read(rt, alloc, path);
-    let whole = read(rt, alloc, whole);
-    match join_prefix(alloc, &prefix, &path) {
-        Ok(joined) => joined.same(&whole),
+/// Whether the two paths together are the whole one.
+fn join_to(alloc: Global, prefix: &Path, path: &Path, whole: &Path) -> bool {
+    match join_prefix(alloc, prefix, path) {
+        Ok(joined) => joined.same(whole),
         Err(_) => false,
     }
+}
+
+/// Whether the paths of the first two texts together are that of the third.
+fn are_joined(rt: &impl Abort, alloc: Global, prefix: &str, path: &str, whole: &str) -> bool {
+    join_to(
+        alloc,
+        &read(rt, alloc, prefix),
+        &read(rt, alloc, path),
+        &read(rt, alloc, whole),
+    )
 }
 
 /// What is told of a prefix and a path of so many elements.
@@ -360,25 +379,14 @@ fn join_fault(rt: &impl Abort, alloc: Global, before: usize, after: usize) -> Op
 fn a_prefix_and_a_path_have_32_elements_at_most(rt: HostRuntime) {
     let alloc = rt.alloc();
     assert!(rt; are_joined(&rt, alloc, "/l[k=x]", "/m/n", "/l[k=x]/m/n"));
-    for (before, after, fault) in LENGTHS.iter().copied() {
-        assert_eq!(rt;
-            join_fault(&rt, alloc, before, after),
-            fault,
-            "{before} and {after}"
-        );
+    for (before, after, fault) in LENGTHS {
+        let told = join_fault(&rt, alloc, *before, *after);
+        assert!(rt; told == *fault, "{before} and {after}");
     }
 }
 
 #[test]
-fn faults_print_as_they_are_called(rt: HostRuntime) -> Result<(), Fail> {
-    let alloc = rt.alloc();
-    assert_eq!(rt;
-        format!(in alloc; "{}", PathFault::BadPath)?.as_str(),
-        "bad path"
-    );
-    assert_eq!(rt;
-        format!(in alloc; "{}", PathFault::NoMemory)?.as_str(),
-        "no memory"
-    );
-    Ok(())
+fn faults_print_as_they_are_called(rt: HostRuntime) {
+    assert!(rt; prints(rt.alloc(), PathFault::BadPath, "bad path"));
+    assert!(rt; prints(rt.alloc(), PathFault::NoMemory, "no memory"));
 }

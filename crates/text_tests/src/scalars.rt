@@ -1,12 +1,9 @@
-use base_kinds::{Bytes, Text, Value, Values};
+use crate::builders::text_of;
+use base_kinds::{Bytes, Value, Values};
 use scalar_order::{all_differ, same_scalar, scalar_of};
 use std::alloc::Global;
 use std::cmp::Ordering;
 use std::process::Abort;
-
-fn text_of(rt: &impl Abort, alloc: Global, word: &str) -> Text {
-    Text::of(alloc, word.as_bytes()).expect(rt, "a text")
-}
 
 fn octets_of(rt: &impl Abort, alloc: Global, word: &str) -> Bytes {
     let mut octets = Bytes::empty(alloc);
@@ -58,16 +55,24 @@ fn are_in_order(one: &Value, other: &Value, order: Ordering) -> bool {
     }
 }
 
-#[test]
-fn scalars_are_in_order(rt: HostRuntime) {
-    let alloc = rt.alloc();
-    let values = rising(&rt, alloc);
-    for (i, one) in values.items().iter().enumerate() {
-        for (j, other) in values.items().iter().enumerate() {
+/// Whether all of the values differ where they should, and else not all of them.
+fn differ_or_not(alloc: Global, values: Values, differ: bool) -> bool {
+    all_differ(alloc, values.items()) == Ok(differ)
+}
+
+fn assert_rising(rt: &impl Abort, values: &[Value]) {
+    for (i, one) in values.iter().enumerate() {
+        for (j, other) in values.iter().enumerate() {
             assert!(rt; are_in_order(one, other, i.cmp(&j)), "{i} {j}");
         }
     }
-    assert_eq!(rt; all_differ(alloc, values.items()), Ok(true));
+}
+
+#[test]
+fn scalars_are_in_order(rt: HostRuntime) {
+    let alloc = rt.alloc();
+    assert_rising(&rt, rising(&rt, alloc).items());
+    assert!(rt; differ_or_not(alloc, rising(&rt, alloc), true));
 }
 
 /// So many texts, of which that at the second place is the one at the first.
@@ -102,11 +107,10 @@ const DIFFERING: &[(usize, usize, usize, bool)] = &[
 #[test]
 fn few_and_many_values_differ_or_not(rt: HostRuntime) {
     let alloc = rt.alloc();
-    for (count, first, second, differ) in DIFFERING.iter().copied() {
-        let values = texts(&rt, alloc, count, first, second);
-        assert_eq!(rt;
-            all_differ(alloc, values.items()),
-            Ok(differ),
+    for (count, first, second, differ) in DIFFERING {
+        let texts = texts(&rt, alloc, *count, *first, *second);
+        assert!(rt;
+            differ_or_not(alloc, texts, *differ),
             "{count} {first} {second}"
         );
     }
@@ -123,12 +127,15 @@ fn lists_behind_texts(rt: &impl Abort, alloc: Global) -> Values {
     values
 }
 
+/// Whether a list is no scalar, and not the same as itself.
+fn is_list_no_scalar(alloc: Global) -> bool {
+    let list = Value::List(Values::empty(alloc));
+    scalar_of(&list).is_none() && !same_scalar(&list, &list)
+}
+
 #[test]
 fn a_list_is_equal_to_nothing(rt: HostRuntime) {
     let alloc = rt.alloc();
-    let list = Value::List(Values::empty(alloc));
-    assert!(rt; scalar_of(&list).is_none());
-    assert!(rt; !same_scalar(&list, &list));
-    let values = lists_behind_texts(&rt, alloc);
-    assert_eq!(rt; all_differ(alloc, values.items()), Ok(true));
+    assert!(rt; is_list_no_scalar(alloc));
+    assert!(rt; differ_or_not(alloc, lists_behind_texts(&rt, alloc), true));
 }

@@ -1,4 +1,5 @@
 // The texts of schemas: each cause, each limit, and a schema that is read.
+use crate::builders::assert_of;
 use schema_text::{Cause, SchemaError, read_schema};
 use std::alloc::Global;
 use std::process::Abort;
@@ -99,12 +100,9 @@ const FAULTS: &[(&str, u32, Cause)] = &[
 
 #[test]
 fn the_first_fault_is_told(rt: HostRuntime) {
-    for (text, line, cause) in FAULTS.iter().copied() {
-        assert_eq!(rt;
-            fault_of(rt.alloc(), text.as_bytes()),
-            Some((line, cause)),
-            "{text}"
-        );
+    for (text, line, cause) in FAULTS {
+        let told = fault_of(rt.alloc(), text.as_bytes());
+        assert_of(&rt, text, told == Some((*line, *cause)));
     }
 }
 
@@ -173,12 +171,9 @@ const NO_LINES: &[&str] = &[
 
 #[test]
 fn other_lines_are_no_lines(rt: HostRuntime) {
-    for text in NO_LINES.iter().copied() {
-        assert_eq!(rt;
-            fault_of(rt.alloc(), text.as_bytes()),
-            Some((1, Cause::Syntax)),
-            "{text}"
-        );
+    for text in NO_LINES {
+        let told = fault_of(rt.alloc(), text.as_bytes());
+        assert_of(&rt, text, told == Some((1, Cause::Syntax)));
     }
 }
 
@@ -186,17 +181,18 @@ fn other_lines_are_no_lines(rt: HostRuntime) {
 fn joined(
     rt: &impl Abort,
     alloc: Global,
-    front: &[u8],
+    front: &str,
     middle: &[u8],
     times: u32,
-    end: &[u8],
+    end: &str,
 ) -> Vec<u8> {
     let mut text = Vec::new(alloc);
-    text.extend_from_slice(front).expect(rt, "memory");
+    text.extend_from_slice(front.as_bytes())
+        .expect(rt, "memory");
     for _ in 0..times {
         text.extend_from_slice(middle).expect(rt, "memory");
     }
-    text.extend_from_slice(end).expect(rt, "memory");
+    text.extend_from_slice(end.as_bytes()).expect(rt, "memory");
     text
 }
 
@@ -204,16 +200,24 @@ fn joined(
 fn fault_of_joined(
     rt: &impl Abort,
     alloc: Global,
-    front: &[u8],
+    front: &str,
     middle: &[u8],
     times: u32,
-    end: &[u8],
+    end: &str,
 ) -> Option<(u32, Cause)> {
     let text = joined(rt, alloc, front, middle, times, end);
     fault_of(alloc, &text)
 }
 
-const LIMITS: &[(&str, &str, u32, &str, Option<(u32, Cause)>)] = &[
+type Limit = (
+    &'static str,
+    &'static str,
+    u32,
+    &'static str,
+    Option<(u32, Cause)>,
+);
+
+const LIMITS: &[Limit] = &[
     ("module ", "n", 64, "\n", None),
     ("module ", "n", 65, "\n", Some((1, Cause::Syntax))),
     (
@@ -237,12 +241,21 @@ const LIMITS: &[(&str, &str, u32, &str, Option<(u32, Cause)>)] = &[
     ("#", "x", 1024, "", Some((1, Cause::TooLarge))),
 ];
 
+/// Whether the text that `joined` makes of a row has the row's fault, or none.
+fn is_told(rt: &impl Abort, alloc: Global, (front, middle, times, end, fault): &Limit) -> bool {
+    fault_of_joined(rt, alloc, front, middle.as_bytes(), *times, end) == *fault
+}
+
 #[test]
 fn limits_of_names_paths_and_lines(rt: HostRuntime) {
-    for (front, middle, times, end, fault) in LIMITS.iter().copied() {
-        let (front, middle, end) = (front.as_bytes(), middle.as_bytes(), end.as_bytes());
-        let told = fault_of_joined(&rt, rt.alloc(), front, middle, times, end);
-        assert_eq!(rt; told, fault, "{front:?}{middle:?} x {times}");
+    for row in LIMITS {
+        assert!(rt;
+            is_told(&rt, rt.alloc(), row),
+            "{:?}{:?} x {}",
+            row.0,
+            row.1,
+            row.2
+        );
     }
 }
 
@@ -253,15 +266,23 @@ const LONG_TEXTS: &[(&str, &str, Option<(u32, Cause)>)] = &[
     ("\n", "", Some((1025, Cause::TooLarge))),
 ];
 
+/// The fault of the longest text between these.
+fn fault_of_longest(
+    rt: &impl Abort,
+    alloc: Global,
+    front: &str,
+    end: &str,
+) -> Option<(u32, Cause)> {
+    let line = joined(rt, alloc, "#", b"x", 1022, "\n");
+    fault_of_joined(rt, alloc, front, &line, 1024, end)
+}
+
 /// 1,024 lines of 1,023 octets and a line feed are the longest text.
 #[test]
 fn limits_of_a_text(rt: HostRuntime) {
-    let alloc = rt.alloc();
-    let line = joined(&rt, alloc, b"#", b"x", 1022, b"\n");
-    for (front, end, fault) in LONG_TEXTS.iter().copied() {
-        let (front, end) = (front.as_bytes(), end.as_bytes());
-        let told = fault_of_joined(&rt, alloc, front, &line, 1024, end);
-        assert_eq!(rt; told, fault, "{front:?}{end:?}");
+    for (front, end, fault) in LONG_TEXTS {
+        let told = fault_of_longest(&rt, rt.alloc(), front, end);
+        assert!(rt; told == *fault, "{front:?}{end:?}");
     }
 }
 
@@ -285,13 +306,13 @@ const ENUMS: &[(u32, Option<(u32, Cause)>)] = &[(255, None), (256, Some((2, Caus
 /// The fault of a schema with a leaf of an enum of so many names and one more.
 fn fault_of_enum(rt: &impl Abort, alloc: Global, count: u32) -> Option<(u32, Cause)> {
     let texts = letters(rt, alloc, b"", count, b"|");
-    fault_of_joined(rt, alloc, b"module m\nleaf /a enum(", &texts, 1, b"z)\n")
+    fault_of_joined(rt, alloc, "module m\nleaf /a enum(", &texts, 1, "z)\n")
 }
 
 #[test]
 fn limits_of_enums(rt: HostRuntime) {
-    for (count, fault) in ENUMS.iter().copied() {
-        assert_eq!(rt; fault_of_enum(&rt, rt.alloc(), count), fault, "{count}");
+    for (count, fault) in ENUMS {
+        assert!(rt; fault_of_enum(&rt, rt.alloc(), *count) == *fault, "{count}");
     }
 }
 
@@ -303,25 +324,33 @@ const LAST_LINES: &[(&str, Option<(u32, Cause)>)] = &[
     ("leaf /z bol\n", Some((4098, Cause::Syntax))),
 ];
 
+/// The fault of a schema with as many nodes as there may be, and these lines behind them.
+fn fault_behind_nodes(rt: &impl Abort, alloc: Global, more: &str) -> Option<(u32, Cause)> {
+    let leaves = letters(rt, alloc, b"leaf /a", 4096, b" bool\n");
+    fault_of_joined(rt, alloc, "module m\n", &leaves, 1, more)
+}
+
 #[test]
 fn limits_of_nodes(rt: HostRuntime) {
-    let alloc = rt.alloc();
-    let leaves = letters(&rt, alloc, b"leaf /a", 4096, b" bool\n");
-    for (more, fault) in LAST_LINES.iter().copied() {
-        let told = fault_of_joined(&rt, alloc, b"module m\n", &leaves, 1, more.as_bytes());
-        assert_eq!(rt; told, fault, "{more}");
+    for (more, fault) in LAST_LINES {
+        let told = fault_behind_nodes(&rt, rt.alloc(), more);
+        assert_of(&rt, more, told == *fault);
     }
 }
 
 const SYSTEM: &str =
     "module openconfig-system\ncontainer /system\ncontainer /system/config\nleaf /system/config/hostname string\nleaf /system/config/motd string\nmodule openconfig-interfaces\ncontainer /interfaces\nlist /interfaces/interface name\nleaf /interfaces/interface/name string\ncontainer /interfaces/interface/config\nleaf /interfaces/interface/config/mtu uint16\nleaf /interfaces/interface/config/description string\nleaf /interfaces/interface/config/enabled bool\nmodule lab\ncontainer /lab\nleaf /lab/big uint64\nleaf /lab/rate dec2\nleaf /lab/blob binary\nleaf-list /lab/tags string\nleaf /lab/via string ref /interfaces/interface/name\n";
 
-#[test]
-fn a_schema_of_three_modules_has_17_nodes(rt: HostRuntime) {
-    let nodes = match read_schema(rt.alloc(), SYSTEM.as_bytes()) {
+/// How many nodes the schema of this text has.
+fn nodes_of(alloc: Global, text: &[u8]) -> u32 {
+    match read_schema(alloc, text) {
         Ok(schema) => schema.nodes(),
         Err(_) => 0,
-    };
-    assert_eq!(rt; nodes, 17);
-    assert_eq!(rt; Cause::NoParent.text(), b"no parent".as_slice());
+    }
+}
+
+#[test]
+fn a_schema_of_three_modules_has_17_nodes(rt: HostRuntime) {
+    assert!(rt; nodes_of(rt.alloc(), SYSTEM.as_bytes()) == 17);
+    assert!(rt; Cause::NoParent.text() == b"no parent".as_slice());
 }

@@ -1,5 +1,6 @@
 // Schemas: nodes by their names.
-use base_kinds::{Copied, Elem, Keys, MOST_SCHEMA_NODES, Path, Same, Shape, Text, Texts};
+use crate::builders::{assert_of, text_of};
+use base_kinds::{Copied, Elem, Keys, MOST_SCHEMA_NODES, Path, Same, Shape, Texts};
 use schema_core::{Node, NodeId, Schema};
 use std::alloc::Global;
 use std::process::Abort;
@@ -28,10 +29,6 @@ const EXAMPLE: &[(&str, &str, &str)] = &[
     ("lab", "lab tags", "leaf-list"),
     ("lab", "lab via", "reference"),
 ];
-
-fn text_of(rt: &impl Abort, alloc: Global, word: &str) -> Text {
-    Text::of(alloc, word.as_bytes()).expect(rt, "a text")
-}
 
 fn texts_of(rt: &impl Abort, alloc: Global, line: &str) -> Texts {
     let mut texts = Texts::empty(alloc);
@@ -90,29 +87,38 @@ fn put(rt: &impl Abort, schema: &mut Schema, node: Node) {
 
 fn example(rt: &impl Abort, alloc: Global) -> Schema {
     let mut schema = Schema::empty(alloc);
-    for (module, line, word) in EXAMPLE.iter().copied() {
+    for (module, line, word) in EXAMPLE {
         put(rt, &mut schema, node_of(rt, alloc, module, line, word));
     }
     schema
 }
 
+/// Whether the node at the path has this number and this module, and a shape and keys where its sort has them.
+fn has_at(schema: &Schema, path: &Path, number: usize, module: &str, word: &str) -> bool {
+    match schema.find(path) {
+        Some(id) => {
+            let is_inner = word == "container" || word == "list";
+            id.0 as usize == number
+                && schema.shape_of(id).is_none() == is_inner
+                && schema.module_of(id).octets() == module.as_bytes()
+                && schema.keys_of(id).is_empty() == (word != "list")
+        }
+        None => false,
+    }
+}
+
+/// Each node of the example is found in the schema by its names, and there is no other.
+fn assert_found(rt: &impl Abort, alloc: Global, schema: &Schema) {
+    for (number, (module, line, word)) in EXAMPLE.iter().enumerate() {
+        let path = path_of(rt, alloc, line, word);
+        assert_of(rt, line, has_at(schema, &path, number, module, word));
+    }
+    assert!(rt; schema.nodes() == 17);
+}
+
 #[test]
 fn nodes_are_found_by_names_whatever_the_keys(rt: HostRuntime) {
-    let alloc = rt.alloc();
-    let schema = example(&rt, alloc);
-    let mut number = 0;
-    for (module, line, word) in EXAMPLE.iter().copied() {
-        let id = schema
-            .find(&path_of(&rt, alloc, line, word))
-            .expect(&rt, "a node");
-        assert_eq!(rt; id, NodeId(number), "{line}");
-        let is_inner = word == "container" || word == "list";
-        assert_eq!(rt; schema.shape_of(id).is_none(), is_inner, "{line}");
-        assert_eq!(rt; schema.module_of(id).octets(), module.as_bytes());
-        assert_eq!(rt; schema.keys_of(id).is_empty(), word != "list");
-        number = 17.min(number + 1);
-    }
-    assert_eq!(rt; schema.nodes(), 17);
+    assert_found(&rt, rt.alloc(), &example(&rt, rt.alloc()));
 }
 
 const OTHERS: &[&str] = &[
@@ -130,13 +136,17 @@ const OTHERS: &[&str] = &[
     "interfaces interface mtu",
 ];
 
+/// Whether the names of this line are those of no node of the example.
+fn is_of_no_node(rt: &impl Abort, alloc: Global, line: &str) -> bool {
+    example(rt, alloc)
+        .find(&path_of(rt, alloc, line, "r1"))
+        .is_none()
+}
+
 #[test]
 fn other_names_are_those_of_no_node(rt: HostRuntime) {
-    let alloc = rt.alloc();
-    let schema = example(&rt, alloc);
-    for line in OTHERS.iter().copied() {
-        let found = schema.find(&path_of(&rt, alloc, line, "r1"));
-        assert!(rt; found.is_none(), "{line}");
+    for line in OTHERS {
+        assert_of(&rt, line, is_of_no_node(&rt, rt.alloc(), line));
     }
 }
 
@@ -150,13 +160,15 @@ const PLACES: &[(&str, bool)] = &[
     ("lab via new", false),
 ];
 
+/// Whether a node with the names of this line has its place in the example.
+fn has_place(rt: &impl Abort, alloc: Global, line: &str) -> bool {
+    example(rt, alloc).has_parent(texts_of(rt, alloc, line).items())
+}
+
 #[test]
 fn a_name_has_its_place_below_an_inner_node(rt: HostRuntime) {
-    let alloc = rt.alloc();
-    let schema = example(&rt, alloc);
-    for (line, has_parent) in PLACES.iter().copied() {
-        let names = texts_of(&rt, alloc, line);
-        assert_eq!(rt; schema.has_parent(names.items()), has_parent, "{line}");
+    for (line, has_parent) in PLACES {
+        assert_of(&rt, line, has_place(&rt, rt.alloc(), line) == *has_parent);
     }
 }
 
@@ -172,8 +184,7 @@ fn children_are_found(schema: &Schema) -> bool {
 
 #[test]
 fn a_child_has_one_name_more(rt: HostRuntime) {
-    let schema = example(&rt, rt.alloc());
-    assert!(rt; children_are_found(&schema));
+    assert!(rt; children_are_found(&example(&rt, rt.alloc())));
 }
 
 /// The node of this name below `lab`.
@@ -189,12 +200,19 @@ fn refers_to(rt: &impl Abort, alloc: Global, node: &Node, names: &str) -> bool {
     }
 }
 
+/// Whether the nodes below `lab` have all that the example says of them.
+fn has_all_of_lab(rt: &impl Abort, alloc: Global, schema: &Schema) -> bool {
+    let via = node_of_lab(rt, schema, b"via");
+    let tags = node_of_lab(rt, schema, b"tags");
+    via.is_mandatory()
+        && refers_to(rt, alloc, via, "interfaces interface name")
+        && !tags.is_mandatory()
+        && tags.maximum() == Some(9)
+}
+
 #[test]
 fn a_copy_has_all_of_each_node(rt: HostRuntime) {
     let alloc = rt.alloc();
     let copy = example(&rt, alloc).copy(alloc).expect(&rt, "memory");
-    let via = node_of_lab(&rt, &copy, b"via");
-    assert!(rt; via.is_mandatory() && refers_to(&rt, alloc, via, "interfaces interface name"));
-    let tags = node_of_lab(&rt, &copy, b"tags");
-    assert!(rt; !tags.is_mandatory() && tags.maximum() == Some(9));
+    assert!(rt; has_all_of_lab(&rt, alloc, &copy));
 }

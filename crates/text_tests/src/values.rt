@@ -1,3 +1,4 @@
+use crate::builders::{assert_of, prints, text_of};
 use base_kinds::{Same, Seq, Shape, Text, Texts, Value};
 use plain_texts::natural_of;
 use std::alloc::Global;
@@ -7,32 +8,33 @@ use value_core::{
     one_decimal, one_value_a_key, read_base64, read_decimal, read_integer, read_key, value_text,
 };
 
-fn text_of(rt: &impl Abort, alloc: Global, text: &str) -> Text {
-    Text::of(alloc, text.as_bytes()).expect(rt, "a text")
+/// Whether the value is one of the shape, and written as this key.
+fn has_key(rt: &impl Abort, alloc: Global, shape: &Shape, value: &Value, key: &Text) -> bool {
+    match value {
+        Value::List(_) => false,
+        _ => check_value(shape, value) && key_text(alloc, value).expect(rt, "a key").same(key),
+    }
 }
 
-/// Whether the text is the key of a value of the shape, which is written as it.
-fn is_key(rt: &impl Abort, alloc: Global, shape: &Shape, text: &str) -> bool {
-    let text = text_of(rt, alloc, text);
-    match read_key(alloc, shape, &text) {
-        Ok(Value::List(_)) => false,
-        Ok(value) => {
-            check_value(shape, &value) && key_text(alloc, &value).expect(rt, "a key").same(&text)
-        }
+/// Whether the text is read as a value of the shape, which is written as it.
+fn is_read_back(rt: &impl Abort, alloc: Global, shape: &Shape, text: &Text) -> bool {
+    match read_key(alloc, shape, text) {
+        Ok(value) => has_key(rt, alloc, shape, &value, text),
         Err(ValueFault::BadValue) => false,
         Err(ValueFault::NoMemory) => panic!(rt; "memory"),
     }
 }
 
-/// Whether the text of the value is this one.
-fn has_text(rt: &impl Abort, alloc: Global, value: &Value, text: &[u8]) -> bool {
-    let mut out = Seq::empty(alloc);
-    value_text(alloc, value, &mut out).expect(rt, "memory");
-    out.items() == text
+/// Whether the text is the key of a value of the shape.
+fn is_key(rt: &impl Abort, alloc: Global, shape: Shape, text: &str) -> bool {
+    is_read_back(rt, alloc, &shape, &text_of(rt, alloc, text))
 }
 
-fn prints(alloc: Global, fault: ValueFault, text: &str) -> bool {
-    format!(in alloc; "{fault}").is_ok_and(|printed| printed.as_str() == text)
+/// Whether the text of the value is this one.
+fn has_text(rt: &impl Abort, alloc: Global, value: Value, text: &str) -> bool {
+    let mut out = Seq::empty(alloc);
+    value_text(alloc, &value, &mut out).expect(rt, "memory");
+    out.items() == text.as_bytes()
 }
 
 #[test]
@@ -68,12 +70,9 @@ const SIGNED: &[(u8, &str, bool)] = &[
 
 #[test]
 fn signed_integers_are_keys_in_their_range(rt: HostRuntime) {
-    for (width, text, taken) in SIGNED.iter().copied() {
-        assert_eq!(rt;
-            is_key(&rt, rt.alloc(), &Shape::Int(width), text),
-            taken,
-            "{text}"
-        );
+    for (width, text, taken) in SIGNED {
+        let is_key = is_key(&rt, rt.alloc(), Shape::Int(*width), text);
+        assert_of(&rt, text, is_key == *taken);
     }
 }
 
@@ -94,12 +93,9 @@ const UNSIGNED: &[(u8, &str, bool)] = &[
 
 #[test]
 fn unsigned_integers_are_keys_in_their_range(rt: HostRuntime) {
-    for (width, text, taken) in UNSIGNED.iter().copied() {
-        assert_eq!(rt;
-            is_key(&rt, rt.alloc(), &Shape::Uint(width), text),
-            taken,
-            "{text}"
-        );
+    for (width, text, taken) in UNSIGNED {
+        let is_key = is_key(&rt, rt.alloc(), Shape::Uint(*width), text);
+        assert_of(&rt, text, is_key == *taken);
     }
 }
 
@@ -123,12 +119,9 @@ const DECIMALS: &[(u8, &str, bool)] = &[
 
 #[test]
 fn decimals_are_keys_as_they_are_written(rt: HostRuntime) {
-    for (places, text, taken) in DECIMALS.iter().copied() {
-        assert_eq!(rt;
-            is_key(&rt, rt.alloc(), &Shape::Dec(places), text),
-            taken,
-            "{text}"
-        );
+    for (places, text, taken) in DECIMALS {
+        let is_key = is_key(&rt, rt.alloc(), Shape::Dec(*places), text);
+        assert_of(&rt, text, is_key == *taken);
     }
 }
 
@@ -142,92 +135,99 @@ fn colours(rt: &impl Abort, alloc: Global) -> Shape {
     Shape::Enum(colours)
 }
 
+fn is_bool(rt: &impl Abort, alloc: Global, text: &str) -> bool {
+    is_key(rt, alloc, Shape::Bool, text)
+}
+
+fn is_colour(rt: &impl Abort, alloc: Global, text: &str) -> bool {
+    is_key(rt, alloc, colours(rt, alloc), text)
+}
+
 #[test]
 fn words_are_keys(rt: HostRuntime) {
     let alloc = rt.alloc();
-    assert!(rt; is_key(&rt, alloc, &Shape::Bool, "true"));
-    assert!(rt; is_key(&rt, alloc, &Shape::Bool, "false"));
-    assert!(rt; !is_key(&rt, alloc, &Shape::Bool, "True"));
-    assert!(rt; is_key(&rt, alloc, &Shape::Text, "a\"é"));
-    let shape = colours(&rt, alloc);
-    assert!(rt; is_key(&rt, alloc, &shape, "GREEN"));
-    assert!(rt; !is_key(&rt, alloc, &shape, "BLUE"));
+    assert!(rt; is_bool(&rt, alloc, "true") && is_bool(&rt, alloc, "false"));
+    assert!(rt; !is_bool(&rt, alloc, "True"));
+    assert!(rt; is_key(&rt, alloc, Shape::Text, "a\"é"));
+    assert!(rt; is_colour(&rt, alloc, "GREEN") && !is_colour(&rt, alloc, "BLUE"));
 }
 
 /// RFC 4648 10, and its 3.5 and 3.2: bits behind the last octet, and no padding
-const BASE64: &[(&[u8], &str, bool)] = &[
-    (b"", "", true),
-    (b"f", "Zg==", true),
-    (b"fo", "Zm8=", true),
-    (b"foo", "Zm9v", true),
-    (b"foob", "Zm9vYg==", true),
-    (b"fooba", "Zm9vYmE=", true),
-    (b"foobar", "Zm9vYmFy", true),
-    (b"", "Zm9=", false),
-    (b"", "Zm8", false),
+const BASE64: &[(&str, &str, bool)] = &[
+    ("", "", true),
+    ("f", "Zg==", true),
+    ("fo", "Zm8=", true),
+    ("foo", "Zm9v", true),
+    ("foob", "Zm9vYg==", true),
+    ("fooba", "Zm9vYmE=", true),
+    ("foobar", "Zm9vYmFy", true),
+    ("", "Zm9=", false),
+    ("", "Zm8", false),
 ];
 
-fn reads_base64(alloc: Global, text: &str, octets: &[u8]) -> bool {
-    read_base64(alloc, text.as_bytes()).is_ok_and(|read| read.items() == octets)
+fn reads_base64(alloc: Global, text: &str, octets: &str) -> bool {
+    match read_base64(alloc, text.as_bytes()) {
+        Ok(read) => read.items() == octets.as_bytes(),
+        Err(_) => false,
+    }
 }
 
 #[test]
 fn base64_is_that_of_the_standard(rt: HostRuntime) {
     let alloc = rt.alloc();
-    for (octets, text, taken) in BASE64.iter().copied() {
-        assert_eq!(rt; is_key(&rt, alloc, &Shape::Bin, text), taken, "{text}");
-        assert!(rt; !taken || reads_base64(alloc, text, octets), "{text}");
+    for (octets, text, taken) in BASE64 {
+        let is_key = is_key(&rt, alloc, Shape::Bin, text);
+        let is_read = !*taken || reads_base64(alloc, text, octets);
+        assert_of(&rt, text, is_key == *taken && is_read);
     }
 }
 
 /// Places, texts, and the digits that are read (RFC 7950 9.3.1: more forms than the canonical one).
-const DECIMALS_READ: &[(u8, &[u8], Option<i64>)] = &[
-    (2, b"1.50", Some(150)),
-    (2, b"1", Some(100)),
-    (2, b"-001", Some(-100)),
-    (2, b"-0", Some(0)),
-    (1, b"-0.5", Some(-5)),
-    (18, b"-9.223372036854775808", Some(i64::MIN)),
-    (18, b"9.223372036854775808", None),
-    (18, b"10", None),
-    (2, b"1.555", None),
-    (2, b"1.", None),
-    (2, b".5", None),
-    (2, b"", None),
-    (2, b"+1", None),
-    (2, b"1.2.3", None),
-    (2, b"--1", None),
+const DECIMALS_READ: &[(u8, &str, Option<i64>)] = &[
+    (2, "1.50", Some(150)),
+    (2, "1", Some(100)),
+    (2, "-001", Some(-100)),
+    (2, "-0", Some(0)),
+    (1, "-0.5", Some(-5)),
+    (18, "-9.223372036854775808", Some(i64::MIN)),
+    (18, "9.223372036854775808", None),
+    (18, "10", None),
+    (2, "1.555", None),
+    (2, "1.", None),
+    (2, ".5", None),
+    (2, "", None),
+    (2, "+1", None),
+    (2, "1.2.3", None),
+    (2, "--1", None),
 ];
 
 #[test]
 fn numbers_are_read(rt: HostRuntime) {
-    assert_eq!(rt; natural_of(b"18446744073709551615"), Some(u64::MAX));
-    assert_eq!(rt; read_integer(b"-9223372036854775808"), Some(i64::MIN));
-    for (places, octets, digits) in DECIMALS_READ.iter().copied() {
-        assert_eq!(rt; read_decimal(places, octets), digits);
+    assert!(rt; natural_of(b"18446744073709551615") == Some(u64::MAX));
+    assert!(rt; read_integer(b"-9223372036854775808") == Some(i64::MIN));
+    for (places, octets, digits) in DECIMALS_READ {
+        assert!(rt; read_decimal(*places, octets.as_bytes()) == *digits);
     }
+}
+
+fn numbers_have_their_texts(rt: &impl Abort, alloc: Global) -> bool {
+    has_text(rt, alloc, Value::Int(-1), "-1")
+        && has_text(rt, alloc, Value::Uint(1), "1")
+        && has_text(rt, alloc, Value::Dec(150, 2), "1.5")
 }
 
 #[test]
 fn values_have_their_texts(rt: HostRuntime) {
     let alloc = rt.alloc();
-    assert!(rt; has_text(&rt, alloc, &Value::Int(-1), b"-1"));
-    assert!(rt; has_text(&rt, alloc, &Value::Uint(1), b"1"));
-    assert!(rt; has_text(&rt, alloc, &Value::Dec(150, 2), b"1.5"));
+    assert!(rt; numbers_have_their_texts(&rt, alloc));
     // two to four octets of UTF-8, and what stands round the plain octets
     let wide = Value::Text(text_of(&rt, alloc, "é€😀"));
-    assert!(rt;
-        has_text(
-            &rt,
-            alloc,
-            &wide,
-            b"\"\\c3\\a9\\e2\\82\\ac\\f0\\9f\\98\\80\""
-        )
-    );
+    let escaped = "\"\\c3\\a9\\e2\\82\\ac\\f0\\9f\\98\\80\"";
+    assert!(rt; has_text(&rt, alloc, wide, escaped));
     let bounds = Value::Enum(text_of(&rt, alloc, "\x1f !\"\\~\x7f"));
-    assert!(rt; has_text(&rt, alloc, &bounds, b"\"\\1f !\\22\\5c~\\7f\""));
+    assert!(rt; has_text(&rt, alloc, bounds, "\"\\1f !\\22\\5c~\\7f\""));
     let octets = Value::Bin(Seq::of(alloc, b"foob").expect(&rt, "memory"));
-    assert!(rt; has_text(&rt, alloc, &octets, b"b:Zm9vYg=="));
+    assert!(rt; has_text(&rt, alloc, octets, "b:Zm9vYg=="));
 }
 
 /// A list of two values.
@@ -241,8 +241,8 @@ fn pair(rt: &impl Abort, alloc: Global) -> Value {
 #[test]
 fn lists_have_their_texts(rt: HostRuntime) {
     let alloc = rt.alloc();
-    assert!(rt; has_text(&rt, alloc, &Value::List(Seq::empty(alloc)), b"[]"));
-    assert!(rt; has_text(&rt, alloc, &pair(&rt, alloc), b"[-0.5,true]"));
+    assert!(rt; has_text(&rt, alloc, Value::List(Seq::empty(alloc)), "[]"));
+    assert!(rt; has_text(&rt, alloc, pair(&rt, alloc), "[-0.5,true]"));
 }
 
 #[test]

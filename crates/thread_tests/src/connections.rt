@@ -1,11 +1,9 @@
 //! TCP connections on loopback.
-use base_lists::Bytes;
 use edge_traits::{Source, read_to_limit, write_whole};
 use real_edges::{Bell, StreamSink, StreamSource, TcpDoor, TcpSink, TcpSource, ThreadStarter};
 use std::alloc::Global;
-use std::net::{Shutdown, TcpStream};
+use std::net::{Shutdown, SocketAddr, TcpStream};
 use std::sync::Wait;
-use std::test::Fail;
 use std::thread::Threads;
 use thread_traits::{Door, Job, Next, Running};
 
@@ -29,16 +27,21 @@ impl<R: Wait + Clone + Drop> Job for Echo<R> {
             mut reader,
             mut writer,
         } = self;
-        let mut buffer = [0; 4];
-        for _ in 0..u64::MAX {
-            match reader.read(&mut buffer) {
-                Ok(0) => return true,
-                Ok(count) if write_whole(&mut writer, &buffer[..count]).is_ok() => {}
-                _ => return false,
-            }
-        }
-        false
+        sends_back(&mut reader, &mut writer)
     }
+}
+
+/// Sends back what comes, until the peer has sent all. Answers whether no read or write failed.
+fn sends_back<R: Wait + Clone + Drop>(reader: &mut TcpSource<R>, writer: &mut TcpSink) -> bool {
+    let mut buffer = [0; 4];
+    for _ in 0..u64::MAX {
+        match reader.read(&mut buffer) {
+            Ok(0) => return true,
+            Ok(count) if write_whole(writer, &buffer[..count]).is_ok() => {}
+            _ => return false,
+        }
+    }
+    false
 }
 
 /// A door that isn't open yet.
@@ -50,8 +53,10 @@ fn closed_door<R: Wait + Copy + Drop>(rt: &R, host: &HostRuntime) -> Option<TcpD
 /// A door that is open on loopback, at a port that the system chose.
 fn open_door<R: Wait + Copy + Drop>(rt: &R, host: &HostRuntime) -> Option<TcpDoor<R>> {
     let mut door = closed_door(rt, host)?;
-    door.listen("127.0.0.1:0").ok()?;
-    Some(door)
+    match door.listen("127.0.0.1:0") {
+        Ok(()) => Some(door),
+        Err(_) => None,
+    }
 }
 
 fn next_link<R: Wait + Clone + Drop>(door: &mut TcpDoor<R>) -> Option<(TcpSource<R>, TcpSink)> {
@@ -62,12 +67,25 @@ fn next_link<R: Wait + Clone + Drop>(door: &mut TcpDoor<R>) -> Option<(TcpSource
     }
 }
 
-/// What a client reads that sends these octets and then no more.
-fn answer_to(alloc: Global, client: TcpStream, octets: &[u8]) -> Option<Bytes> {
-    let mut writer = StreamSink::of(client.try_clone().ok()?);
-    write_whole(&mut writer, octets).ok()?;
-    client.shutdown(Shutdown::Write).ok()?;
-    read_to_limit(alloc, &mut StreamSource::of(client), 1000).ok()
+fn writes(stream: TcpStream, octets: &[u8]) -> bool {
+    write_whole(&mut StreamSink::of(stream), octets).is_ok()
+}
+
+/// Whether a client sends these octets, and then tells that it sends no more.
+fn sends(client: &TcpStream, octets: &[u8]) -> bool {
+    match client.try_clone() {
+        Ok(stream) => writes(stream, octets) && client.shutdown(Shutdown::Write).is_ok(),
+        Err(_) => false,
+    }
+}
+
+/// Whether these octets are all that a client reads.
+fn reads(alloc: Global, client: TcpStream, octets: &[u8]) -> bool {
+    let answer = read_to_limit(alloc, &mut StreamSource::of(client), 1000);
+    match answer {
+        Ok(answer) => answer.items() == octets,
+        Err(_) => false,
+    }
 }
 
 /// A connection of a client, with a thread at its other end.
@@ -76,23 +94,33 @@ struct Talk<R: Wait + Clone + Drop> {
     running: Running<Echo<R>>,
 }
 
+/// A thread at this side of the next connection.
+fn begin_echo<R: Threads + Wait + Copy + Drop + Send + 'static>(
+    rt: &R,
+    alloc: Global,
+    door: &mut TcpDoor<R>,
+) -> Option<Running<Echo<R>>> {
+    let (reader, writer) = next_link(door)?;
+    let mut starter = ThreadStarter::make(*rt, alloc);
+    starter.start(Echo { reader, writer }).ok()
+}
+
 fn begin<R: Threads + Wait + Copy + Drop + Send + 'static>(
     rt: &R,
     host: &HostRuntime,
     door: &mut TcpDoor<R>,
 ) -> Option<Talk<R>> {
     let client = TcpStream::connect(host, door.address()?).ok()?;
-    let (reader, writer) = next_link(door)?;
-    let mut starter = ThreadStarter::make(*rt, host.alloc());
-    let running = starter.start(Echo { reader, writer }).ok()?;
+    let running = begin_echo(rt, host.alloc(), door)?;
     Some(Talk { client, running })
 }
 
+/// Whether a client that sends these octets and then no more reads just these.
 fn reads_back(alloc: Global, client: TcpStream, octets: &[u8]) -> bool {
-    match answer_to(alloc, client, octets) {
-        Some(answer) => answer.items() == octets,
-        None => false,
+    if !sends(&client, octets) {
+        return false;
     }
+    reads(alloc, client, octets)
 }
 
 /// Whether the client reads what it sends, and the thread found no fault.
@@ -135,11 +163,20 @@ fn both_go_well<R: Threads + Wait + Copy + Drop + Send + 'static>(
     }
 }
 
+/// They do so at a door that is opened for them.
+fn door_serves_both<R: Threads + Wait + Copy + Drop + Send + 'static>(
+    rt: &R,
+    host: &HostRuntime,
+) -> bool {
+    match open_door(rt, host) {
+        Some(mut door) => both_go_well(rt, host, &mut door),
+        None => false,
+    }
+}
+
 #[test]
-fn connections_are_served_beside_one_another(rt: HostRuntime) -> Result<(), Fail> {
-    let mut door = open_door(&rt, &rt).ok_or("no door")?;
-    assert!(rt; both_go_well(&rt, &rt, &mut door));
-    Ok(())
+fn connections_are_served_beside_one_another(rt: HostRuntime) {
+    assert!(rt; door_serves_both(&rt, &rt));
 }
 
 fn is_failed<R: Drop>(next: Next<TcpSource<R>, TcpSink>) -> bool {
@@ -150,28 +187,74 @@ fn is_failed<R: Drop>(next: Next<TcpSource<R>, TcpSink>) -> bool {
     }
 }
 
+/// Whether a door can't be opened at what is no address, has none then, and fails.
+fn cannot_be_opened<R: Wait + Clone + Drop>(door: &mut TcpDoor<R>) -> bool {
+    door.listen("no address").is_err() && door.address().is_none() && is_failed(door.next())
+}
+
+fn closed_door_fails<R: Wait + Copy + Drop>(rt: &R, host: &HostRuntime) -> bool {
+    match closed_door(rt, host) {
+        Some(mut door) => cannot_be_opened(&mut door),
+        None => false,
+    }
+}
+
 #[test]
-fn a_door_fails_that_cannot_be_opened(rt: HostRuntime) -> Result<(), Fail> {
-    let mut door = closed_door(&rt, &rt).ok_or("no door")?;
-    assert!(rt; door.listen("no address").is_err());
-    assert!(rt; door.address().is_none());
-    assert!(rt; is_failed(door.next()));
-    Ok(())
+fn a_door_fails_that_cannot_be_opened(rt: HostRuntime) {
+    assert!(rt; closed_door_fails(&rt, &rt));
+}
+
+/// Whether a connection comes in at the door with this address. It ends at this side first.
+fn link_ends<R: Wait + Clone + Drop>(
+    host: &HostRuntime,
+    door: &mut TcpDoor<R>,
+    address: SocketAddr,
+) -> bool {
+    match TcpStream::connect(host, address) {
+        Ok(client) => {
+            let has_come = next_link(door).is_some();
+            drop(client);
+            has_come
+        }
+        Err(_) => false,
+    }
+}
+
+/// The address of a door, behind such a connection.
+fn address_behind_link<R: Wait + Clone + Drop>(
+    host: &HostRuntime,
+    door: &mut TcpDoor<R>,
+) -> Option<String> {
+    let address = door.address()?;
+    if link_ends(host, door, address) {
+        format!(in host.alloc(); "{address}").ok()
+    } else {
+        None
+    }
 }
 
 /// The address of a door that is gone, behind a connection that ended at this side first.
 fn address_left<R: Wait + Copy + Drop>(rt: &R, host: &HostRuntime) -> Option<String> {
     let mut door = open_door(rt, host)?;
-    let address = door.address()?;
-    let _client = TcpStream::connect(host, address).ok()?;
-    drop(next_link(&mut door)?);
-    format!(in host.alloc(); "{address}").ok()
+    address_behind_link(host, &mut door)
+}
+
+/// Whether a further door can be opened at this address.
+fn opens_at<R: Wait + Copy + Drop>(rt: &R, host: &HostRuntime, address: &str) -> bool {
+    match closed_door(rt, host) {
+        Some(mut door) => door.listen(address).is_ok(),
+        None => false,
+    }
+}
+
+fn address_is_free<R: Wait + Copy + Drop>(rt: &R, host: &HostRuntime) -> bool {
+    match address_left(rt, host) {
+        Some(address) => opens_at(rt, host, &address),
+        None => false,
+    }
 }
 
 #[test]
-fn an_address_is_free_once_its_door_is_gone(rt: HostRuntime) -> Result<(), Fail> {
-    let address = address_left(&rt, &rt).ok_or("no door")?;
-    let mut door = closed_door(&rt, &rt).ok_or("no door")?;
-    assert!(rt; door.listen(&address).is_ok());
-    Ok(())
+fn an_address_is_free_once_its_door_is_gone(rt: HostRuntime) {
+    assert!(rt; address_is_free(&rt, &rt));
 }

@@ -34,10 +34,23 @@ fn weight_of(rows: &Rows) -> u64 {
     weight
 }
 
+/// Whether the part of the tree that some pattern covers is of these rows.
+fn is_part<T: TreeLike>(
+    rt: &impl Abort,
+    alloc: Global,
+    tree: &T,
+    patterns: &Paths,
+    rows: &Rows,
+) -> bool {
+    let part = tree.part(alloc, patterns).expect(rt, "memory");
+    part.same(rows)
+}
+
 /// Whether the tree has these rows, as many of them, and as heavy ones.
 fn has_rows<T: TreeLike>(rt: &impl Abort, alloc: Global, tree: &T, model: &Rows) -> bool {
-    let rows = tree.part(alloc, &root(rt, alloc)).expect(rt, "memory");
-    rows.same(model) && tree.count() == model.len() as u64 && tree.weight() == weight_of(model)
+    is_part(rt, alloc, tree, &root(rt, alloc), model)
+        && tree.count() == model.len() as u64
+        && tree.weight() == weight_of(model)
 }
 
 /// Whether the part of the tree is that of the rows.
@@ -48,8 +61,26 @@ fn has_part<T: TreeLike>(
     model: &Rows,
     patterns: &Paths,
 ) -> bool {
-    let part = tree.part(alloc, patterns).expect(rt, "memory");
-    part.same(&part_of(alloc, patterns, model).expect(rt, "memory"))
+    let part = part_of(alloc, patterns, model).expect(rt, "memory");
+    is_part(rt, alloc, tree, patterns, &part)
+}
+
+fn assert_same<T: TreeLike>(
+    rt: &impl Abort,
+    alloc: Global,
+    tree: &T,
+    model: &Rows,
+    patterns: &Paths,
+    round: u32,
+) {
+    assert!(rt;
+        has_rows(rt, alloc, tree, model),
+        "rows after round {round}"
+    );
+    assert!(rt;
+        has_part(rt, alloc, tree, model, patterns),
+        "part after round {round}"
+    );
 }
 
 /// The rows behind one operation.
@@ -57,6 +88,12 @@ fn rows_behind(rt: &impl Abort, alloc: Global, op: Op, rows: &Rows) -> Rows {
     let mut ops = Ops::empty(alloc);
     ops.push(op).expect(rt, "memory");
     effect(alloc, &ops, rows).expect(rt, "memory")
+}
+
+/// Applies the operation to both, and answers the rows behind it.
+fn apply<T: TreeLike>(rt: &impl Abort, alloc: Global, tree: &mut T, op: Op, rows: &Rows) -> Rows {
+    tree.apply(alloc, &op).expect(rt, "memory");
+    rows_behind(rt, alloc, op, rows)
 }
 
 /// Applies so many generated operations to both, one after another, and compares the rows, their number and weight,
@@ -67,16 +104,9 @@ fn compare<T: TreeLike>(rt: &impl Abort, alloc: Global, tree: &mut T, rounds: u3
     let mut model = Rows::empty(alloc);
     let mut most = 0;
     for round in 0..rounds {
-        let op = generator.op(rt, alloc);
-        tree.apply(alloc, &op).expect(rt, "memory");
-        model = rows_behind(rt, alloc, op, &model);
-        assert!(rt;
-            has_rows(rt, alloc, tree, &model),
-            "rows after round {round}"
-        );
+        model = apply(rt, alloc, tree, generator.op(rt, alloc), &model);
         let patterns = generator.patterns(rt, alloc);
-        let is_part = has_part(rt, alloc, tree, &model, &patterns);
-        assert!(rt; is_part, "part after round {round}");
+        assert_same(rt, alloc, tree, &model, &patterns, round);
         most = most.max(model.len());
     }
     most

@@ -47,7 +47,7 @@ impl Generator {
     /// The keys of an element, which rise by name; in a pattern each may be left out.
     fn keys(&mut self, rt: &impl Abort, alloc: Global, is_row: bool) -> Keys {
         let mut keys = Keys::empty(alloc);
-        for key in KEYS.iter().copied() {
+        for key in KEYS {
             if is_row || self.below(2) == 0 {
                 let value = self.word(if is_row { &VALUES[..2] } else { VALUES });
                 keys.push((text_of(rt, alloc, key), text_of(rt, alloc, value)))

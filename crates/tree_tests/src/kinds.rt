@@ -1,3 +1,4 @@
+use crate::builders::text_of;
 use base_kinds::{
     Act, Bytes, Copied, Elem, Entry, Keys, Kind, NoMemory, Op, Ops, Path, Paths, Refusal, Row,
     Rows, Same, Text, Value, Values, default_limits, first_set_is_entry_one, validity_is_six_rules,
@@ -5,10 +6,6 @@ use base_kinds::{
 use std::alloc::Global;
 use std::cmp::Ordering;
 use std::process::Abort;
-
-fn text_of(rt: &impl Abort, alloc: Global, word: &str) -> Text {
-    Text::of(alloc, word.as_bytes()).expect(rt, "a text")
-}
 
 fn elem_of(rt: &impl Abort, alloc: Global, name: &str, keys: &[(&str, &str)]) -> Elem {
     let mut pairs = Keys::empty(alloc);
@@ -22,10 +19,13 @@ fn elem_of(rt: &impl Abort, alloc: Global, name: &str, keys: &[(&str, &str)]) ->
     }
 }
 
-fn path_of(rt: &impl Abort, alloc: Global, names: &[&str]) -> Path {
+/// The name of an element, and its keys with their values.
+type Named = (&'static str, &'static [(&'static str, &'static str)]);
+
+fn path_of(rt: &impl Abort, alloc: Global, elements: &[Named]) -> Path {
     let mut path = Path::empty(alloc);
-    for name in names {
-        path.push(elem_of(rt, alloc, name, &[]))
+    for (name, keys) in elements {
+        path.push(elem_of(rt, alloc, name, keys))
             .expect(rt, "memory");
     }
     path
@@ -80,10 +80,14 @@ fn values_of_each_kind(rt: &impl Abort, alloc: Global) -> Values {
     values
 }
 
+fn is_same<T: Same>(a: &T, b: &T, wanted: bool) -> bool {
+    a.same(b) == wanted
+}
+
 fn assert_distinct<T: Same>(rt: &impl Abort, items: &[T]) {
     for (i, a) in items.iter().enumerate() {
         for (j, b) in items.iter().enumerate() {
-            assert_eq!(rt; a.same(b), i == j, "same at {i} and {j}");
+            assert!(rt; is_same(a, b, i == j), "same at {i} and {j}");
         }
     }
 }
@@ -101,39 +105,85 @@ fn assert_rising<T: Ord>(rt: &impl Abort, items: &[T]) {
     }
 }
 
+const INTERFACE: &[Named] = &[
+    ("interfaces", &[]),
+    ("interface", &[("name", "eth0"), ("unit", "1")]),
+];
+
 /// The row of an entry of a list, with a copy of this value.
 fn interface_row(rt: &impl Abort, alloc: Global, value: &Value) -> Row {
-    let elem = elem_of(rt, alloc, "interface", &[("name", "eth0"), ("unit", "1")]);
-    let mut path = path_of(rt, alloc, &["interfaces"]);
-    path.push(elem).expect(rt, "memory");
     Row {
-        path,
+        path: path_of(rt, alloc, INTERFACE),
         value: value.copy(alloc).expect(rt, "memory"),
     }
+}
+
+/// Whether a row is equal to another one, by each of the ways to compare them.
+fn is_equal(row: &Row, other: &Row) -> bool {
+    row == other && row.same(other)
+}
+
+/// Whether a row is another one, by each of the ways to compare them.
+fn is_other(row: &Row, other: &Row) -> bool {
+    row != other && !row.same(other)
 }
 
 /// Whether the copy of a row is equal to it.
 fn copy_is_equal(rt: &impl Abort, alloc: Global, row: &Row) -> bool {
     let copy = row.copy(alloc).expect(rt, "memory");
-    copy == *row && copy.same(row)
+    is_equal(&copy, row)
 }
 
-/// Whether a copy of a row that gets an element more is another row, and leaves the row as it was.
-fn longer_copy_differs(rt: &impl Abort, alloc: Global, row: &Row) -> bool {
+/// A copy of a row that gets an element more.
+fn longer_copy(rt: &impl Abort, alloc: Global, row: &Row) -> Row {
     let mut copy = row.copy(alloc).expect(rt, "memory");
     copy.path
         .push(elem_of(rt, alloc, "mtu", &[]))
         .expect(rt, "memory");
-    (row.path.len(), copy.path.len()) == (2, 3) && copy != *row && !copy.same(row)
+    copy
+}
+
+fn is_longer(longer: &Row, row: &Row) -> bool {
+    row.path.len() == 2 && longer.path.len() == 3 && is_other(longer, row)
+}
+
+/// Whether a copy of a row that gets an element more is another row, and leaves the row as it was.
+fn longer_copy_differs(rt: &impl Abort, alloc: Global, row: &Row) -> bool {
+    let longer = longer_copy(rt, alloc, row);
+    is_longer(&longer, row)
+}
+
+/// A row of the same path with another value.
+fn row_of_seven(rt: &impl Abort, alloc: Global, row: &Row) -> Row {
+    Row {
+        path: row.path.copy(alloc).expect(rt, "memory"),
+        value: Value::Int(7),
+    }
 }
 
 /// Whether a row of the same path with another value is another row.
 fn other_value_differs(rt: &impl Abort, alloc: Global, row: &Row) -> bool {
-    let other = Row {
-        path: row.path.copy(alloc).expect(rt, "memory"),
-        value: Value::Int(7),
-    };
-    other != *row && !other.same(row)
+    let other = row_of_seven(rt, alloc, row);
+    is_other(&other, row)
+}
+
+/// Whether the copies of a row are rows of their own.
+fn has_copies(rt: &impl Abort, alloc: Global, row: &Row) -> bool {
+    copy_is_equal(rt, alloc, row)
+        && longer_copy_differs(rt, alloc, row)
+        && other_value_differs(rt, alloc, row)
+}
+
+/// Whether the copies of a row with this value are rows of their own.
+fn is_copied(rt: &impl Abort, alloc: Global, value: &Value) -> bool {
+    let row = interface_row(rt, alloc, value);
+    has_copies(rt, alloc, &row)
+}
+
+fn assert_copied(rt: &impl Abort, alloc: Global, values: &[Value]) {
+    for value in values {
+        assert!(rt; is_copied(rt, alloc, value), "{value:?}");
+    }
 }
 
 #[test]
@@ -141,31 +191,26 @@ fn a_copy_of_a_row_is_a_row_of_its_own(rt: HostRuntime) {
     let alloc = rt.alloc();
     let values = values_of_each_kind(&rt, alloc);
     assert_distinct(&rt, values.items());
-    for value in values.items() {
-        let row = interface_row(&rt, alloc, value);
-        assert!(rt; copy_is_equal(&rt, alloc, &row), "{value:?}");
-        assert!(rt; longer_copy_differs(&rt, alloc, &row), "{value:?}");
-        assert!(rt; other_value_differs(&rt, alloc, &row), "{value:?}");
-    }
+    assert_copied(&rt, alloc, values.items());
 }
 
-/// One row, at a path of these names.
-fn one_row(rt: &impl Abort, alloc: Global, names: &[&str]) -> Rows {
-    let row = Row {
-        path: path_of(rt, alloc, names),
-        value: Value::Text(text_of(rt, alloc, "r1")),
-    };
+/// One row, at this path.
+fn one_row(rt: &impl Abort, alloc: Global, elements: &[Named]) -> Rows {
     let mut rows = Rows::empty(alloc);
-    rows.push(row).expect(rt, "memory");
+    rows.push(Row {
+        path: path_of(rt, alloc, elements),
+        value: Value::Text(text_of(rt, alloc, "r1")),
+    })
+    .expect(rt, "memory");
     rows
 }
 
-/// An operation on the path of these names, with a row there.
-fn op_of(rt: &impl Abort, alloc: Global, act: Act, names: &[&str]) -> Op {
+/// An operation on this path, with a row there.
+fn op_of(rt: &impl Abort, alloc: Global, act: Act, elements: &[Named]) -> Op {
     Op {
         act,
-        path: path_of(rt, alloc, names),
-        rows: one_row(rt, alloc, names),
+        path: path_of(rt, alloc, elements),
+        rows: one_row(rt, alloc, elements),
     }
 }
 
@@ -179,17 +224,16 @@ fn op_is_copied(rt: &impl Abort, alloc: Global, op: &Op) -> bool {
 
 const ACTS: &[Act] = &[Act::Delete, Act::Replace, Act::Update];
 
+const CONFIG: &[Named] = &[("system", &[]), ("config", &[])];
+
 #[test]
 fn a_copy_of_an_operation_has_its_rows(rt: HostRuntime) {
     let alloc = rt.alloc();
-    for act in ACTS.iter().copied() {
-        let op = op_of(&rt, alloc, act, &["system", "config"]);
-        assert!(rt; op_is_copied(&rt, alloc, &op), "{act:?}");
+    for act in ACTS {
+        let is_copied = op_is_copied(&rt, alloc, &op_of(&rt, alloc, *act, CONFIG));
+        assert!(rt; is_copied, "{act:?}");
     }
 }
-
-/// The name of an element, and its keys with their values.
-type Named = (&'static str, &'static [(&'static str, &'static str)]);
 
 const RISING_ELEMENTS: &[Named] = &[
     ("", &[]),
@@ -206,18 +250,9 @@ const RISING_ELEMENTS: &[Named] = &[
     ("\u{e9}", &[]),
 ];
 
-fn path_with_keys(rt: &impl Abort, alloc: Global, elements: &[Named]) -> Path {
-    let mut path = Path::empty(alloc);
-    for (name, keys) in elements.iter().copied() {
-        path.push(elem_of(rt, alloc, name, keys))
-            .expect(rt, "memory");
-    }
-    path
-}
-
 #[test]
 fn elements_rise_by_name_and_then_by_keys(rt: HostRuntime) {
-    let rising = path_with_keys(&rt, rt.alloc(), RISING_ELEMENTS);
+    let rising = path_of(&rt, rt.alloc(), RISING_ELEMENTS);
     assert_rising(&rt, rising.items());
     assert_distinct(&rt, rising.items());
 }
@@ -237,7 +272,7 @@ fn paths_of(rt: &impl Abort, alloc: Global, table: &[&[Named]]) -> Paths {
     let mut paths = Paths::empty(alloc);
     for elements in table {
         paths
-            .push(path_with_keys(rt, alloc, elements))
+            .push(path_of(rt, alloc, elements))
             .expect(rt, "memory");
     }
     paths
@@ -284,32 +319,37 @@ fn is_numbered(refusal: Refusal, number: u8, code: u8, text: &str) -> bool {
 
 #[test]
 fn each_refusal_has_its_number_its_code_and_its_text(rt: HostRuntime) {
-    for (refusal, number, code, text) in REFUSALS.iter().copied() {
-        assert!(rt; is_numbered(refusal, number, code, text), "{refusal:?}");
+    for (refusal, number, code, text) in REFUSALS {
+        assert!(rt; is_numbered(*refusal, *number, *code, text), "{refusal:?}");
     }
-    assert_eq!(rt; Refusal::from(NoMemory), Refusal::NoMemory);
+    assert!(rt; Refusal::from(NoMemory) == Refusal::NoMemory);
     first_set_is_entry_one();
     validity_is_six_rules();
 }
 
-#[test]
-fn record_of_the_first_set_has_109_octets(rt: HostRuntime) {
-    let alloc = rt.alloc();
+const HOSTNAME: &[Named] = &[("system", &[]), ("config", &[]), ("hostname", &[])];
+
+fn first_set(rt: &impl Abort, alloc: Global) -> Entry {
     let mut ops = Ops::empty(alloc);
-    ops.push(op_of(&rt, alloc, Act::Update, &["system", "config", "hostname"]))
-        .expect(&rt, "memory");
-    let entry = Entry {
+    ops.push(op_of(rt, alloc, Act::Update, HOSTNAME))
+        .expect(rt, "memory");
+    Entry {
         number: 1,
         author: 1,
         stamp: 1000,
         kind: Kind::Apply(ops),
-    };
-    assert_eq!(rt; entry.record_octets(), 109);
+    }
+}
+
+#[test]
+fn record_of_the_first_set_has_109_octets(rt: HostRuntime) {
+    let octets = first_set(&rt, rt.alloc()).record_octets();
+    assert!(rt; octets == 109);
 }
 
 #[test]
 fn default_limits_are_in_range(rt: HostRuntime) {
     let limits = default_limits();
-    assert_eq!(rt; (limits.entries, limits.octets), (65_536, 268_435_456));
+    assert!(rt; limits.entries == 65_536 && limits.octets == 268_435_456);
     assert!(rt; limits.in_range());
 }

@@ -1,10 +1,11 @@
+use crate::builders::{path_of, text_of, texts_of};
 use base_kinds::{
-    Act, Ask, Elem, Entries, LONGEST_DURATION, Limits, Op, Path, Row, Rows, Seq, Shape, Sort, Text,
-    Value,
+    Act, Ask, Bytes, Entries, LONGEST_DURATION, Limits, Op, Ops, Paths, Row, Rows, Seq, Shape,
+    Sort, Texts, Value,
 };
 use reference_model::{
-    Node, covers, duration_of, effect, has_shape, is_valid, key_text, matches, part_of, size_of,
-    stamp_of, step_of, world_of,
+    Node, PlainWorld, covers, duration_of, effect, has_shape, is_valid, key_text, matches, part_of,
+    size_of, stamp_of, step_of, world_of,
 };
 use std::alloc::Global;
 use std::process::Abort;
@@ -19,58 +20,65 @@ const LIMITS: Limits = Limits {
     octets: 268_435_456,
 };
 
-/// The path of a text as `a/l,k=x`: elements between `/`, and keys behind `,`.
-fn path_of(rt: &impl Abort, alloc: Global, text: &str) -> Path {
-    let mut path = Seq::empty(alloc);
-    if text.is_empty() {
-        return path;
-    }
-    for part in text.split('/') {
-        path.push(elem_of(rt, alloc, part)).expect(rt, "memory");
-    }
-    path
+/// Rows as pairs of a path and a text.
+type Pairs = &'static [(&'static str, &'static str)];
+
+/// What an operation does, its path, and its rows.
+type Operation = (Act, &'static str, Pairs);
+
+/// An ask: its id, its operations, and how long the trial is to last.
+enum Asking {
+    Apply(&'static [Operation]),
+    Trial(&'static str, &'static [Operation], u64),
+    Extend(&'static str, u64),
+    Confirm(&'static str),
+    Cancel(&'static str),
 }
 
-fn elem_of(rt: &impl Abort, alloc: Global, text: &str) -> Elem {
-    let mut keys = Seq::empty(alloc);
-    let mut name = id(rt, alloc, "");
-    for part in text.split(',') {
-        match part.split_once('=') {
-            None => name = id(rt, alloc, part),
-            Some((key, value)) => keys
-                .push((
-                    Text::of(alloc, key.as_bytes()).expect(rt, "memory"),
-                    Text::of(alloc, value.as_bytes()).expect(rt, "memory"),
-                ))
-                .expect(rt, "memory"),
-        }
+fn paths_of(rt: &impl Abort, alloc: Global, texts: &[&str]) -> Paths {
+    let mut paths = Seq::empty(alloc);
+    for text in texts {
+        paths.push(path_of(rt, alloc, text)).expect(rt, "memory");
     }
-    Elem { name, keys }
+    paths
 }
 
-/// The rows of texts as `a/b=v c/d=w`.
 fn rows_of(rt: &impl Abort, alloc: Global, pairs: &[(&str, &str)]) -> Rows {
     let mut rows = Seq::empty(alloc);
     for (path, text) in pairs {
         rows.push(Row {
             path: path_of(rt, alloc, path),
-            value: Value::Text(Text::of(alloc, text.as_bytes()).expect(rt, "memory")),
+            value: Value::Text(text_of(rt, alloc, text)),
         })
         .expect(rt, "memory");
     }
     rows
 }
 
-fn op(rt: &impl Abort, alloc: Global, act: Act, path: &str, pairs: &[(&str, &str)]) -> Op {
-    Op {
-        act,
-        path: path_of(rt, alloc, path),
-        rows: rows_of(rt, alloc, pairs),
+fn ops_of(rt: &impl Abort, alloc: Global, operations: &[Operation]) -> Ops {
+    let mut ops = Seq::empty(alloc);
+    for (act, path, pairs) in operations {
+        ops.push(Op {
+            act: *act,
+            path: path_of(rt, alloc, path),
+            rows: rows_of(rt, alloc, pairs),
+        })
+        .expect(rt, "memory");
     }
+    ops
 }
 
-fn id(rt: &impl Abort, alloc: Global, text: &str) -> Text {
-    Text::of(alloc, text.as_bytes()).expect(rt, "memory")
+fn ask_of(rt: &impl Abort, alloc: Global, asking: &Asking) -> Ask {
+    match asking {
+        Asking::Apply(operations) => Ask::Apply(ops_of(rt, alloc, operations)),
+        Asking::Trial(id, operations, duration) => {
+            let ops = ops_of(rt, alloc, operations);
+            Ask::Trial(text_of(rt, alloc, id), ops, *duration)
+        }
+        Asking::Extend(id, duration) => Ask::Extend(text_of(rt, alloc, id), *duration),
+        Asking::Confirm(id) => Ask::Confirm(text_of(rt, alloc, id)),
+        Asking::Cancel(id) => Ask::Cancel(text_of(rt, alloc, id)),
+    }
 }
 
 /// The stamp of the entry that the ask becomes, which is added to the entries, or the number of the refusal.
@@ -93,11 +101,16 @@ fn answer(
     }
 }
 
-fn hostname_trial(rt: &impl Abort, alloc: Global, text: &str) -> Ask {
-    let mut ops = Seq::empty(alloc);
-    ops.push(op(rt, alloc, Act::Update, "a", &[("a", text)]))
-        .expect(rt, "memory");
-    Ask::Trial(id(rt, alloc, "t"), ops, MINUTE)
+/// The log behind asks one after another, each of them between the reading of the clock and what becomes of it: the
+/// stamp of its entry, or the number of the refusal.
+fn log_of(rt: &impl Abort, alloc: Global, limits: &Limits, asks: &[(u64, Asking, u64)]) -> Entries {
+    let mut entries = Seq::empty(alloc);
+    for (now, asking, wanted) in asks {
+        let ask = ask_of(rt, alloc, asking);
+        let answered = answer(rt, alloc, limits, &mut entries, *now, ask);
+        assert!(rt; answered == *wanted, "{answered} at {now}");
+    }
+    entries
 }
 
 /// A pattern and a path that it matches on each line, worked out by hand, with `|` between them.
@@ -149,12 +162,16 @@ l,j=x,k=x|l,j=x,k=y\n\
 **|a\n\
 ";
 
+fn is_matched(rt: &impl Abort, alloc: Global, pattern: &str, path: &str) -> bool {
+    matches(&path_of(rt, alloc, pattern), &path_of(rt, alloc, path))
+}
+
 /// On how many of the lines the pattern matches the path, or doesn't, as is wanted.
 fn count_of(rt: &impl Abort, alloc: Global, lines: &str, wanted: bool) -> usize {
     let mut count = 0usize;
     for line in lines.lines() {
         if let Some((pattern, path)) = line.split_once('|') {
-            if matches(&path_of(rt, alloc, pattern), &path_of(rt, alloc, path)) == wanted {
+            if is_matched(rt, alloc, pattern, path) == wanted {
                 count = count.saturating_add(1);
             }
         }
@@ -165,162 +182,179 @@ fn count_of(rt: &impl Abort, alloc: Global, lines: &str, wanted: bool) -> usize 
 #[test]
 fn patterns_match_as_worked_out_by_hand(rt: HostRuntime) {
     let alloc = rt.alloc();
-    assert_eq!(rt; count_of(&rt, alloc, MATCHING, true), 25);
-    assert_eq!(rt; count_of(&rt, alloc, NOT_MATCHING, false), 16);
+    assert!(rt; count_of(&rt, alloc, MATCHING, true) == 25);
+    assert!(rt; count_of(&rt, alloc, NOT_MATCHING, false) == 16);
 }
+
+/// Whether the part of a tree that these patterns cover is as wanted.
+fn is_part(
+    rt: &impl Abort,
+    alloc: Global,
+    patterns: &[&str],
+    tree: &[(&str, &str)],
+    wanted: &[(&str, &str)],
+) -> bool {
+    let patterns = paths_of(rt, alloc, patterns);
+    let part = part_of(alloc, &patterns, &rows_of(rt, alloc, tree)).expect(rt, "memory");
+    part == rows_of(rt, alloc, wanted)
+}
+
+fn is_covered(rt: &impl Abort, alloc: Global, pattern: &str, path: &str) -> bool {
+    covers(&path_of(rt, alloc, pattern), &path_of(rt, alloc, path))
+}
+
+const TREE: Pairs = &[("a/b", "1"), ("a/c", "2"), ("d", "3")];
+
+/// What the patterns `*/c` and `d` cover of it.
+const PART: Pairs = &[("a/c", "2"), ("d", "3")];
 
 #[test]
 fn a_part_is_what_some_pattern_covers(rt: HostRuntime) {
     let alloc = rt.alloc();
-    let tree = rows_of(&rt, alloc, &[("a/b", "1"), ("a/c", "2"), ("d", "3")]);
-    let mut patterns = Seq::empty(alloc);
-    patterns
-        .push(path_of(&rt, alloc, "*/c"))
-        .expect(&rt, "memory");
-    patterns
-        .push(path_of(&rt, alloc, "d"))
-        .expect(&rt, "memory");
-    let wanted = rows_of(&rt, alloc, &[("a/c", "2"), ("d", "3")]);
-    assert_eq!(rt; part_of(alloc, &patterns, &tree), Ok(wanted));
-    assert!(rt; covers(&path_of(&rt, alloc, "a"), &path_of(&rt, alloc, "a/b")));
+    assert!(rt; is_part(&rt, alloc, &["*/c", "d"], TREE, PART));
+    assert!(rt; is_covered(&rt, alloc, "a", "a/b"));
+}
+
+const UNORDERED: &[Operation] = &[
+    (Act::Update, "a", &[("a", "u")]),
+    (Act::Replace, "a", &[("a", "r")]),
+    (Act::Delete, "a", &[]),
+];
+
+/// A tree, and what those operations make of it.
+const BEFORE: Pairs = &[("a", "old"), ("b", "stays")];
+
+const AFTER: Pairs = &[("a", "u"), ("b", "stays")];
+
+/// Whether the operations make the wanted rows of a tree.
+fn is_effect(
+    rt: &impl Abort,
+    alloc: Global,
+    operations: &[Operation],
+    tree: &[(&str, &str)],
+    wanted: &[(&str, &str)],
+) -> bool {
+    let ops = ops_of(rt, alloc, operations);
+    let rows = effect(alloc, &ops, &rows_of(rt, alloc, tree)).expect(rt, "memory");
+    rows == rows_of(rt, alloc, wanted)
 }
 
 #[test]
 fn deletes_come_before_replaces_and_these_before_updates(rt: HostRuntime) {
-    let alloc = rt.alloc();
-    let mut ops = Seq::empty(alloc);
-    ops.push(op(&rt, alloc, Act::Update, "a", &[("a", "u")]))
-        .expect(&rt, "memory");
-    ops.push(op(&rt, alloc, Act::Replace, "a", &[("a", "r")]))
-        .expect(&rt, "memory");
-    ops.push(op(&rt, alloc, Act::Delete, "a", &[]))
-        .expect(&rt, "memory");
-    let tree = rows_of(&rt, alloc, &[("a", "old"), ("b", "stays")]);
-    let wanted = rows_of(&rt, alloc, &[("a", "u"), ("b", "stays")]);
-    assert_eq!(rt; effect(alloc, &ops, &tree), Ok(wanted));
+    assert!(rt; is_effect(&rt, rt.alloc(), UNORDERED, BEFORE, AFTER));
 }
+
+const DELETED: &[(u64, Asking, u64)] = &[(
+    1000,
+    Asking::Apply(&[(Act::Delete, "l,k=*/c", &[])]),
+    1000,
+)];
 
 #[test]
 fn a_wildcard_delete_of_nothing_is_an_entry(rt: HostRuntime) {
-    let alloc = rt.alloc();
-    let mut entries = Seq::empty(alloc);
-    let mut ops = Seq::empty(alloc);
-    ops.push(op(&rt, alloc, Act::Delete, "l,k=*/c", &[]))
-        .expect(&rt, "memory");
-    let set = Ask::Apply(ops);
-    assert_eq!(rt; answer(&rt, alloc, &LIMITS, &mut entries, 1000, set), 1000);
+    let size = size_of(log_of(&rt, rt.alloc(), &LIMITS, DELETED).items());
     // 16, a gate, 13, a count, an act, two elements of which one has a key, a count, a gate
-    assert_eq!(rt;
-        size_of(entries.items()),
-        16 + 1 + 13 + 4 + 1 + (2 + 7 + 10 + 7) + 4 + 1
-    );
+    assert!(rt; size == 16 + 1 + 13 + 4 + 1 + (2 + 7 + 10 + 7) + 4 + 1);
 }
 
-/// Readings, and what a confirm of a trial of a minute from 1000 on becomes at each.
-const CONFIRMED: &[(u64, u64)] = &[(60_000_000_999, 60_000_000_999), (60_000_001_000, 11)];
+const HOSTNAME: &[Operation] = &[(Act::Update, "a", &[("a", "r1")])];
+
+/// A trial of a minute from 1000 on, and what a confirm becomes at each of two readings.
+const CONFIRMED: &[&[(u64, Asking, u64)]] = &[
+    &[
+        (1000, Asking::Trial("t", HOSTNAME, MINUTE), 1000),
+        (60_000_000_999, Asking::Confirm("t"), 60_000_000_999),
+    ],
+    &[
+        (1000, Asking::Trial("t", HOSTNAME, MINUTE), 1000),
+        (60_000_001_000, Asking::Confirm("t"), 11),
+    ],
+];
 
 #[test]
 fn a_trial_is_confirmed_in_its_last_nanosecond(rt: HostRuntime) {
-    let alloc = rt.alloc();
-    for (now, wanted) in CONFIRMED.iter().copied() {
-        let mut entries = Seq::empty(alloc);
-        let trial = hostname_trial(&rt, alloc, "r1");
-        assert_eq!(rt;
-            answer(&rt, alloc, &LIMITS, &mut entries, 1000, trial),
-            1000
-        );
-        let confirm = Ask::Confirm(id(&rt, alloc, "t"));
-        assert_eq!(rt;
-            answer(&rt, alloc, &LIMITS, &mut entries, now, confirm),
-            wanted
-        );
-        assert_eq!(rt; entries.len(), 2);
+    for asks in CONFIRMED {
+        let count = log_of(&rt, rt.alloc(), &LIMITS, asks).len();
+        assert!(rt; count == 2);
     }
 }
 
-/// The ask of a word, with this id.
-fn ask_of(alloc: Global, word: &str, id: Text) -> Ask {
-    match word {
-        "trial" => Ask::Trial(id, Seq::empty(alloc), MINUTE),
-        "confirm" => Ask::Confirm(id),
-        "cancel" => Ask::Cancel(id),
-        _ => Ask::Apply(Seq::empty(alloc)),
-    }
-}
-
-/// Asks one after another, with their ids, and what becomes of each.
-const ASKED: &[(&str, &str, u64)] = &[
-    ("trial", "t", 1),
-    ("trial", "t", 10),
-    ("apply", "", 10),
-    ("confirm", "u", 12),
-    ("cancel", "u", 12),
-    ("cancel", "t", 2),
-    ("cancel", "t", 11),
+/// Asks one after another, and what becomes of each.
+const ONE_TRIAL: &[(u64, Asking, u64)] = &[
+    (1, Asking::Trial("t", &[], MINUTE), 1),
+    (1, Asking::Trial("t", &[], MINUTE), 10),
+    (1, Asking::Apply(&[]), 10),
+    (1, Asking::Confirm("u"), 12),
+    (1, Asking::Cancel("u"), 12),
+    (1, Asking::Cancel("t"), 2),
+    (1, Asking::Cancel("t"), 11),
 ];
 
 #[test]
 fn one_trial_at_a_time(rt: HostRuntime) {
-    let alloc = rt.alloc();
-    let mut entries = Seq::empty(alloc);
-    for (word, name, wanted) in ASKED.iter().copied() {
-        let ask = ask_of(alloc, word, id(&rt, alloc, name));
-        assert_eq!(rt; answer(&rt, alloc, &LIMITS, &mut entries, 1, ask), wanted);
-    }
+    log_of(&rt, rt.alloc(), &LIMITS, ONE_TRIAL);
+}
+
+/// A Set, and a trial that overwrites one of its rows, deletes the other, and is cancelled.
+const CANCELLED: &[(u64, Asking, u64)] = &[
+    (
+        1000,
+        Asking::Apply(&[(Act::Update, "", &[("a", "1"), ("b", "2")])]),
+        1000,
+    ),
+    (
+        1000,
+        Asking::Trial(
+            "t",
+            &[(Act::Update, "a", &[("a", "9")]), (Act::Delete, "b", &[])],
+            MINUTE,
+        ),
+        1001,
+    ),
+    (1000, Asking::Cancel("t"), 1002),
+];
+
+const UNCANCELLED: Pairs = &[("a", "1"), ("b", "2")];
+
+fn is_without_trial(world: &PlainWorld, rows: &Rows) -> bool {
+    world.tree == *rows && world.trial.is_none()
+}
+
+/// Whether the asks leave these rows, and no open trial.
+fn is_settled(
+    rt: &impl Abort,
+    alloc: Global,
+    asks: &[(u64, Asking, u64)],
+    pairs: &[(&str, &str)],
+) -> bool {
+    let log = log_of(rt, alloc, &LIMITS, asks);
+    let world = world_of(alloc, log.items()).expect(rt, "memory");
+    is_without_trial(&world, &rows_of(rt, alloc, pairs))
 }
 
 #[test]
 fn cancel_brings_back_what_was_overwritten_and_what_was_deleted(rt: HostRuntime) {
-    let alloc = rt.alloc();
-    let mut entries = Seq::empty(alloc);
-    let mut first = Seq::empty(alloc);
-    first
-        .push(op(&rt, alloc, Act::Update, "", &[("a", "1"), ("b", "2")]))
-        .expect(&rt, "memory");
-    let mut second = Seq::empty(alloc);
-    second
-        .push(op(&rt, alloc, Act::Update, "a", &[("a", "9")]))
-        .expect(&rt, "memory");
-    second
-        .push(op(&rt, alloc, Act::Delete, "b", &[]))
-        .expect(&rt, "memory");
-    let set = Ask::Apply(first);
-    assert_eq!(rt; answer(&rt, alloc, &LIMITS, &mut entries, 1000, set), 1000);
-    let trial = Ask::Trial(id(&rt, alloc, "t"), second, MINUTE);
-    assert_eq!(rt;
-        answer(&rt, alloc, &LIMITS, &mut entries, 1000, trial),
-        1001
-    );
-    let cancel = Ask::Cancel(id(&rt, alloc, "t"));
-    assert_eq!(rt;
-        answer(&rt, alloc, &LIMITS, &mut entries, 1000, cancel),
-        1002
-    );
-    let world = world_of(alloc, entries.items()).expect(&rt, "memory");
-    assert_eq!(rt; world.tree, rows_of(&rt, alloc, &[("a", "1"), ("b", "2")]));
-    assert!(rt; world.trial.is_none());
+    assert!(rt; is_settled(&rt, rt.alloc(), CANCELLED, UNCANCELLED));
 }
 
-/// Readings, and what a confirm of a trial that was extended becomes at each.
-const EXTENDED: &[(u64, u64)] = &[(2_000_005_000, 2_000_005_000), (2_000_005_001, 11)];
+/// A trial of a second that is extended by a clock that has gone back, and what a confirm becomes at each of two readings.
+const EXTENDED: &[&[(u64, Asking, u64)]] = &[
+    &[
+        (5000, Asking::Trial("t", &[], 1_000_000_000), 5000),
+        (10, Asking::Extend("t", 2_000_000_000), 5001),
+        (2_000_005_000, Asking::Confirm("t"), 2_000_005_000),
+    ],
+    &[
+        (5000, Asking::Trial("t", &[], 1_000_000_000), 5000),
+        (10, Asking::Extend("t", 2_000_000_000), 5001),
+        (2_000_005_001, Asking::Confirm("t"), 11),
+    ],
+];
 
 #[test]
 fn a_clock_that_goes_back_and_a_longer_trial(rt: HostRuntime) {
-    let alloc = rt.alloc();
-    for (last, wanted) in EXTENDED.iter().copied() {
-        let mut entries = Seq::empty(alloc);
-        let trial = Ask::Trial(id(&rt, alloc, "t"), Seq::empty(alloc), 1_000_000_000);
-        assert_eq!(rt;
-            answer(&rt, alloc, &LIMITS, &mut entries, 5000, trial),
-            5000
-        );
-        let extend = Ask::Extend(id(&rt, alloc, "t"), 2_000_000_000);
-        assert_eq!(rt; answer(&rt, alloc, &LIMITS, &mut entries, 10, extend), 5001);
-        let confirm = Ask::Confirm(id(&rt, alloc, "t"));
-        assert_eq!(rt;
-            answer(&rt, alloc, &LIMITS, &mut entries, last, confirm),
-            wanted
-        );
+    for asks in EXTENDED {
+        log_of(&rt, rt.alloc(), &LIMITS, asks);
     }
 }
 
@@ -330,64 +364,63 @@ const NARROW: Limits = Limits {
 };
 
 /// What becomes of each of three Sets where the log has room for two entries.
-const THREE_SETS: &[u64] = &[1, 2, 18];
+const THREE_SETS: &[(u64, Asking, u64)] = &[
+    (1, Asking::Apply(&[]), 1),
+    (1, Asking::Apply(&[]), 2),
+    (1, Asking::Apply(&[]), 18),
+];
+
+/// What becomes of a trial behind a Set there.
+const TRIAL_SECOND: &[(u64, Asking, u64)] = &[
+    (1, Asking::Apply(&[]), 1),
+    (1, Asking::Trial("t", HOSTNAME, MINUTE), 18),
+];
 
 #[test]
 fn a_log_of_two_entries(rt: HostRuntime) {
-    let alloc = rt.alloc();
-    let mut sets = Seq::empty(alloc);
-    for wanted in THREE_SETS.iter().copied() {
-        let set = Ask::Apply(Seq::empty(alloc));
-        assert_eq!(rt; answer(&rt, alloc, &NARROW, &mut sets, 1, set), wanted);
-    }
-    let mut trial_second = Seq::empty(alloc);
-    let set = Ask::Apply(Seq::empty(alloc));
-    assert_eq!(rt; answer(&rt, alloc, &NARROW, &mut trial_second, 1, set), 1);
-    let trial = hostname_trial(&rt, alloc, "r1");
-    assert_eq!(rt;
-        answer(&rt, alloc, &NARROW, &mut trial_second, 1, trial),
-        18
-    );
+    log_of(&rt, rt.alloc(), &NARROW, THREE_SETS);
+    log_of(&rt, rt.alloc(), &NARROW, TRIAL_SECOND);
 }
 
 /// A leaf of texts below the root, which may refer to another one.
-fn leaf(rt: &impl Abort, alloc: Global, name: &str, target: Option<&str>) -> Node {
-    let mut names = Seq::empty(alloc);
-    names.push(id(rt, alloc, name)).expect(rt, "memory");
-    let reference = match target {
-        None => None,
-        Some(target) => {
-            let mut others = Seq::empty(alloc);
-            others.push(id(rt, alloc, target)).expect(rt, "memory");
-            Some(others)
-        }
-    };
+fn leaf(rt: &impl Abort, alloc: Global, name: &str, reference: Option<Texts>) -> Node {
     Node {
-        names,
+        names: texts_of(rt, alloc, name),
         sort: Sort::Leaf,
         shape: Some(Shape::Text),
         keys: Seq::empty(alloc),
-        module_name: id(rt, alloc, "m"),
+        module_name: text_of(rt, alloc, "m"),
         is_mandatory: false,
         reference,
         maximum: None,
     }
 }
 
+/// The leaf `a`, and the leaf `b` that refers to it.
+fn referring_leaves(rt: &impl Abort, alloc: Global) -> Seq<Node> {
+    let mut schema = Seq::empty(alloc);
+    schema.push(leaf(rt, alloc, "a", None)).expect(rt, "memory");
+    schema
+        .push(leaf(rt, alloc, "b", Some(texts_of(rt, alloc, "a"))))
+        .expect(rt, "memory");
+    schema
+}
+
+const REFERRING: Pairs = &[("a", "x"), ("b", "x")];
+
+const REFERRING_ELSEWHERE: Pairs = &[("a", "x"), ("b", "y")];
+
+/// Whether these rows are valid where the second refers to the first.
+fn is_referring(rt: &impl Abort, alloc: Global, pairs: &[(&str, &str)]) -> bool {
+    let schema = referring_leaves(rt, alloc);
+    let rows = rows_of(rt, alloc, pairs);
+    is_valid(alloc, schema.items(), rows.items()).expect(rt, "memory")
+}
+
 #[test]
 fn a_reference_has_a_target(rt: HostRuntime) {
-    let alloc = rt.alloc();
-    let mut schema = Seq::empty(alloc);
-    schema
-        .push(leaf(&rt, alloc, "a", None))
-        .expect(&rt, "memory");
-    schema
-        .push(leaf(&rt, alloc, "b", Some("a")))
-        .expect(&rt, "memory");
-    let same = rows_of(&rt, alloc, &[("a", "x"), ("b", "x")]);
-    assert_eq!(rt; is_valid(alloc, schema.items(), same.items()), Ok(true));
-    let other = rows_of(&rt, alloc, &[("a", "x"), ("b", "y")]);
-    assert_eq!(rt; is_valid(alloc, schema.items(), other.items()), Ok(false));
+    assert!(rt; is_referring(&rt, rt.alloc(), REFERRING));
+    assert!(rt; !is_referring(&rt, rt.alloc(), REFERRING_ELSEWHERE));
 }
 
 /// Digits, how many of them stand behind the point, and the text of the decimal.
@@ -398,23 +431,28 @@ const DECIMALS: &[(i64, u8, &str)] = &[
     (-9_223_372_036_854_775_808, 18, "-9.223372036854775808"),
 ];
 
+fn has_key_text(rt: &impl Abort, alloc: Global, value: &Value, text: &str) -> bool {
+    let octets = key_text(alloc, value).expect(rt, "memory");
+    octets.items() == text.as_bytes()
+}
+
+/// Whether these digits are a decimal of so many places, with this text.
+fn is_decimal(rt: &impl Abort, alloc: Global, digits: i64, places: u8, text: &str) -> bool {
+    let value = Value::Dec(digits, places);
+    has_shape(&Shape::Dec(places), &value) && has_key_text(rt, alloc, &value, text)
+}
+
+/// Whether the octets have this text.
+fn is_base64(rt: &impl Abort, alloc: Global, octets: &[u8], text: &str) -> bool {
+    let value = Value::Bin(Bytes::of(alloc, octets).expect(rt, "memory"));
+    has_key_text(rt, alloc, &value, text)
+}
+
 #[test]
 fn texts_of_keys(rt: HostRuntime) {
     let alloc = rt.alloc();
-    for (digits, places, text) in DECIMALS.iter().copied() {
-        let value = Value::Dec(digits, places);
-        assert!(rt; has_shape(&Shape::Dec(places), &value));
-        assert_eq!(rt;
-            key_text(alloc, &value).expect(&rt, "memory").items(),
-            text.as_bytes()
-        );
+    for (digits, places, text) in DECIMALS {
+        assert!(rt; is_decimal(&rt, alloc, *digits, *places, text));
     }
-    let mut octets = Seq::empty(alloc);
-    octets.extend_from_slice(b"fooba").expect(&rt, "memory");
-    assert_eq!(rt;
-        key_text(alloc, &Value::Bin(octets))
-            .expect(&rt, "memory")
-            .items(),
-        b"Zm9vYmE=".as_slice()
-    );
+    assert!(rt; is_base64(&rt, alloc, b"fooba", "Zm9vYmE="));
 }

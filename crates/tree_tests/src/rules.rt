@@ -1,8 +1,7 @@
 ghost use Rattle.base_kinds.specs.Rising.{IsRising};
 
-use base_kinds::{
-    Copied, Elem, MOST_SCHEMA_NODES, Path, Row, Rows, Seq, Shape, Text, Texts, Value,
-};
+use crate::builders::{path_of, text_of, texts_of};
+use base_kinds::{MOST_SCHEMA_NODES, Path, Row, Rows, Seq, Shape, Texts, Value};
 use schema_core::{Node, Schema};
 use std::alloc::Global;
 use std::cmp::Ordering;
@@ -11,7 +10,7 @@ use tree_check::are_rising;
 use tree_constraints::{find_leaf, keys_hold, leafrefs_resolve, mandatory_present};
 
 /// A node on each line: its names, what it is, and the names of its keys or of the leaf that it refers to.
-const NODES: [(&str, &str, &str); 17] = [
+const NODES: &[(&str, &str, &str)] = &[
     ("if", "list", "name"),
     ("if name", "leaf", ""),
     ("if mtu", "mandatory", ""),
@@ -90,16 +89,13 @@ const REFERRING: &[(&str, bool)] = &[
     ("stranger=x", false),
 ];
 
-fn text_of(rt: &impl Abort, alloc: Global, word: &str) -> Text {
-    Text::of(alloc, word.as_bytes()).expect(rt, "memory")
-}
-
-fn texts_of(rt: &impl Abort, alloc: Global, line: &str) -> Texts {
-    let mut texts = Seq::empty(alloc);
-    for word in line.split_whitespace() {
-        texts.push(text_of(rt, alloc, word)).expect(rt, "memory");
+/// The names of the leaf that a node refers to, where it is a reference.
+fn target_of(rt: &impl Abort, alloc: Global, word: &str, other: &str) -> Option<Texts> {
+    if word == "reference" {
+        Some(texts_of(rt, alloc, other))
+    } else {
+        None
     }
-    texts
 }
 
 fn node_of(rt: &impl Abort, alloc: Global, line: &str, word: &str, other: &str) -> Node {
@@ -108,12 +104,17 @@ fn node_of(rt: &impl Abort, alloc: Global, line: &str, word: &str, other: &str) 
     match word {
         "container" => Node::container(alloc, module, names),
         "list" => Node::list(module, names, texts_of(rt, alloc, other), None),
-        "mandatory" => Node::leaf(alloc, module, names, Shape::Text, true, None),
-        "reference" => {
-            let target = texts_of(rt, alloc, other);
-            Node::leaf(alloc, module, names, Shape::Text, false, Some(target))
+        _ => {
+            let target = target_of(rt, alloc, word, other);
+            Node::leaf(
+                alloc,
+                module,
+                names,
+                Shape::Text,
+                word == "mandatory",
+                target,
+            )
         }
-        _ => Node::leaf(alloc, module, names, Shape::Text, false, None),
     }
 }
 
@@ -130,28 +131,6 @@ fn schema_of(rt: &impl Abort, alloc: Global, lines: &[(&str, &str, &str)]) -> Sc
     schema
 }
 
-/// The element of a text as `route[from:a][to:b]`.
-fn elem_of(rt: &impl Abort, alloc: Global, text: &str) -> Elem {
-    let mut keys = Seq::empty(alloc);
-    let mut parts = text.split('[');
-    let name = text_of(rt, alloc, parts.next().unwrap_or(""));
-    for part in parts {
-        let (key, value) = part.split_once(':').ok_or("a key").expect(rt, "memory");
-        let value = value.split(']').next().unwrap_or("");
-        keys.push((text_of(rt, alloc, key), text_of(rt, alloc, value)))
-            .expect(rt, "memory");
-    }
-    Elem { name, keys }
-}
-
-fn path_of(rt: &impl Abort, alloc: Global, text: &str) -> Path {
-    let mut path = Seq::empty(alloc);
-    for part in text.split('/') {
-        path.push(elem_of(rt, alloc, part)).expect(rt, "memory");
-    }
-    path
-}
-
 /// A number behind `#`, a list without values for `&`, and else a text.
 fn value_of(rt: &impl Abort, alloc: Global, text: &str) -> Value {
     if text == "&" {
@@ -166,7 +145,7 @@ fn value_of(rt: &impl Abort, alloc: Global, text: &str) -> Value {
 fn rows_of(rt: &impl Abort, alloc: Global, line: &str) -> Rows {
     let mut rows = Seq::empty(alloc);
     for word in line.split_whitespace() {
-        let (path, value) = word.split_once('=').ok_or("a value").expect(rt, "memory");
+        let (path, value) = word.split_once('=').unwrap_or((word, ""));
         rows.push(Row {
             path: path_of(rt, alloc, path),
             value: value_of(rt, alloc, value),
@@ -176,31 +155,45 @@ fn rows_of(rt: &impl Abort, alloc: Global, line: &str) -> Rows {
     rows
 }
 
+/// Whether the keys of each element have their leaves among these rows, which rise.
+fn are_keyed(rt: &impl Abort, alloc: Global, rows: &[Row], line: &str) -> bool {
+    assert!(rt; are_rising(rows), "{line}");
+    keys_hold(alloc, rows).expect(rt, "memory")
+}
+
 #[test]
 fn keys_have_their_leaves(rt: HostRuntime) {
     let alloc = rt.alloc();
-    for (line, wanted) in KEYED.iter().copied() {
-        let rows = rows_of(&rt, alloc, line);
-        assert!(rt; are_rising(rows.items()), "{line}");
-        let found = keys_hold(alloc, rows.items()).expect(&rt, "memory");
-        assert_eq!(rt; found, wanted, "{line}");
+    for (line, wanted) in KEYED {
+        let found = are_keyed(&rt, alloc, rows_of(&rt, alloc, line).items(), line);
+        assert!(rt; found == *wanted, "{line}");
     }
+}
+
+/// Whether each mandatory leaf stands where it has to among these rows, which rise.
+fn are_standing(rt: &impl Abort, schema: &Schema, rows: &[Row], line: &str) -> bool {
+    assert!(rt; are_rising(rows), "{line}");
+    mandatory_present(schema, rows)
+}
+
+/// Whether each mandatory leaf of these nodes stands where it has to among the rows of the line.
+fn is_standing(rt: &impl Abort, alloc: Global, nodes: &[(&str, &str, &str)], line: &str) -> bool {
+    let schema = schema_of(rt, alloc, nodes);
+    are_standing(rt, &schema, rows_of(rt, alloc, line).items(), line)
 }
 
 #[test]
 fn mandatory_leaves_stand(rt: HostRuntime) {
-    let alloc = rt.alloc();
-    let schema = schema_of(&rt, alloc, &NODES);
-    for (line, wanted) in STANDING.iter().copied() {
-        let rows = rows_of(&rt, alloc, line);
-        assert!(rt; are_rising(rows.items()), "{line}");
-        let found = mandatory_present(&schema, rows.items());
-        assert_eq!(rt; found, wanted, "{line}");
+    for (line, wanted) in STANDING {
+        assert!(rt;
+            is_standing(&rt, rt.alloc(), NODES, line) == *wanted,
+            "{line}"
+        );
     }
 }
 
 /// A mandatory leaf below the root, and another leaf.
-const ROOT_NODES: [(&str, &str, &str); 2] = [("host", "mandatory", ""), ("motd", "leaf", "")];
+const ROOT_NODES: &[(&str, &str, &str)] = &[("host", "mandatory", ""), ("motd", "leaf", "")];
 
 /// Rows on each line, with the answer whether the leaf stands.
 const ROOT_STANDING: &[(&str, bool)] = &[
@@ -212,68 +205,88 @@ const ROOT_STANDING: &[(&str, bool)] = &[
 
 #[test]
 fn a_mandatory_leaf_of_the_root_stands_in_every_tree_with_rows(rt: HostRuntime) {
-    let alloc = rt.alloc();
-    let schema = schema_of(&rt, alloc, &ROOT_NODES);
-    for (line, wanted) in ROOT_STANDING.iter().copied() {
-        let rows = rows_of(&rt, alloc, line);
-        assert!(rt; are_rising(rows.items()), "{line}");
-        let found = mandatory_present(&schema, rows.items());
-        assert_eq!(rt; found, wanted, "{line}");
+    for (line, wanted) in ROOT_STANDING {
+        assert!(rt;
+            is_standing(&rt, rt.alloc(), ROOT_NODES, line) == *wanted,
+            "{line}"
+        );
     }
+}
+
+/// Whether each reference of the rows of the line has its row.
+fn is_resolved(rt: &impl Abort, alloc: Global, line: &str) -> bool {
+    let schema = schema_of(rt, alloc, NODES);
+    let rows = rows_of(rt, alloc, line);
+    leafrefs_resolve(alloc, &schema, rows.items()).expect(rt, "memory")
 }
 
 #[test]
 fn references_have_a_row_of_their_value(rt: HostRuntime) {
-    let alloc = rt.alloc();
-    let schema = schema_of(&rt, alloc, &NODES);
-    for (line, wanted) in REFERRING.iter().copied() {
-        let rows = rows_of(&rt, alloc, line);
-        let found = leafrefs_resolve(alloc, &schema, rows.items()).expect(&rt, "memory");
-        assert_eq!(rt; found, wanted, "{line}");
+    for (line, wanted) in REFERRING {
+        assert!(rt; is_resolved(&rt, rt.alloc(), line) == *wanted, "{line}");
     }
 }
+
+/// The path of this leaf in the entry of this key.
+fn leaf_path(rt: &impl Abort, alloc: Global, key: u64, name: &str) -> Path {
+    let path = format!(in alloc; "l[k:{key}]/{name}").expect(rt, "memory");
+    path_of(rt, alloc, path.as_str())
+}
+
+const LEAVES: &[&str] = &["a", "c", "e"];
 
 /// Three leaves below each of a hundred entries of a list, each with a number of its own.
 fn many_rows(rt: &impl Abort, alloc: Global) -> Rows {
     let mut rows = Seq::empty(alloc);
-    for number in 0..300u64 {
-        let name = ["a", "c", "e"][(number % 3) as usize];
-        let path = format!(in alloc; "l[k:{}]/{name}", 100 + number / 3).expect(rt, "memory");
-        rows.push(Row {
-            path: path_of(rt, alloc, path.as_str()),
-            value: Value::Uint(number),
-        })
-        .expect(rt, "memory");
+    for key in 100..200u64 {
+        for name in LEAVES {
+            let value = Value::Uint(rows.len() as u64);
+            let path = leaf_path(rt, alloc, key, name);
+            rows.push(Row { path, value }).expect(rt, "memory");
+        }
     }
     rows
 }
 
-/// Whether the leaf that is found is the one that a scan finds.
-fn is_as_scanned(rt: &impl Abort, alloc: Global, rows: &[Row], key: u64, name: &str) -> bool
-    requires { IsRising rows.now }
-{
-    let instance = format!(in alloc; "l[k:{key}]").expect(rt, "memory");
-    let instance = path_of(rt, alloc, instance.as_str());
-    let mut path = instance.copy(alloc).expect(rt, "memory");
-    path.push(elem_of(rt, alloc, name)).expect(rt, "memory");
-    let found = find_leaf(rows, instance.items(), name.as_bytes());
+/// The row of this path that a scan finds.
+fn scanned<'a>(rows: &'a [Row], path: &Path) -> Option<&'a Row> {
     for row in rows {
-        if row.path.cmp(&path) == Ordering::Equal {
-            return found.is_some_and(|other| other.value == row.value);
+        if row.path.cmp(path) == Ordering::Equal {
+            return Some(row);
         }
     }
-    found.is_none()
+    None
+}
+
+/// Whether the leaf that is found below the first element is the one that a scan finds.
+fn is_as_scanned(rows: &[Row], path: &Path, name: &str) -> bool
+    requires { IsRising rows.now }
+{
+    let instance = path.items().get(..1).unwrap_or(&[]);
+    match (
+        find_leaf(rows, instance, name.as_bytes()),
+        scanned(rows, path),
+    ) {
+        (Some(found), Some(row)) => found.value == row.value,
+        (found, row) => found.is_none() && row.is_none(),
+    }
+}
+
+/// Those leaves, and names before, between and behind theirs.
+const LOOKED_FOR: &[&str] = &["", "a", "b", "c", "d", "e", "f"];
+
+fn assert_found(rt: &impl Abort, alloc: Global, rows: &[Row]) {
+    assert!(rt; are_rising(rows));
+    for key in 99..201u64 {
+        for name in LOOKED_FOR {
+            let is = is_as_scanned(rows, &leaf_path(rt, alloc, key, name), name);
+            assert!(rt; is, "{key} {name}");
+        }
+    }
 }
 
 #[test]
 fn a_leaf_is_found_among_many_rows(rt: HostRuntime) {
     let alloc = rt.alloc();
-    let rows = many_rows(&rt, alloc);
-    assert!(rt; are_rising(rows.items()));
-    for key in 99..201u64 {
-        for name in ["", "a", "b", "c", "d", "e", "f"] {
-            let is = is_as_scanned(&rt, alloc, rows.items(), key, name);
-            assert!(rt; is, "{key} {name}");
-        }
-    }
+    assert_found(&rt, alloc, many_rows(&rt, alloc).items());
 }

@@ -1,6 +1,7 @@
-use crate::builders::{path_of, schema_of, text_of};
+use crate::builders::text_of;
 use base_kinds::{Bytes, Row, Rows, Value, Values};
-use schema_core::Schema;
+use path_core::read_path_text;
+use schema_text::read_schema;
 use std::alloc::Global;
 use std::process::Abort;
 use tree_check::{CheckFault, are_rising, check};
@@ -126,84 +127,108 @@ fn scalar_of(rt: &impl Abort, alloc: Global, word: &str) -> Value {
     }
 }
 
-fn value_of(rt: &impl Abort, alloc: Global, word: &str) -> Value {
-    let Some(inside) = word.strip_prefix("[") else {
-        return scalar_of(rt, alloc, word);
-    };
+/// The values of a text as `a,b]`.
+fn values_of(rt: &impl Abort, alloc: Global, text: &str) -> Values {
     let mut values = Values::empty(alloc);
-    for one in inside.split(&[',', ']']) {
-        if one != "" {
-            values.push(scalar_of(rt, alloc, one)).expect(rt, "memory");
+    for word in text.split(&[',', ']']) {
+        if !word.is_empty() {
+            values.push(scalar_of(rt, alloc, word)).expect(rt, "memory");
         }
     }
-    Value::List(values)
+    values
+}
+
+/// The value of a word, or a list of those between brackets.
+fn value_of(rt: &impl Abort, alloc: Global, word: &str) -> Value {
+    match word.strip_prefix('[') {
+        Some(inside) => Value::List(values_of(rt, alloc, inside)),
+        None => scalar_of(rt, alloc, word),
+    }
+}
+
+fn row_of(rt: &impl Abort, alloc: Global, path: &str, value: Value) -> Row {
+    Row {
+        path: read_path_text(alloc, path.as_bytes()).expect(rt, "a path"),
+        value,
+    }
 }
 
 fn rows_of(rt: &impl Abort, alloc: Global, lines: &str) -> Rows {
     let mut rows = Rows::empty(alloc);
     for line in lines.split(';') {
         if let Some((path, word)) = line.split_once(' ') {
-            let path = path_of(rt, alloc, path);
             let value = value_of(rt, alloc, word);
-            rows.push(Row { path, value }).expect(rt, "memory");
+            rows.push(row_of(rt, alloc, path, value))
+                .expect(rt, "memory");
         }
     }
     rows
 }
 
-fn answer(
+/// Whether these rows, which rise, are what is wanted of them under the schema.
+fn is_answered(
     rt: &impl Abort,
     alloc: Global,
-    schema: &Schema,
     rows: &Rows,
+    wanted: Result<(), CheckFault>,
+    what: &str,
+) -> bool {
+    assert!(rt; are_rising(rows.items()), "rising: {what}");
+    let schema = read_schema(alloc, SCHEMA.as_bytes()).expect(rt, "a schema");
+    check(alloc, &schema, rows) == wanted
+}
+
+fn are_answered(
+    rt: &impl Abort,
+    alloc: Global,
     lines: &str,
-) -> Result<(), CheckFault> {
-    let is_rising = are_rising(rows.items());
-    assert!(rt; is_rising, "rising: {lines}");
-    check(alloc, schema, rows)
+    wanted: Result<(), CheckFault>,
+) -> bool {
+    let rows = rows_of(rt, alloc, lines);
+    is_answered(rt, alloc, &rows, wanted, lines)
 }
 
 #[test]
 fn each_rule_is_kept(rt: HostRuntime) {
-    let alloc = rt.alloc();
-    let schema = schema_of(&rt, alloc, SCHEMA);
-    for lines in TAKEN.iter().copied() {
-        let rows = rows_of(&rt, alloc, lines);
-        assert_eq!(rt;
-            answer(&rt, alloc, &schema, &rows, lines),
-            Ok(()),
-            "{lines}"
-        );
+    for lines in TAKEN {
+        assert!(rt; are_answered(&rt, rt.alloc(), lines, Ok(())), "{lines}");
     }
 }
 
 #[test]
 fn each_rule_is_broken_alone(rt: HostRuntime) {
-    let alloc = rt.alloc();
-    let schema = schema_of(&rt, alloc, SCHEMA);
-    for (what, lines) in REFUSED.iter().copied() {
-        let rows = rows_of(&rt, alloc, lines);
-        assert_eq!(rt;
-            answer(&rt, alloc, &schema, &rows, lines),
-            Err(CheckFault::TreeInvalid),
-            "{what}"
-        );
+    let invalid = Err(CheckFault::TreeInvalid);
+    for (what, lines) in REFUSED {
+        assert!(rt; are_answered(&rt, rt.alloc(), lines, invalid), "{what}");
     }
 }
 
-/// A host's blob of so many octets, and this as its name: 218 and two for each octet is their weight where the name is
-/// empty.
-fn heavy(rt: &impl Abort, alloc: Global, octets: usize, name: Value) -> Rows {
-    let mut blob = Bytes::empty(alloc);
-    for _ in 0..octets {
-        blob.push(0).expect(rt, "memory");
+fn zeros(rt: &impl Abort, alloc: Global, count: usize) -> Bytes {
+    let mut octets = Bytes::empty(alloc);
+    for _ in 0..count {
+        octets.push(0).expect(rt, "memory");
     }
+    octets
+}
+
+fn host_name(rt: &impl Abort, alloc: Global, is_valid: bool) -> Value {
+    if is_valid {
+        Value::Text(text_of(rt, alloc, ""))
+    } else {
+        Value::Bool(true)
+    }
+}
+
+/// A host's blob of so many octets, and its name, which is empty or none: 218 and two for each octet is their weight where
+/// the name is empty.
+fn heavy(rt: &impl Abort, alloc: Global, octets: usize, is_valid: bool) -> Rows {
     let mut rows = Rows::empty(alloc);
-    let path = path_of(rt, alloc, "/host/blob");
-    let value = Value::Bin(blob);
-    rows.push(Row { path, value }).expect(rt, "memory");
-    let path = path_of(rt, alloc, "/host/name");
-    rows.push(Row { path, value: name }).expect(rt, "memory");
+    let blob = Value::Bin(zeros(rt, alloc, octets));
+    rows.push(row_of(rt, alloc, "/host/blob", blob))
+        .expect(rt, "memory");
+    let name = host_name(rt, alloc, is_valid);
+    rows.push(row_of(rt, alloc, "/host/name", name))
+        .expect(rt, "memory");
     rows
 }
 
@@ -217,35 +242,34 @@ const WEIGHTS: &[(usize, bool, Result<(), CheckFault>)] = &[
 #[test]
 fn a_tree_is_full_where_it_is_valid_and_too_heavy(rt: HostRuntime) {
     let alloc = rt.alloc();
-    let schema = schema_of(&rt, alloc, SCHEMA);
-    for (octets, is_valid, wanted) in WEIGHTS.iter().copied() {
-        let name = if is_valid {
-            Value::Text(text_of(&rt, alloc, ""))
-        } else {
-            Value::Bool(true)
-        };
-        let rows = heavy(&rt, alloc, octets, name);
-        assert_eq!(rt;
-            answer(&rt, alloc, &schema, &rows, "heavy"),
-            wanted,
-            "{octets}"
-        );
+    for (octets, is_valid, wanted) in WEIGHTS {
+        let rows = heavy(&rt, alloc, *octets, *is_valid);
+        let is = is_answered(&rt, alloc, &rows, *wanted, "heavy");
+        assert!(rt; is, "{octets}");
     }
 }
 
+fn word_of(rt: &impl Abort, alloc: Global, number: u32) -> Value {
+    let text = format!(in alloc; "w{number}").expect(rt, "memory");
+    Value::Text(text_of(rt, alloc, text.as_str()))
+}
+
 /// So many words, of which the last is the first one where `is_twice` says so.
-fn words(rt: &impl Abort, alloc: Global, count: u32, is_twice: bool) -> Rows {
+fn words(rt: &impl Abort, alloc: Global, count: u32, is_twice: bool) -> Values {
     let mut values = Values::empty(alloc);
     for number in 0..count {
         let word = if is_twice && number == 99 { 0 } else { number };
-        let text = format!(in alloc; "w{word}").expect(rt, "memory");
-        let value = Value::Text(text_of(rt, alloc, text.as_str()));
-        values.push(value).expect(rt, "memory");
+        values.push(word_of(rt, alloc, word)).expect(rt, "memory");
     }
+    values
+}
+
+/// The one row of so many words.
+fn row_of_words(rt: &impl Abort, alloc: Global, count: u32, is_twice: bool) -> Rows {
     let mut rows = Rows::empty(alloc);
-    let path = path_of(rt, alloc, "/words");
-    let value = Value::List(values);
-    rows.push(Row { path, value }).expect(rt, "memory");
+    let value = Value::List(words(rt, alloc, count, is_twice));
+    rows.push(row_of(rt, alloc, "/words", value))
+        .expect(rt, "memory");
     rows
 }
 
@@ -262,14 +286,10 @@ const WORDS: &[(u32, bool, Result<(), CheckFault>)] = &[
 #[test]
 fn of_many_values_no_two_are_equal(rt: HostRuntime) {
     let alloc = rt.alloc();
-    let schema = schema_of(&rt, alloc, SCHEMA);
-    for (count, is_twice, wanted) in WORDS.iter().copied() {
-        let rows = words(&rt, alloc, count, is_twice);
-        assert_eq!(rt;
-            answer(&rt, alloc, &schema, &rows, "words"),
-            wanted,
-            "{count}"
-        );
+    for (count, is_twice, wanted) in WORDS {
+        let rows = row_of_words(&rt, alloc, *count, *is_twice);
+        let is = is_answered(&rt, alloc, &rows, *wanted, "words");
+        assert!(rt; is, "{count}");
     }
 }
 
@@ -287,9 +307,9 @@ const ORDERS: &[(&str, bool)] = &[
 #[test]
 fn rows_rise_one_above_the_other(rt: HostRuntime) {
     let alloc = rt.alloc();
-    for (lines, is_rising) in ORDERS.iter().copied() {
-        let rows = rows_of(&rt, alloc, lines);
-        assert_eq!(rt; are_rising(rows.items()), is_rising, "{lines}");
+    for (lines, is_rising) in ORDERS {
+        let found = are_rising(rows_of(&rt, alloc, lines).items());
+        assert!(rt; found == *is_rising, "{lines}");
     }
 }
 
@@ -300,13 +320,14 @@ const PRINTED: &[(CheckFault, &str)] = &[
     (CheckFault::NoMemory, "no memory"),
 ];
 
-fn prints(alloc: Global, fault: CheckFault, text: &str) -> bool {
-    format!(in alloc; "{fault}").is_ok_and(|printed| printed.as_str() == text)
+fn prints(rt: &impl Abort, alloc: Global, fault: CheckFault, text: &str) -> bool {
+    let printed = format!(in alloc; "{fault}").expect(rt, "memory");
+    printed.as_str() == text
 }
 
 #[test]
 fn faults_print_as_they_are_called(rt: HostRuntime) {
-    for (fault, text) in PRINTED.iter().copied() {
-        assert!(rt; prints(rt.alloc(), fault, text), "{text}");
+    for (fault, text) in PRINTED {
+        assert!(rt; prints(&rt, rt.alloc(), *fault, text), "{text}");
     }
 }

@@ -28,14 +28,23 @@ pub fn new_book(alloc: Global, failures: u64, passes: u64) -> Option<TestBook> {
     }
 }
 
-/// The book, whose disk fails so often, each time after so many calls.
-fn armed(mut book: TestBook, failures: u64, passes: u64) -> Option<TestBook> {
+/// Whether the book's disk is told to fail so often, each time after so many calls.
+fn is_armed(book: &mut TestBook, failures: u64, passes: u64) -> bool {
     for _ in 0..failures {
         let Ok(()) = book.fail_after(passes) else {
-            return None;
+            return false;
         };
     }
-    Some(book)
+    true
+}
+
+/// The book, whose disk fails so often, each time after so many calls.
+fn armed(mut book: TestBook, failures: u64, passes: u64) -> Option<TestBook> {
+    if is_armed(&mut book, failures, passes) {
+        Some(book)
+    } else {
+        None
+    }
 }
 
 /// Whether the stamps of the author's entries are just these, in this order.

@@ -1,6 +1,6 @@
 ghost use Rattle.std.specs.Prelude.{◌≡◌, false, IfSome};
 
-use crate::books::{TestBook, has_just, new_book};
+use crate::books::{has_just, new_book};
 use base_kinds::{Ask, Ops, Paths, Refusal};
 use book_port::{BookPort, Twin};
 use memory_disks::FuseDisk;
@@ -9,7 +9,6 @@ use shared_book::Visit;
 use std::alloc::Global;
 use std::process::Abort;
 use std::sync::Wait;
-use std::test::Fail;
 use std::thread::{Threads, join};
 
 type TestVisit<R> = Visit<FuseDisk, PlainTree, R>;
@@ -46,11 +45,19 @@ fn another<R: Wait + Clone + Drop>(visit: &mut TestVisit<R>) -> Option<TestVisit
     }
 }
 
-/// The first port of a book.
-fn first<R: Wait + Clone + Drop>(rt: &R, alloc: Global, book: TestBook) -> Option<TestVisit<R>>
+/// The first port of a book without entries, whose disk fails in each call after so many, so often.
+fn first<R: Wait + Clone + Drop>(
+    rt: &R,
+    alloc: Global,
+    failures: u64,
+    passes: u64,
+) -> Option<TestVisit<R>>
     ensures { IfSome result (λ visit. visit.is_alone ≡ false) }
 {
     let Ok(rt) = rt.clone() else {
+        return None;
+    };
+    let Some(book) = new_book(alloc, failures, passes) else {
         return None;
     };
     match Visit::make(rt, alloc, book) {
@@ -66,8 +73,7 @@ fn sets_of_two<R: Threads + Wait + Clone + Drop + Send + Sync>(
     alloc: Global,
     sets: u64,
 ) -> Option<(usize, bool, bool)> {
-    let book = new_book(alloc, 0, 0)?;
-    let mut one = first(rt, alloc, book)?;
+    let mut one = first(rt, alloc, 0, 0)?;
     let two = another(&mut one)?;
     let (first, second) = (one.author(), two.author());
     let ((mut one, its), (two, others)) = join(
@@ -84,10 +90,8 @@ fn sets_of_two<R: Threads + Wait + Clone + Drop + Send + Sync>(
 }
 
 #[test]
-fn two_threads_lose_no_entry_of_two_hundred(rt: HostRuntime) -> Result<(), Fail> {
-    let found = sets_of_two(&rt, rt.alloc(), 100).ok_or("no book")?;
-    assert!(rt; found == (200, true, true));
-    Ok(())
+fn two_threads_lose_no_entry_of_two_hundred(rt: HostRuntime) {
+    assert!(rt; sets_of_two(&rt, rt.alloc(), 100) == Some((200, true, true)));
 }
 
 /// How many Sets were accepted, and how many calls were refused for a fault of the disk.
@@ -206,8 +210,7 @@ fn turns_of_eight<R: Threads + Wait + Clone + Drop + Send + Sync>(
     rt: &R,
     alloc: Global,
 ) -> Option<(Counts, u64, u64)> {
-    let book = new_book(alloc, FAILURES, 10)?;
-    let visit = first(rt, alloc, book)?;
+    let visit = first(rt, alloc, FAILURES, 10)?;
     let (visit, counts) = by_eight(rt, alloc, visit, 25)?;
     let book = visit.finish();
     let all = book.count();
@@ -215,10 +218,15 @@ fn turns_of_eight<R: Threads + Wait + Clone + Drop + Send + Sync>(
     Some((counts, entries, all.saturating_sub(entries)))
 }
 
+/// Whether the threads count just the entries and marks that the book has, a mark for each failure.
+fn agree(found: Option<(Counts, u64, u64)>) -> bool {
+    match found {
+        Some((counts, entries, marks)) => counts == (entries, marks) && marks == FAILURES,
+        None => false,
+    }
+}
+
 #[test]
-fn eight_threads_are_each_told_what_the_book_has(rt: HostRuntime) -> Result<(), Fail> {
-    let (counts, entries, marks) = turns_of_eight(&rt, rt.alloc()).ok_or("no book")?;
-    assert!(rt; counts == (entries, marks));
-    assert!(rt; marks == FAILURES);
-    Ok(())
+fn eight_threads_are_each_told_what_the_book_has(rt: HostRuntime) {
+    assert!(rt; agree(turns_of_eight(&rt, rt.alloc())));
 }

@@ -111,9 +111,9 @@ fn afterwards(says: Says) -> (Says, bool) {
 #[test]
 fn each_check_has_its_answer_in_any_pieces(rt: HostRuntime) -> Result<(), Fail> {
     for row in TABLE.iter() {
-        for size in SIZES.iter().copied() {
+        for size in SIZES {
             let (then, whole) = afterwards(row.says);
-            let answer = answered(rt.alloc(), row, size);
+            let answer = answered(rt.alloc(), row, *size);
             assert_eq!(rt; answer, (row.says, then, whole));
         }
     }
@@ -151,8 +151,8 @@ fn is_understood(alloc: Global, capture: &Capture, size: usize) -> bool {
 #[test]
 fn clients_are_understood_in_one_piece_and_octet_by_octet(rt: HostRuntime) -> Result<(), Fail> {
     for capture in CAPTURES.iter() {
-        for size in SIZES.iter().copied() {
-            assert_eq!(rt; is_understood(rt.alloc(), capture, size), true);
+        for size in SIZES {
+            assert!(rt; is_understood(rt.alloc(), capture, *size));
         }
     }
     Ok(())
