@@ -9,7 +9,7 @@ use crate::cause::{Cause, SchemaError, SchemaFault};
 use crate::grammar::read_line;
 use crate::line::{Declared, Line};
 use base_kinds::{
-    Copied, MOST_SCHEMA_LINE_OCTETS, MOST_SCHEMA_NODES, MOST_SCHEMA_OCTETS, Text, Texts,
+    Copied, MOST_SCHEMA_LINE_OCTETS, MOST_SCHEMA_NODES, MOST_SCHEMA_OCTETS, NoMemory, Text, Texts,
 };
 use plain_texts::Parts;
 use schema_core::{Node, Schema};
@@ -90,18 +90,33 @@ impl Reading {
             (λ error. IsFaultOf error (at_line number (with_node number self.old names node))) }
     {
         if self.schema.nodes() >= MOST_SCHEMA_NODES {
+            drop(names);
+            drop(node);
             return Err(fault(number, Cause::TooLarge));
         }
         let Some(module_name) = &self.module_name else {
+            drop(names);
+            drop(node);
             return Err(fault(number, Cause::NoModule));
         };
         if !self.schema.has_parent(names.items()) {
+            drop(names);
+            drop(node);
             return Err(fault(number, Cause::NoParent));
         }
         if self.schema.find_names(names.items()).is_some() {
+            drop(names);
+            drop(node);
             return Err(fault(number, Cause::Twice));
         }
-        let module_name = module_name.copy(alloc)?;
+        let module_name = match module_name.copy(alloc) {
+            Ok(module_name) => module_name,
+            Err(NoMemory) => {
+                drop(names);
+                drop(node);
+                return Err(SchemaError::NoMemory);
+            }
+        };
         self.schema.add(node_in(alloc, module_name, names, node))?;
         if self.lines.push(number).is_err() {
             return Err(SchemaError::NoMemory);
