@@ -5,7 +5,7 @@ ghost use Rattle.serde_json.specs.View.{view, items_view};
 ghost use Rattle.base_lists.specs.Results.{IsUnlessMemory, and_then};
 ghost use Rattle.json_rows.specs.Leaves.{leaf_at, values_from};
 ghost use Rattle.json_rows.specs.Entries.{keys_unless_seen};
-ghost use Rattle.json_rows.specs.Walk.{below, rows_with_leaf, rows_with_leaf_list};
+ghost use Rattle.json_rows.specs.Walk.{below, rows_with_leaf, rows_with_leaf_list, rows_with_row};
 
 use crate::fault::RowsFault;
 use crate::leaves::leaf_at;
@@ -29,21 +29,43 @@ pub(crate) fn below(alloc: Global, above: &Path, name: &str, keys: Keys) -> Resu
     Ok(Seq::from_vec(elems))
 }
 
-/// Adds the row of a leaf.
+/// Adds the row of this value at the child of this name.
+fn put_row(
+    alloc: Global,
+    above: &Path,
+    name: &str,
+    value: Value,
+    rows: &mut Rows,
+) -> Result<(), NoMemory>
+    ensures { OnOk result
+        (rows.new ≡ rows_with_row (below above.now name.now []) rows.old value) }
+{
+    match below(alloc, above, name, Seq::empty(alloc)) {
+        Ok(path) => rows.push(Row { path, value }),
+        Err(NoMemory) => {
+            drop(value);
+            Err(NoMemory)
+        }
+    }
+}
+
+/// Adds the row of a leaf: its name, and the path above it.
 pub(crate) fn add_leaf(
     alloc: Global,
     shape: Option<&Shape>,
-    path: Path,
+    above: &Path,
+    name: &str,
     json: &Json,
     rows: &mut Rows,
 ) -> Result<(), RowsFault>
     ensures answer { IsUnlessMemory RowsFault.NoMemory (and_then result (λ _. Ok rows.new))
-        (rows_with_leaf path rows.old (leaf_at (option_copied shape.entry) (view json.now))) }
+        (rows_with_leaf (below above.now name.now []) rows.old
+        (leaf_at (option_copied shape.entry) (view json.now))) }
 {
     let Some(value) = leaf_at(alloc, shape, json)? else {
         return Err(RowsFault::BadValue);
     };
-    rows.push(Row { path, value })?;
+    put_row(alloc, above, name, value, rows)?;
     Ok(())
 }
 
@@ -70,16 +92,17 @@ fn values_of(
     }
 }
 
-/// Adds the row of a leaf-list, where it has a value.
+/// Adds the row of a leaf-list, where it has a value: its name, and the path above it.
 pub(crate) fn add_list(
     alloc: Global,
     shape: Option<&Shape>,
-    path: Path,
+    above: &Path,
+    name: &str,
     items: &Vec<Json>,
     rows: &mut Rows,
 ) -> Result<(), RowsFault>
     ensures answer { IsUnlessMemory RowsFault.NoMemory (and_then result (λ _. Ok rows.new))
-        (rows_with_leaf_list path rows.old
+        (rows_with_leaf_list (below above.now name.now []) rows.old
         (values_from (option_copied shape.entry) [] (items_view items.now.items))) }
 {
     let Some(values) = values_of(alloc, shape, items)? else {
@@ -88,8 +111,7 @@ pub(crate) fn add_list(
     if values.is_empty() {
         return Ok(());
     }
-    let value = Value::List(values);
-    rows.push(Row { path, value })?;
+    put_row(alloc, above, name, Value::List(values), rows)?;
     Ok(())
 }
 

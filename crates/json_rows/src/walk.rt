@@ -46,13 +46,9 @@ pub(crate) fn add_node(
             alloc, schema, id, node, above, name, items, rows,
         ),
         (Sort::LeafList, Json::Array(items)) => {
-            let here = below(alloc, above, name, Seq::empty(alloc))?;
-            add_list(alloc, node.shape(), here, items, rows)
+            add_list(alloc, node.shape(), above, name, items, rows)
         }
-        (Sort::Leaf, _) => {
-            let here = below(alloc, above, name, Seq::empty(alloc))?;
-            add_leaf(alloc, node.shape(), here, json, rows)
-        }
+        (Sort::Leaf, _) => add_leaf(alloc, node.shape(), above, name, json, rows),
         _ => Err(RowsFault::BadValue),
     }
 }
