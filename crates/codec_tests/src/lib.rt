@@ -12,3 +12,5 @@ mod huffman;
 mod lists;
 #[cfg(test)]
 mod messages;
+#[cfg(test)]
+mod tables;

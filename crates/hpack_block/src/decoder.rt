@@ -43,10 +43,18 @@ impl Decoder {
         }
     }
 
-    /// How many entries the table has, and their size.
-    #[cfg(test)]
-    pub(crate) fn entries(&self) -> (usize, usize) {
-        self.table.entries()
+    /// How many entries the dynamic table has, while no block has ended the decoder.
+    pub fn table_entries(&self) -> usize
+        ensures { IfOk self.now (λ table. result ≡ length table.entries) }
+    {
+        self.table.count()
+    }
+
+    /// The size of the dynamic table's entries (RFC 7541, section 4.1), while no block has ended the decoder.
+    pub fn table_size(&self) -> usize
+        ensures { IfOk self.now (λ table. result ≡ size_of_all table.entries) }
+    {
+        self.table.size()
     }
 
     /// The headers of a block. After `TooLong` the decoder goes on, with the table as the whole block leaves it. Headers

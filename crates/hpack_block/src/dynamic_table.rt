@@ -1,7 +1,7 @@
-ghost use Rattle.std.specs.Prelude.{◌≡◌, ◌≤◌, OnOk, option_map, slice_get};
+ghost use Rattle.std.specs.Prelude.{◌≡◌, ◌≤◌, OnOk, length, option_map, slice_get};
 ghost use Rattle.std.specs.Option.{option_copied};
 ghost use Rattle.hpack_block.specs.StaticTable.{pair};
-ghost use Rattle.hpack_block.specs.Tables.{with_entry, with_maximum, empty_table, entry_at, fitting_entries, largest_table};
+ghost use Rattle.hpack_block.specs.Tables.{with_entry, with_maximum, empty_table, entry_at, fitting_entries, largest_table, size_of_all};
 ghost use Rattle.hpack_block.specs.inner.Gathering.{room_beside};
 
 use crate::header::Header;
@@ -97,10 +97,16 @@ impl DynamicTable {
         self.room = maximum - size;
     }
 
-    /// How many entries there are, and their size.
-    #[cfg(test)]
-    pub(crate) fn entries(&self) -> (usize, usize) {
-        (self.entries.len(), self.maximum - self.room)
+    pub(crate) fn count(&self) -> usize
+        ensures { result ≡ length self.now.entries }
+    {
+        self.entries.len()
+    }
+
+    pub(crate) fn size(&self) -> usize
+        ensures { result ≡ size_of_all self.now.entries }
+    {
+        self.maximum - self.room
     }
 
     // Evicts the oldest entries until the others have no more than this size.

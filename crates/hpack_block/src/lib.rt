@@ -14,8 +14,6 @@ mod integer;
 mod laws;
 mod static_table;
 mod string;
-#[cfg(test)]
-mod tests;
 
 pub use decoder::Decoder;
 pub use encoder::encode_block;
