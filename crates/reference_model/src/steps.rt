@@ -1,5 +1,5 @@
 // One step of a history, without a schema: the event of the clock, and then what becomes of an ask.
-ghost use Rattle.std.specs.Prelude.{◌≡◌, ◌⊎◌, ◌+◌, ◌≤◌, ◌<◌, ◌^◌, ◌∷◌, [], not, OnOk, OnErr, IsErrOf};
+ghost use Rattle.std.specs.Prelude.{◌≡◌, ◌⊎◌, ◌+◌, ◌≤◌, ◌<◌, ◌^◌, ◌∷◌, [], not, IfOk, OnOk, OnErr, IsErrOf};
 ghost use Rattle.base_lists.specs.Results.{IsUnlessMemory};
 ghost use Rattle.base_kinds.specs.Records.{counted, record_octets};
 ghost use Rattle.base_kinds.specs.History.{last_stamp, stamp_of, world_of};
@@ -38,10 +38,30 @@ pub fn step_of(
     ensures memory { IsErrOf result Refusal.NoMemory →
         (entries.new ≡ entries.old) ⊎ (entries.new ≡ after_expiry entries.old now) }
 {
-    after_expiry(alloc, entries, now)?;
-    let world = world_of(alloc, entries.items())?;
+    let world = match world_behind(alloc, entries, now) {
+        Ok(world) => world,
+        Err(NoMemory) => {
+            drop(ask);
+            return Err(Refusal::NoMemory);
+        }
+    };
     let stamp = new_stamp(entries.items(), now);
-    judge_in(limits, entries.items(), &world, stamp, author, ask)
+    let judged = judge_in(limits, entries.items(), &world, stamp, author, ask);
+    drop(world);
+    judged
+}
+
+/// The state behind the event of the clock, which is added where a trial is due.
+fn world_behind(alloc: Global, entries: &mut Entries, now: u64) -> Result<PlainWorld, NoMemory>
+    requires { stamp_of entries.old < 2 ^ 62 }
+    ensures world { IfOk result (λ world. world_in world ≡ world_of entries.new) }
+    ensures value { OnOk result (entries.new ≡ after_expiry entries.old now) }
+    ensures bound { OnOk result (stamp_of entries.new ≤ 2 ^ 62) }
+    ensures err { OnErr result
+        ((entries.new ≡ entries.old) ⊎ (entries.new ≡ after_expiry entries.old now)) }
+{
+    after_expiry(alloc, entries, now)?;
+    world_of(alloc, entries.items())
 }
 
 /// Adds the event of the clock where a trial is due.
@@ -53,7 +73,9 @@ fn after_expiry(alloc: Global, entries: &mut Entries, now: u64) -> Result<(), No
     ensures err { OnErr result (entries.new ≡ entries.old) }
 {
     let world = world_of(alloc, entries.items())?;
-    if is_past(&world, time_at(entries.items(), now)) {
+    let is_due = is_past(&world, time_at(entries.items(), now));
+    drop(world);
+    if is_due {
         let stamp = new_stamp(entries.items(), now);
         let entry = next_entry(entries.items(), stamp, 0, Kind::Expire);
         entries.push(entry)?;

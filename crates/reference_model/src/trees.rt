@@ -1,5 +1,5 @@
 // What the operations of a Set do to a tree.
-ghost use Rattle.std.specs.Prelude.{◌≡◌, ◌++◌, IfOk, OnOk};
+ghost use Rattle.std.specs.Prelude.{◌≡◌, ◌++◌, ◌∷◌, [], IfOk, OnOk};
 ghost use Rattle.base_kinds.specs.Tree.{set_row, set_rows, uncovered, op_effect, with_act, in_turn, effect};
 
 use crate::matching::covers;
@@ -68,7 +68,7 @@ fn put_uncovered(
         return Ok(());
     };
     if !covers(pattern, &row.path) {
-        rest.push(row.copy(alloc)?)?;
+        put_copy(alloc, row, rest)?;
     }
     put_uncovered(alloc, pattern, others, rest)
 }
@@ -82,23 +82,33 @@ fn set_rows(alloc: Global, rows: &[Row], tree: Rows) -> Result<Rows, NoMemory>
     set_rows(alloc, others, set_row(alloc, row, &tree)?)
 }
 
+/// Adds a copy of the row.
+fn put_copy(alloc: Global, row: &Row, rows: &mut Rows) -> Result<(), NoMemory>
+    ensures { OnOk result (rows.new ≡ rows.old ++ row.now ∷ []) }
+{
+    match row.copy(alloc) {
+        Ok(copy) => rows.push(copy),
+        Err(NoMemory) => Err(NoMemory),
+    }
+}
+
 fn put_set(alloc: Global, row: &Row, rows: &[Row], set: &mut Rows) -> Result<(), NoMemory>
     ensures { OnOk result (set.new ≡ set.old ++ set_row row.now rows.now) }
 {
     let Some((first, others)) = rows.split_first() else {
-        return set.push(row.copy(alloc)?);
+        return put_copy(alloc, row, set);
     };
     match first.path.cmp(&row.path) {
         Ordering::Less => {
-            set.push(first.copy(alloc)?)?;
+            put_copy(alloc, first, set)?;
             put_set(alloc, row, others, set)
         }
         Ordering::Equal => {
-            set.push(row.copy(alloc)?)?;
+            put_copy(alloc, row, set)?;
             put_all(alloc, others, set)
         }
         Ordering::Greater => {
-            set.push(row.copy(alloc)?)?;
+            put_copy(alloc, row, set)?;
             put_all(alloc, rows, set)
         }
     }
@@ -110,6 +120,6 @@ fn put_all(alloc: Global, rows: &[Row], set: &mut Rows) -> Result<(), NoMemory>
     let Some((row, others)) = rows.split_first() else {
         return Ok(());
     };
-    set.push(row.copy(alloc)?)?;
+    put_copy(alloc, row, set)?;
     put_all(alloc, others, set)
 }

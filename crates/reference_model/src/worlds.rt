@@ -1,10 +1,11 @@
 // The state that a history stands for.
-ghost use Rattle.std.specs.Prelude.{◌≡◌, IfOk};
+ghost use Rattle.std.specs.Prelude.{◌≡◌, IfOk, Some};
 ghost use Rattle.base_kinds.specs.History.{world_after, world_of, world_from, tree_before, extended};
+ghost use Rattle.base_kinds.specs.Tree.{effect};
 ghost use Rattle.reference_model.specs.PlainWorlds.{trial_in, world_in};
 
 use crate::trees::effect;
-use base_kinds::{Copied, Entry, Kind, NoMemory, Rows, Seq, Text};
+use base_kinds::{Copied, Entry, Kind, NoMemory, Ops, Rows, Seq, Text};
 use std::alloc::Global;
 
 /// A trial that is neither confirmed nor undone.
@@ -48,23 +49,23 @@ pub fn world_after(alloc: Global, kind: &Kind, world: PlainWorld) -> Result<Plai
 {
     let PlainWorld { tree, trial } = world;
     match kind {
-        Kind::Apply(ops) => Ok(PlainWorld {
-            tree: effect(alloc, ops, &tree)?,
-            trial: None,
-        }),
-        Kind::Trial(id, ops, deadline) => {
-            let next = effect(alloc, ops, &tree)?;
-            let trial = PlainTrial {
-                id: id.copy(alloc)?,
-                before: tree,
-                deadline: *deadline,
-            };
-            Ok(PlainWorld {
-                tree: next,
-                trial: Some(trial),
-            })
+        Kind::Apply(ops) => {
+            drop(trial);
+            let next = effect(alloc, ops, &tree);
+            drop(tree);
+            match next {
+                Ok(tree) => Ok(PlainWorld { tree, trial: None }),
+                Err(NoMemory) => Err(NoMemory),
+            }
         }
-        Kind::Confirm => Ok(PlainWorld { tree, trial: None }),
+        Kind::Trial(id, ops, deadline) => {
+            drop(trial);
+            tried(alloc, id, ops, *deadline, tree)
+        }
+        Kind::Confirm => {
+            drop(trial);
+            Ok(PlainWorld { tree, trial: None })
+        }
         Kind::Cancel | Kind::Expire | Kind::Restart => Ok(PlainWorld {
             tree: tree_before(tree, trial),
             trial: None,
@@ -73,6 +74,50 @@ pub fn world_after(alloc: Global, kind: &Kind, world: PlainWorld) -> Result<Plai
             tree,
             trial: extended(trial, *deadline),
         }),
+    }
+}
+
+/// The tree and the trial that these operations begin, with this tree before it.
+fn tried(
+    alloc: Global,
+    id: &Text,
+    ops: &Ops,
+    deadline: u64,
+    before: Rows,
+) -> Result<PlainWorld, NoMemory>
+    ensures { IfOk result (λ next. world_in next
+        ≡ record {
+          tree = effect ops.now before;
+          trial = Some (record {
+            id = id.now;
+            before = before;
+            deadline = deadline;
+          });
+        }) }
+{
+    match effect(alloc, ops, &before) {
+        Ok(tree) => match id.copy(alloc) {
+            Ok(id) => {
+                let trial = PlainTrial {
+                    id,
+                    before,
+                    deadline,
+                };
+                Ok(PlainWorld {
+                    tree,
+                    trial: Some(trial),
+                })
+            }
+            Err(NoMemory) => {
+                drop(tree);
+                drop(before);
+                Err(NoMemory)
+            }
+        },
+        Err(NoMemory) => {
+            drop(before);
+            Err(NoMemory)
+        }
     }
 }
 
