@@ -32,13 +32,17 @@ pub fn new_book(alloc: Global, schema: Schema, limits: Limits) -> Result<ScriptB
 {
     let mut disk = FuseDisk::make(MemDisk::make(alloc), NO_STOP, Fill::Old);
     let Ok(()) = Ledger::create(alloc, &mut disk, &limits) else {
+        drop(disk);
         return Err(NoMemory);
     };
     match Book::reopen(alloc, disk, PlainTree::empty(alloc), schema, 0) {
         BookOpening::Ready(book) => Ok(book),
         BookOpening::Damaged(_, _) => unreachable!(),
         BookOpening::Unfit(_) => unreachable!(),
-        BookOpening::DiskFault(_) | BookOpening::NoMemory(_) => Err(NoMemory),
+        BookOpening::DiskFault(disk) | BookOpening::NoMemory(disk) => {
+            drop(disk);
+            Err(NoMemory)
+        }
     }
 }
 

@@ -70,7 +70,7 @@ fn reopen_into(
 {
     match reopen(alloc, disk, schema, reading, out)? {
         Some(opened) => {
-            *book = opened;
+            drop(std::mem::replace(book, opened));
             Ok(true)
         }
         None => Ok(false),
@@ -121,7 +121,10 @@ fn say_reopened(
 {
     match put_number_line(alloc, b"reopened ", book.count(), out) {
         Ok(()) => Ok(Some(book)),
-        Err(NoMemory) => Err(NoMemory),
+        Err(NoMemory) => {
+            drop(book);
+            Err(NoMemory)
+        }
     }
 }
 
@@ -170,13 +173,18 @@ fn open_left(
         BookOpening::Unfit(_) => unreachable!(),
         BookOpening::DiskFault(disk) => {
             if disk.starved() {
+                drop(disk);
                 return Err(NoMemory);
             }
             if disk.stopped() {
                 return Ok(Reopening::Stopped(disk.again()));
             }
+            drop(disk);
             Ok(Reopening::Failed)
         }
-        BookOpening::NoMemory(_) => Err(NoMemory),
+        BookOpening::NoMemory(disk) => {
+            drop(disk);
+            Err(NoMemory)
+        }
     }
 }

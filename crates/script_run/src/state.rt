@@ -76,7 +76,18 @@ impl ScriptState {
     pub fn into_entries(self) -> Entries
         ensures { result ≡ self.history }
     {
-        let BookEnd { entries, .. } = self.book.end();
+        let ScriptState {
+            book,
+            reading: _,
+            pending,
+            subs,
+            calls,
+        } = self;
+        drop(pending);
+        drop(subs);
+        drop(calls);
+        let BookEnd { disk, entries } = book.end();
+        drop(disk);
         entries
     }
 
@@ -88,7 +99,8 @@ impl ScriptState {
     {
         let reply = self.take(alloc, line)?;
         if self.book.stopped() {
-            self.calls = Vec::new(alloc);
+            drop(reply);
+            drop(std::mem::replace(&mut self.calls, Vec::new(alloc)));
             return restart(alloc, &mut self.book, self.reading, out);
         }
         put_reply(alloc, reply, out)?;

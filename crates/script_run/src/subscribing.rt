@@ -98,15 +98,44 @@ fn open_stream(
         ≡ open_by author name Streams plan reading
         (looked_at (Some (patterns_of plan.lines)) reading book.old) calls.old.items) }
 {
-    let patterns = patterns(alloc, &plan)?;
-    match look(alloc, book, reading, author, &patterns)? {
-        Ok(view) => {
-            let (stream, note) = Stream::start(alloc, plan, reading, view)?;
-            let call = OpenStream::of(author, patterns, stream);
-            put_call(calls, name, OpenCall::Stream(call))?;
-            Ok(CallReply::Began(note))
+    let patterns = match patterns(alloc, &plan) {
+        Ok(patterns) => patterns,
+        Err(NoMemory) => {
+            drop(plan);
+            drop(name);
+            return Err(NoMemory);
         }
-        Err(refusal) => Ok(CallReply::Refused(refusal)),
+    };
+    match look(alloc, book, reading, author, &patterns) {
+        Ok(Ok(view)) => match Stream::start(alloc, plan, reading, view) {
+            Ok((stream, note)) => {
+                let call = OpenStream::of(author, patterns, stream);
+                match put_call(calls, name, OpenCall::Stream(call)) {
+                    Ok(()) => Ok(CallReply::Began(note)),
+                    Err(NoMemory) => {
+                        drop(note);
+                        Err(NoMemory)
+                    }
+                }
+            }
+            Err(NoMemory) => {
+                drop(patterns);
+                drop(name);
+                Err(NoMemory)
+            }
+        },
+        Ok(Err(refusal)) => {
+            drop(patterns);
+            drop(plan);
+            drop(name);
+            Ok(CallReply::Refused(refusal))
+        }
+        Err(NoMemory) => {
+            drop(patterns);
+            drop(plan);
+            drop(name);
+            Err(NoMemory)
+        }
     }
 }
 
@@ -127,9 +156,14 @@ fn look_once(
     ensures reply { IfOk result (λ reply. reply
         ≡ once_reply plan (looked_at (Some (patterns_of plan.lines)) reading book.old)) }
 {
-    let patterns = patterns(alloc, &plan)?;
-    match look(alloc, book, reading, author, &patterns)? {
-        Ok(view) => Ok(CallReply::Once(first_note(alloc, plan.updates_only, view))),
+    let only = plan.updates_only;
+    let patterns = patterns(alloc, &plan);
+    drop(plan);
+    let patterns = patterns?;
+    let seen = look(alloc, book, reading, author, &patterns);
+    drop(patterns);
+    match seen? {
+        Ok(view) => Ok(CallReply::Once(first_note(alloc, only, view))),
         Err(refusal) => Ok(CallReply::Refused(refusal)),
     }
 }
@@ -193,12 +227,17 @@ pub fn open(
         calls.old.items) }
 {
     if call_named(calls, &asked.name).is_some() {
+        drop(asked);
+        drop(subs);
         return Ok(CallReply::Taken);
     }
     let ask = ask_of(alloc, asked.mode, asked.only, subs)?;
-    match plan_of(alloc, &ask) {
+    let planned = plan_of(alloc, &ask);
+    drop(ask);
+    match planned {
         Ok(plan) => open_accepted(alloc, book, calls, reading, asked, plan),
         Err(refusal) => {
+            drop(asked);
             if refusal.is_memory() {
                 return Err(NoMemory);
             }
@@ -283,7 +322,7 @@ pub fn poll(
     match call_named(calls, &name) {
         None => Ok(CallReply::NoStream),
         Some(OpenCall::Stream(_)) => {
-            let _ = take_call(calls, &name);
+            drop(take_call(calls, &name));
             Ok(CallReply::Refused(Refusal::BadSubscribe))
         }
         Some(OpenCall::Poll(call)) => {

@@ -27,8 +27,8 @@ returns-then-stopped-clause-fewer c =
     let stopped = sym c.stopped.ensures ∙ c.if-stopped.true in
     fewer_left c.args.schema c.args.reading c.args.disk c.requires.limits c.requires.history c.requires.journal c.requires.running c.in-DiskFault.disk c.again.result fed stopped c.again.ensures.octets c.in-DiskFault.ensures
 
-pub returns-in-DiskFault-clause-opens : goal.returns-in-DiskFault-clause-opens
-returns-in-DiskFault-clause-opens c = λ limits history journal.
+pub returns-else-stopped-clause-opens : goal.returns-else-stopped-clause-opens
+returns-else-stopped-clause-opens c = λ limits history journal.
     let fed = sym c.starved.ensures ∙ c.if-starved.false in
     let running = sym c.stopped.ensures ∙ c.if-stopped.false in
     failed_is c.args.schema c.args.reading c.args.disk limits history journal c.in-DiskFault.disk fed running c.in-DiskFault.ensures
