@@ -32,7 +32,8 @@ use Rattle.target_top.specs.declared.ending.Ending.{Ending}
 use Rattle.target_top.specs.declared.ending.Ending.TheVariants.{DiskFault, Done, JournalDamaged, NoMemory, SchemaUnfit}
 use Rattle.target_top.specs.LoadRun.{AreSteady, Counts, CountsNone, IsMemory, Serves, line_of, load_line, load_reading}
 use Rattle.target_top.specs.SessionCommand.{OnDisk, OpensNone, Streams}
-use Rattle.target_top.specs.inner.Loads.{CannotRead, CountsDisk, counted_on, one_if, seen_memory}
+use Rattle.target_top.specs.Environment.{SeenDisk}
+use Rattle.target_top.specs.inner.Loads.{CannotRead, CountsDisk, ServesOctets, counted_on, one_if, seen_memory, streams_of_octets}
 use Rattle.target_top.proofs.Sessions.{fails_to_open}
 
 counts_one : (holds : Bool) (count more rest : ℕ) (entry : Entry) (later : List Entry) → length later ≡ rest → count + one_if holds + rest ≡ count + length (if holds then entry ∷ later else later)
@@ -60,9 +61,6 @@ empty_journal disk journal = record {
 abbrev pub streams_over : SourceState → SinkState → List ℕ → Streams
 streams_over source sink clock = record { input = input_of source; output = sink.seen; clock = clock }
 
-abbrev streams_of_octets : List ℕ → Streams
-streams_of_octets octets = record { input = record unread_input { left = Some octets }; output = unwritten_output; clock = [] }
-
 abbrev new_source : List ℕ → List (List ℕ) → SourceState
 new_source octets fails = record { octets = octets; past = unread_input; calls = 0; fails = fails }
 
@@ -75,22 +73,32 @@ over_octets source sink clock octets fails others source_is sink_is clock_is =
     ∙ ap (λ (s : SinkState). streams_over (new_source octets fails) s clock) sink_is
     ∙ ap (λ (c : List ℕ). streams_over (new_source octets fails) (new_sink others) c) clock_is
 
-pub serves : (seed count : ℕ) (schema : List SchemaNode) (source : SourceState) (sink : SinkState) (clock octets : List ℕ) (disk left_disk : DiskView) (left : Streams) (how : Option How) (ending : Ending) {fails others : List (List ℕ)}
-    → source ≡ new_source octets fails → sink ≡ new_sink others → clock ≡ [] → octets ≡ connection_of_sets seed count
-    → schema_of schema_text ≡ Ok schema → IsMemory (seen_memory disk) → HasJournal (Some disk.content) default_limits [] → AreSteady left.clock
+pub serves_octets : (schema : List SchemaNode) (source : SourceState) (sink : SinkState) (clock octets : List ℕ) (disk left_disk : DiskView) (left : Streams) (how : Option How) (ending : Ending) {fails others : List (List ℕ)}
+    → source ≡ new_source octets fails → sink ≡ new_sink others → clock ≡ [] → AreSteady left.clock
     → OnDisk schema (seen_memory disk) (seen_memory left_disk) (streams_over source sink clock) left how ending
-    → Serves seed count schema (seen_memory left_disk) ending
-serves seed count schema source sink clock octets disk left_disk left how ending {fails} {others} source_is sink_is clock_is octets_are schema_is memory journal steady on =
-    let over = subst (λ (s : Streams). OnDisk schema (seen_memory disk) (seen_memory left_disk) s left how ending) (over_octets source sink clock octets fails others source_is sink_is clock_is) on in
+    → ServesOctets octets schema (seen_memory disk) (seen_memory left_disk) ending
+serves_octets schema source sink clock octets disk left_disk left how ending {fails} {others} source_is sink_is clock_is steady on =
     record {
-      schema_is = schema_is;
-      initial = seen_memory disk;
-      memory = memory;
-      journal = journal;
       left = left;
       how = how;
-      on_disk = subst (λ (o : List ℕ). OnDisk schema (seen_memory disk) (seen_memory left_disk) (streams_of_octets o) left how ending) octets_are over;
+      on_disk = subst (λ (s : Streams). OnDisk schema (seen_memory disk) (seen_memory left_disk) s left how ending) (over_octets source sink clock octets fails others source_is sink_is clock_is) on;
       readings = steady;
+    }
+
+pub serves : (seed count : ℕ) (schema : List SchemaNode) (octets : List ℕ) (initial final : SeenDisk) (ending : Ending) → octets ≡ connection_of_sets seed count
+    → schema_of schema_text ≡ Ok schema → IsMemory initial → HasJournal initial.told default_limits []
+    → ServesOctets octets schema initial final ending
+    → Serves seed count schema final ending
+serves seed count schema octets initial final ending octets_are schema_is memory journal served =
+    record {
+      schema_is = schema_is;
+      initial = initial;
+      memory = memory;
+      journal = journal;
+      left = served.left;
+      how = served.how;
+      on_disk = subst (λ (o : List ℕ). OnDisk schema initial final (streams_of_octets o) served.left served.how ending) octets_are served.on_disk;
+      readings = served.readings;
     }
 
 -- what a call of the disk tells of it

@@ -7,7 +7,7 @@ ghost use Rattle.book_core.specs.Openings.{HasJournal};
 ghost use Rattle.book_core.specs.Views.{history_in};
 ghost use Rattle.generated_sets.specs.Schemas.{schema_text};
 ghost use Rattle.target_top.specs.LoadRun.{Counts, CountsNone, HasNoSchema, IsMemory, LoadRun, Serves, line_of, load_line, load_reading};
-ghost use Rattle.target_top.specs.inner.Loads.{CannotRead, CountsDisk, counted_on, one_if, seen_memory};
+ghost use Rattle.target_top.specs.inner.Loads.{CannotRead, CountsDisk, ServesOctets, counted_on, one_if, seen_memory};
 
 use crate::ending::Ending;
 use crate::host::{Host, Kit};
@@ -16,7 +16,7 @@ use crate::session_command::{DiskSession, Streams, on_disk};
 use crate::steady_clock::SteadyClock;
 use base_kinds::{Bytes, Entries, Entry, NoMemory, Path, Paths, Texts, View, default_limits};
 use base_lists::Copied;
-use book_core::{Book, BookOpening};
+use book_core::{Book, BookEnd, BookOpening};
 use commit_journal::Ledger;
 use disk_model::Disk;
 use edge_traits::{MemSink, MemSource};
@@ -95,7 +95,10 @@ fn new_journal(alloc: Global) -> Result<MemDisk, NoMemory>
     let mut disk = MemDisk::make(alloc);
     match Ledger::create(alloc, &mut disk, &default_limits()) {
         Ok(()) => Ok(looked_at(disk)),
-        Err(_) => Err(NoMemory),
+        Err(_) => {
+            drop(disk);
+            Err(NoMemory)
+        }
     }
 }
 
@@ -107,9 +110,80 @@ fn served(alloc: Global, seed: u64, count: u32, schema: Schema) -> Result<LoadEn
         Serves seed count schema (seen_memory end.disk) end.ending) }
     ensures memory { IfOk result (λ end. IsMemory (seen_memory end.disk)) }
 {
-    let desk = Desk::make(schema.copy(alloc)?);
-    let disk = new_journal(alloc)?;
-    let octets = connection_of_sets(alloc, seed, count)?;
+    match schema.copy(alloc) {
+        Ok(copy) => served_by(alloc, seed, count, schema, &Desk::make(copy)),
+        Err(NoMemory) => {
+            drop(schema);
+            Err(NoMemory)
+        }
+    }
+}
+
+/// Serves the client by this desk.
+fn served_by(
+    alloc: Global,
+    seed: u64,
+    count: u32,
+    schema: Schema,
+    desk: &Desk,
+) -> Result<LoadEnd, NoMemory>
+    requires count { count < 2 ^ 30 }
+    requires schema { schema_of schema_text ≡ Ok schema }
+    requires desk { desk.now ≡ schema }
+    ensures serves { IfOk result (λ end.
+        Serves seed count schema (seen_memory end.disk) end.ending) }
+    ensures memory { IfOk result (λ end. IsMemory (seen_memory end.disk)) }
+{
+    match new_journal(alloc) {
+        Ok(disk) => served_on(alloc, seed, count, schema, desk, disk),
+        Err(NoMemory) => {
+            drop(schema);
+            Err(NoMemory)
+        }
+    }
+}
+
+/// Serves the client over the journal on this disk.
+fn served_on(
+    alloc: Global,
+    seed: u64,
+    count: u32,
+    schema: Schema,
+    desk: &Desk,
+    disk: MemDisk,
+) -> Result<LoadEnd, NoMemory>
+    requires count { count < 2 ^ 30 }
+    requires schema { schema_of schema_text ≡ Ok schema }
+    requires desk { desk.now ≡ schema }
+    requires journal { HasJournal (Some disk.content) default_limits [] }
+    requires memory { IsMemory (seen_memory disk) }
+    ensures serves { IfOk result (λ end.
+        Serves seed count schema (seen_memory end.disk) end.ending) }
+    ensures memory { IfOk result (λ end. IsMemory (seen_memory end.disk)) }
+{
+    match connection_of_sets(alloc, seed, count) {
+        Ok(octets) => Ok(served_octets(alloc, schema, desk, disk, octets)),
+        Err(NoMemory) => {
+            drop(schema);
+            drop(disk);
+            Err(NoMemory)
+        }
+    }
+}
+
+/// Serves a client that sends these octets.
+fn served_octets(
+    alloc: Global,
+    schema: Schema,
+    desk: &Desk,
+    disk: MemDisk,
+    octets: Bytes,
+) -> LoadEnd
+    requires { desk.now ≡ schema }
+    ensures serves { ServesOctets octets schema (seen_memory disk) (seen_memory result.disk)
+        result.ending }
+    ensures memory { IsMemory (seen_memory result.disk) }
+{
     let streams = Streams {
         input: MemSource::make(octets, Texts::empty(alloc)),
         output: MemSink::make(alloc, Texts::empty(alloc)),
@@ -120,14 +194,16 @@ fn served(alloc: Global, seed: u64, count: u32, schema: Schema) -> Result<LoadEn
         streams,
         how: _,
         ending,
-    } = on_disk(alloc, schema, &desk, disk, streams);
+    } = on_disk(alloc, schema, desk, disk, streams);
     let Streams {
-        input: _,
-        output: _,
+        input,
+        output,
         clock: _clock,
     } = streams;
+    drop(input);
+    drop(output);
     let disk = looked_at(disk);
-    Ok(LoadEnd { disk, ending })
+    LoadEnd { disk, ending }
 }
 
 /// The disk, of which it is known then that what its reads give is what a stop may leave.
@@ -151,10 +227,22 @@ fn line_of_disk(alloc: Global, count: u32, disk: MemDisk, schema: Schema) -> Res
             Ok(line) => Ok(line),
             Err(NoMemory) => Err(Ending::NoMemory),
         },
-        BookOpening::Damaged(_, _) => Err(Ending::JournalDamaged),
-        BookOpening::Unfit(_) => Err(Ending::SchemaUnfit),
-        BookOpening::DiskFault(_) => Err(Ending::DiskFault),
-        BookOpening::NoMemory(_) => Err(Ending::NoMemory),
+        BookOpening::Damaged(_, disk) => {
+            drop(disk);
+            Err(Ending::JournalDamaged)
+        }
+        BookOpening::Unfit(disk) => {
+            drop(disk);
+            Err(Ending::SchemaUnfit)
+        }
+        BookOpening::DiskFault(disk) => {
+            drop(disk);
+            Err(Ending::DiskFault)
+        }
+        BookOpening::NoMemory(disk) => {
+            drop(disk);
+            Err(Ending::NoMemory)
+        }
     }
 }
 
@@ -168,9 +256,13 @@ fn line_of_book(
         line ≡ load_line count (after_expiry (history_in book) load_reading)) }
 {
     let mut book = book;
-    let view = view_of_all(alloc, &mut book)?;
+    let view = view_of_all(alloc, &mut book);
+    // The book is let go here, on one way.
     let entries = entries_of(book);
-    line_of_view(alloc, count, entries.items(), &view)
+    match view {
+        Ok(view) => line_of_view(alloc, count, entries.items(), &view),
+        Err(NoMemory) => Err(NoMemory),
+    }
 }
 
 /// The whole tree of this book, behind the event of the clock.
@@ -191,7 +283,9 @@ fn view_of_all(alloc: Global, book: &mut Book<MemDisk, PlainTree>) -> Result<Vie
 fn entries_of(book: Book<MemDisk, PlainTree>) -> Entries
     ensures { result ≡ history_in book }
 {
-    book.end().entries
+    let BookEnd { disk, entries } = book.end();
+    drop(disk);
+    entries
 }
 
 /// The line on a history and the view of its whole tree.

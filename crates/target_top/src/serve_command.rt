@@ -285,7 +285,8 @@ where
             }
         }
         Err(book) => {
-            let BookEnd { disk, entries: _ } = book.end();
+            let BookEnd { disk, entries } = book.end();
+            drop(entries);
             let ending = out_of_memory(output);
             unserved(alloc, disk, ending)
         }
@@ -371,7 +372,8 @@ where
     D: Disk + Drop,
     ensures { LeavesBook port.opened port (seen_disk D.told D.faults result) }
 {
-    let BookEnd { disk, entries: _ } = port.give().finish().end();
+    let BookEnd { disk, entries } = port.give().finish().end();
+    drop(entries);
     disk
 }
 

@@ -236,7 +236,8 @@ fn serve<D: Disk + Drop, I: Source, O: Sink, C: Clock>(
 fn disk_of<D: Disk + Drop>(port: Single<D, PlainTree>) -> D
     ensures { IsLeft port.book.opened (port_of D.faults port) (seen_disk D.told D.faults result) }
 {
-    let BookEnd { disk, entries: _ } = port.give().end();
+    let BookEnd { disk, entries } = port.give().end();
+    drop(entries);
     disk
 }
 

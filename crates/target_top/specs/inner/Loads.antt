@@ -1,19 +1,37 @@
 -- A load over a disk in memory.
-use Rattle.std.specs.Prelude.{◌≡◌, ℕ, ◌+◌, ◌==◌, Bool, true, false, List, [], ◌∷◌, Some}
+use Rattle.std.specs.Prelude.{◌≡◌, ℕ, ◌+◌, ◌==◌, Bool, true, false, List, [], ◌∷◌, Option, Some}
 use Rattle.base_kinds.specs.declared.entry.Entry.{Entry}
 use Rattle.base_kinds.specs.declared.entry.Limits.{Limits}
 use Rattle.base_kinds.specs.Schema.{SchemaNode}
 use Rattle.base_kinds.specs.Step.{after_expiry}
+use Rattle.edge_traits.specs.Input.{unread_input}
+use Rattle.edge_traits.specs.Output.{unwritten_output}
 use Rattle.memory_disks.specs.Views.{DiskView}
 use Rattle.book_port.specs.Opened.{reopened}
 use Rattle.book_core.specs.Openings.{HasJournal}
+use Rattle.session_core.specs.declared.how.How.{How}
 use Rattle.target_top.specs.declared.ending.Ending.{Ending}
 use Rattle.target_top.specs.Environment.{SeenDisk}
-use Rattle.target_top.specs.LoadRun.{load_line, load_reading}
-use Rattle.target_top.specs.SessionCommand.{OpensNone}
+use Rattle.target_top.specs.LoadRun.{AreSteady, load_line, load_reading}
+use Rattle.target_top.specs.SessionCommand.{OnDisk, OpensNone, Streams}
 
 abbrev pub seen_memory : DiskView → SeenDisk
 seen_memory disk = record { told = Some disk.content; faults = disk.faults }
+
+-- a client that sends these octets, an output to which nothing was written, and a clock that wasn't read
+abbrev pub streams_of_octets : List ℕ → Streams
+streams_of_octets octets = record {
+  input = record unread_input { left = Some octets };
+  output = unwritten_output;
+  clock = [];
+}
+
+-- a client that sends these octets was served from this disk on, and each reading was the same
+pub record ServesOctets (octets : List ℕ) (schema : List SchemaNode) (initial final : SeenDisk) (ending : Ending) : Type 0 where
+  pub left : Streams
+  pub how : Option How
+  pub on_disk : OnDisk schema initial final (streams_of_octets octets) left how ending
+  pub readings : AreSteady left.clock
 
 -- how many it adds to a count
 abbrev pub one_if : Bool → ℕ

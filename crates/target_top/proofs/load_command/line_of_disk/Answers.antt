@@ -6,10 +6,10 @@ pub returns-in-Ok-clause-ok : goal.returns-in-Ok-clause-ok
 returns-in-Ok-clause-ok c = counts_disk c.args.schema c.args.disk c.args.count c.in-Ready.book c.in-Ok.line c.in-Ready.ensures c.in-Ok.ensures
 
 pub returns-in-Damaged-clause-err : goal.returns-in-Damaged-clause-err
-returns-in-Damaged-clause-err c = inr (reads_damage c.args.schema c.args.disk c.in-Damaged.field-0 c.in-Damaged.field-1 c.in-Damaged.ensures)
+returns-in-Damaged-clause-err c = inr (reads_damage c.args.schema c.args.disk c.in-Damaged.field-0 c.in-Damaged.disk c.in-Damaged.ensures)
 
 pub returns-in-Unfit-clause-err : goal.returns-in-Unfit-clause-err
-returns-in-Unfit-clause-err c = inr (reads_unfit c.args.schema c.args.disk c.in-Unfit.field-0 c.in-Unfit.ensures)
+returns-in-Unfit-clause-err c = inr (reads_unfit c.args.schema c.args.disk c.in-Unfit.disk c.in-Unfit.ensures)
 
 pub returns-in-DiskFault-clause-err : goal.returns-in-DiskFault-clause-err
-returns-in-DiskFault-clause-err c = inr (reads_faulty c.args.schema c.args.disk c.in-DiskFault.field-0 c.in-DiskFault.ensures)
+returns-in-DiskFault-clause-err c = inr (reads_faulty c.args.schema c.args.disk c.in-DiskFault.disk c.in-DiskFault.ensures)
