@@ -6,7 +6,7 @@ use crate::operation::{Ops, Rows};
 use base_lists::{Seq, Text};
 
 /// What an entry of the commit log did (gNMI commit-confirmed extension). Deadlines are in nanoseconds since 1970.
-#[derive(Debug, PartialEq, Drop)]
+#[derive(PartialEq, Drop)]
 pub enum Kind {
     /// A plain Set.
     Apply(Ops),
@@ -23,7 +23,7 @@ pub enum Kind {
 }
 
 /// One entry of the commit log. Author 0 is the target itself; the stamp is in nanoseconds since 1970.
-#[derive(Debug, PartialEq, Drop)]
+#[derive(PartialEq, Drop)]
 pub struct Entry {
     pub number: u64,
     pub author: u32,
@@ -34,7 +34,7 @@ pub struct Entry {
 pub type Entries = Seq<Entry>;
 
 /// What is asked of the target. Durations are in nanoseconds.
-#[derive(Debug, Drop)]
+#[derive(Drop)]
 pub enum Ask {
     Apply(Ops),
     Trial(Text, Ops, u64),
@@ -44,14 +44,14 @@ pub enum Ask {
 }
 
 /// How long the commit log may get: in entries, and in octets of its journal.
-#[derive(Clone, Copy, Debug, PartialEq, Eq)]
+#[derive(Clone, Copy, PartialEq, Eq)]
 pub struct Limits {
     pub entries: u32,
     pub octets: u32,
 }
 
 /// A part of a tree, and the stamp of the state that it is of.
-#[derive(Debug, PartialEq, Drop)]
+#[derive(Drop)]
 pub struct View {
     pub stamp: u64,
     pub rows: Rows,

@@ -7,7 +7,7 @@ use base_lists::{Copied, NoMemory, Ranked, Same, Seq};
 use std::alloc::Global;
 
 /// A leaf or a leaf-list of a tree: its path, with all keys, and its value.
-#[derive(Debug, PartialEq, Drop)]
+#[derive(PartialEq, Drop)]
 pub struct Row {
     pub path: Path,
     pub value: Value,
@@ -24,7 +24,7 @@ pub enum Act {
 }
 
 /// One operation of a Set: the path that it names, and the rows that it sets, rising by path. A delete has none.
-#[derive(Debug, PartialEq, Drop)]
+#[derive(PartialEq, Drop)]
 pub struct Op {
     pub act: Act,
     pub path: Path,

@@ -7,7 +7,7 @@ pub type Keys = Seq<(Text, Text)>;
 /// One element of a path. In a pattern the names `*` and `...` and the key value `*` are wildcards.
 ///
 /// Elements compare by name, and then by their keys, pair by pair, all as octets.
-#[derive(Debug, PartialEq, Eq, PartialOrd, Ord, Drop)]
+#[derive(PartialEq, Eq, PartialOrd, Ord, Drop)]
 pub struct Elem {
     pub name: Text,
     pub keys: Keys,

@@ -4,7 +4,7 @@ use crate::value::Value;
 use base_lists::{Bytes, Seq, Text};
 
 /// The value of an update as a request gives it (gNMI 2.2.3).
-#[derive(Debug, PartialEq, Drop)]
+#[derive(Drop)]
 pub enum Given {
     /// The octets of a JSON text.
     Json(Bytes),
@@ -13,7 +13,7 @@ pub enum Given {
 }
 
 /// One replace or update of a Set as a request gives it.
-#[derive(Debug, PartialEq, Drop)]
+#[derive(Drop)]
 pub struct Change {
     pub path: Path,
     pub given: Given,
@@ -30,7 +30,7 @@ pub enum Span {
 }
 
 /// What a Set asks for beside its operations (gNMI commit-confirmed extension).
-#[derive(Debug, PartialEq, Drop)]
+#[derive(Drop)]
 pub enum Action {
     Plain,
     /// A trial with this id that lasts so long.
@@ -44,7 +44,7 @@ pub enum Action {
 }
 
 /// A Set as a request gives it, before anything of it is looked up in a schema (gNMI 3.4.1).
-#[derive(Debug, PartialEq, Drop)]
+#[derive(Drop)]
 pub struct UnresolvedSet {
     pub prefix: Path,
     pub target: Text,
@@ -57,7 +57,7 @@ pub struct UnresolvedSet {
 }
 
 /// How long a subscription lasts (gNMI 3.5.1.5).
-#[derive(Clone, Copy, Debug, PartialEq, Eq)]
+#[derive(Clone, Copy, PartialEq, Eq)]
 pub enum ListMode {
     Stream,
     Once,
@@ -67,7 +67,7 @@ pub enum ListMode {
 }
 
 /// When a subscription sends (gNMI 3.5.1.3).
-#[derive(Clone, Copy, Debug, PartialEq, Eq)]
+#[derive(Clone, Copy, PartialEq, Eq)]
 pub enum SubMode {
     Change,
     Sample,
@@ -76,7 +76,7 @@ pub enum SubMode {
 }
 
 /// One subscription of a list. Intervals are in nanoseconds.
-#[derive(Debug, PartialEq, Drop)]
+#[derive(PartialEq, Drop)]
 pub struct SubLine {
     pub path: Path,
     pub mode: SubMode,
@@ -88,7 +88,7 @@ pub struct SubLine {
 pub type SubLines = Seq<SubLine>;
 
 /// What a stream sends in one message: the paths that are gone, and the rows that are new or sent again (gNMI 2.1).
-#[derive(Debug, PartialEq, Drop)]
+#[derive(Drop)]
 pub struct Note {
     pub stamp: u64,
     pub deletes: Paths,

@@ -1,7 +1,7 @@
 use base_lists::Texts;
 
 /// The type of a leaf, or of the values of a leaf-list (RFC 7950 4.2.4 and 9, narrowed to this project's profile).
-#[derive(Debug, PartialEq, Drop)]
+#[derive(Drop)]
 pub enum Shape {
     /// boolean (9.5)
     Bool,
@@ -20,7 +20,7 @@ pub enum Shape {
 }
 
 /// What a data node of a schema is (RFC 7950 4.2.2).
-#[derive(Clone, Copy, Debug, PartialEq, Eq)]
+#[derive(Clone, Copy, PartialEq, Eq)]
 pub enum Sort {
     Container,
     List,

@@ -5,7 +5,7 @@ use base_lists::{Bytes, Copied, NoMemory, Same, Seq, Text};
 use std::alloc::Global;
 
 /// The value of a leaf or a leaf-list (gNMI 2.2.3, RFC 7951 6).
-#[derive(Debug, PartialEq, Drop)]
+#[derive(PartialEq, Drop)]
 pub enum Value {
     Bool(bool),
     Int(i64),

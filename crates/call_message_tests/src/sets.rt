@@ -56,7 +56,7 @@ fn replies_echo_prefix_and_paths(rt: HostRuntime) -> Result<(), Fail> {
 #[test]
 fn what_is_no_set_request(rt: HostRuntime) -> Result<(), Fail> {
     for octets in &BAD_SETS {
-        assert_eq!(rt; read_set(rt.alloc(), octets), Err(MsgFault::BadMessage));
+        assert!(rt; read_set(rt.alloc(), octets).err() == Some(MsgFault::BadMessage));
         let mut out = Bytes::empty(rt.alloc());
         let replied = write_set_reply(rt.alloc(), octets, 1000, &mut out);
         assert!(rt; replied == Err(MsgFault::BadMessage) && out.is_empty());
@@ -76,7 +76,8 @@ fn names(elem: Option<&Elem>, name: &[u8]) -> bool {
 }
 
 fn is_change(change: &Change, name: &[u8], number: u64) -> bool {
-    names(change.path.get(0), name) && change.given == Given::Scalar(Value::Uint(number))
+    names(change.path.get(0), name)
+        && matches!(change.given, Given::Scalar(Value::Uint(found)) if found == number)
 }
 
 #[test]
@@ -97,11 +98,8 @@ fn parts_of_a_request(rt: HostRuntime) -> Result<(), Fail> {
     let request: SetRequest = read_request(rt.alloc(), ONE_OF_EACH)?;
     assert!(rt; request.has_prefix && !request.union_replace && request.extensions.len() == 1);
     let update = Update::read(rt.alloc(), b"")?;
-    assert_eq!(rt; update.given, Given::Missing);
+    assert!(rt; matches!(update.given, Given::Missing));
     assert!(rt; update.path.path.is_empty() && !update.path.old_element);
-    assert_eq!(rt;
-        read_extension(rt.alloc(), b"\x0a\x00"),
-        Ok(Extension::Other)
-    );
+    assert!(rt; matches!(read_extension(rt.alloc(), b"\x0a\x00"), Ok(Extension::Other)));
     Ok(())
 }

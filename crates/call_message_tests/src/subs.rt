@@ -55,7 +55,7 @@ fn subscribe_requests_of_clients(rt: HostRuntime) -> Result<(), Fail> {
 #[test]
 fn what_is_no_subscribe_request(rt: HostRuntime) -> Result<(), Fail> {
     for octets in &BAD_SUBS {
-        assert_eq!(rt; read_sub(rt.alloc(), octets), Err(MsgFault::BadMessage));
+        assert!(rt; read_sub(rt.alloc(), octets).err() == Some(MsgFault::BadMessage));
     }
     Ok(())
 }

@@ -2,7 +2,7 @@ use crate::{blocks, fields, frames, huffman, messages, receiving};
 use base_lists::NoMemory;
 use std::alloc::Global;
 
-#[derive(Clone, Copy, Debug)]
+#[derive(Clone, Copy)]
 pub enum Codec {
     Frames,
     Huffman,
@@ -26,13 +26,13 @@ pub const CODECS: &[Codec] = &[
 ];
 
 /// What a codec did in all its rounds.
-#[derive(Clone, Copy, Debug)]
+#[derive(Clone, Copy)]
 pub struct Report {
     pub octets: u64,
     pub checksum: u64,
 }
 
-#[derive(Clone, Copy, Debug)]
+#[derive(Clone, Copy)]
 pub enum Fault {
     /// The octets are not what the codec reads.
     BadOctets,

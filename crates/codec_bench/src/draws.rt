@@ -1,6 +1,6 @@
 /// Numbers that look drawn by chance, and are the same in each run: a linear congruential generator, with Knuth's
 /// constants for MMIX (The Art of Computer Programming, volume 2, 3.3.4).
-#[derive(Clone, Copy, Debug)]
+#[derive(Clone, Copy)]
 pub struct Draws {
     state: u64,
 }

@@ -5,7 +5,7 @@ use std::alloc::Global;
 use std::marker::Model;
 
 /// The entries in order. Contracts see also how many more it has room for, since putting one takes no memory.
-#[derive(Debug, Drop)]
+#[derive(Drop)]
 pub struct Log {
     stored: Vec<Entry>,
 }

@@ -1,7 +1,7 @@
 use base_kinds::Fill;
 
 /// What a call of a disk does.
-#[derive(Clone, Copy, Debug, PartialEq, Eq)]
+#[derive(Clone, Copy)]
 pub enum Outcome {
     Passes,
     Fails,

@@ -17,7 +17,7 @@ use pb_message::{is_message, member_under};
 use std::alloc::Global;
 
 /// An extension of a request (gNMI 2.7).
-#[derive(Debug, PartialEq, Drop)]
+#[derive(Drop)]
 pub enum Extension {
     /// The commit extension, with what it asks for.
     Commit(Action),

@@ -12,7 +12,7 @@ pub enum Encoding {
 }
 
 /// What a Get asks, before anything of it is looked up in a schema (gNMI 3.3.1).
-#[derive(Debug, PartialEq, Drop)]
+#[derive(Drop)]
 pub struct GetAsk {
     pub prefix: GnmiPath,
     /// Each of the paths, behind no prefix.
@@ -23,7 +23,7 @@ pub struct GetAsk {
 }
 
 /// What the list of a Subscribe call asks (gNMI 3.5.1.2).
-#[derive(Debug, PartialEq, Drop)]
+#[derive(Drop)]
 pub struct SubAsk {
     pub prefix: GnmiPath,
     /// The subscriptions, in order, each with its path behind no prefix.

@@ -14,7 +14,7 @@ use pb_message::{has_number_above, is_message, message_under};
 use std::alloc::Global;
 
 /// One replace or update of a Set, with its path as the message has it.
-#[derive(Debug, PartialEq, Drop)]
+#[derive(Drop)]
 pub struct Update {
     pub path: GnmiPath,
     pub given: Given,
@@ -23,7 +23,7 @@ pub struct Update {
 pub type Updates = Seq<Update>;
 
 /// A SetRequest as the message has it (gNMI 3.4.1).
-#[derive(Debug, PartialEq, Drop)]
+#[derive(Drop)]
 pub struct SetRequest {
     /// A path without elements where the message has none.
     pub prefix: GnmiPath,

@@ -15,14 +15,14 @@ use pb_message::{is_message, member_under};
 use std::alloc::Global;
 
 /// The member of a SubscribeRequest's oneof.
-#[derive(Debug, PartialEq, Drop)]
+#[derive(PartialEq, Drop)]
 pub enum SubMember {
     Subscribe(SubscriptionList),
     Poll,
 }
 
 /// A SubscribeRequest as the message has it (gNMI 3.5.1.1).
-#[derive(Debug, PartialEq, Drop)]
+#[derive(Drop)]
 pub struct SubRequest {
     /// A list without fields where the message has none.
     pub member: SubMember,

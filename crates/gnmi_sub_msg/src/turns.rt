@@ -15,7 +15,7 @@ use gnmi_request_parts::{are_other, is_foreign};
 use std::alloc::Global;
 
 /// What one message of a Subscribe call asks for (gNMI 3.5.1.1).
-#[derive(Debug, PartialEq, Drop)]
+#[derive(Drop)]
 pub enum SubTurn {
     List(SubAsk),
     Poll,

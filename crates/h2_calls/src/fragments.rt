@@ -8,7 +8,7 @@ use std::marker::Model;
 const LARGEST_BLOCK: usize = 65_536;
 
 /// The octets of a header block so far, at most 65,536. Contracts see them as a list.
-#[derive(Debug, Drop)]
+#[derive(Drop)]
 pub struct Fragments {
     stored: Bytes,
 }

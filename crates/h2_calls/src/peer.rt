@@ -8,7 +8,7 @@ use hpack_block::Decoder;
 use std::alloc::Global;
 
 /// A header block whose end has not come (RFC 9113 section 4.3).
-#[derive(Debug, Drop)]
+#[derive(Drop)]
 pub struct HeaderBlock {
     pub stream: u32,
     /// Whether its HEADERS frame has END_STREAM.
@@ -18,7 +18,7 @@ pub struct HeaderBlock {
 }
 
 /// What is known of the peer between two frames.
-#[derive(Debug, Drop)]
+#[derive(Drop)]
 pub struct Peer {
     /// Whether its first frame, which is SETTINGS, was read.
     pub greeted: bool,

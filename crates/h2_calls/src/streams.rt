@@ -23,7 +23,7 @@ pub struct Stream {
 }
 
 /// The streams that are neither idle nor closed, at most 32.
-#[derive(Debug, Drop)]
+#[derive(Drop)]
 pub struct Streams {
     stored: Vec<Stream>,
 }

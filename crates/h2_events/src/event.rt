@@ -4,7 +4,7 @@ use base_lists::{Bytes, NoMemory, Seq};
 use hpack_block::Headers;
 
 /// What a frame of the peer means for this side. An event on a stream has the stream first.
-#[derive(Debug, Drop)]
+#[derive(Drop)]
 pub enum RecvEvent {
     /// SETTINGS: the peer's initial window of a stream after the frame, in octets, and whether the frame has
     /// HEADER_TABLE_SIZE (RFC 9113 section 6.5.2).

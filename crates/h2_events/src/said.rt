@@ -2,7 +2,7 @@ use base_kinds::Refusal;
 use base_lists::Bytes;
 
 /// What a port takes for a stream.
-#[derive(Debug, Drop)]
+#[derive(Drop)]
 pub enum Piece {
     /// A message of the reply, without the five octets that gRPC puts before it.
     Message(Bytes),
@@ -11,7 +11,7 @@ pub enum Piece {
 }
 
 /// What may be said on a stream.
-#[derive(Debug, Drop)]
+#[derive(Drop)]
 pub enum Said {
     /// A message of the reply, without the five octets that gRPC puts before it.
     Message(Bytes),

@@ -17,7 +17,7 @@ const LARGEST_FRAME: u32 = 16_384;
 const HEAD_OCTETS: usize = 9;
 
 /// What a receiver has between two pieces.
-#[derive(Debug, Drop)]
+#[derive(Drop)]
 pub struct Reader {
     /// How many octets of the preface came, 24 at most.
     pub begun: usize,

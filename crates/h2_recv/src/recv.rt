@@ -21,7 +21,7 @@ use std::marker::Model;
 const MOST_HELD: usize = 81_928;
 
 /// Reads what a client sends, in any pieces.
-#[derive(Debug, Drop)]
+#[derive(Drop)]
 pub struct Recv {
     reader: Reader,
     fault: Option<RecvFault>,

@@ -5,7 +5,7 @@ use std::alloc::Global;
 use std::marker::Model;
 
 /// The octets of a frame that isn't whole. Contracts see them as a list. Its memory is kept for the next frame.
-#[derive(Debug, Drop)]
+#[derive(Drop)]
 pub struct Unread {
     stored: Vec<u8>,
 }

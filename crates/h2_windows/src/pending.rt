@@ -6,7 +6,7 @@ use std::alloc::Global;
 use std::marker::Model;
 
 /// Octets that wait to be sent. Contracts see those alone.
-#[derive(Debug, Drop)]
+#[derive(Drop)]
 pub struct Pending {
     octets: Bytes,
     /// How many of them are sent.

@@ -7,7 +7,7 @@ use std::marker::Model;
 const LARGEST: i64 = 2_147_483_647;
 
 /// A window, or what one has beside the initial window, in octets. Contracts see an integer.
-#[derive(Debug, Drop)]
+#[derive(Drop)]
 pub struct Window {
     octets: i64,
 }

@@ -18,7 +18,7 @@ use std::marker::Model;
 const SIZE_BITS: u32 = 5;
 
 /// Reads the header blocks of one direction of a connection, in their order, and keeps their dynamic table.
-#[derive(Debug, Drop)]
+#[derive(Drop)]
 pub struct Decoder {
     table: DynamicTable,
     ended: Option<Ended>,

@@ -17,7 +17,7 @@ pub(crate) const LARGEST_TABLE: usize = 4_096;
 const OVERHEAD: usize = 32;
 
 /// The dynamic table (RFC 7541, section 2.3.2). Contracts see its entries, the newest first, and its maximum size.
-#[derive(Debug, Drop)]
+#[derive(Drop)]
 pub struct DynamicTable {
     entries: VecDeque<Header>,
     /// The maximum size.

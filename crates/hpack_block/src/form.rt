@@ -2,7 +2,7 @@ ghost use Rattle.std.specs.Prelude.{◌≡◌, true, false, slice_index};
 ghost use Rattle.hpack_block.specs.Fields.{form_of};
 
 /// What stands at a place of a block (RFC 7541, section 6).
-#[derive(Clone, Copy, Debug, PartialEq, Eq)]
+#[derive(Clone, Copy)]
 pub enum Form {
     /// A header of one of the tables.
     Indexed,

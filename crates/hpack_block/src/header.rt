@@ -4,7 +4,7 @@ use base_lists::{Bytes, Copied, NoMemory, Seq};
 use std::alloc::Global;
 
 /// A header: a pair of a name and a value.
-#[derive(Debug, Drop)]
+#[derive(Drop)]
 pub struct Header {
     pub name: Bytes,
     pub value: Bytes,
@@ -24,7 +24,7 @@ pub enum BlockFault {
 }
 
 /// Why a decoder reads no further blocks.
-#[derive(Clone, Copy, Debug, PartialEq, Eq)]
+#[derive(Clone, Copy)]
 pub enum Ended {
     Bad,
     NoMemory,

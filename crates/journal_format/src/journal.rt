@@ -4,7 +4,7 @@ ghost use Rattle.journal_format.specs.declared.journal.JournalFault.TheVariants.
 use base_kinds::{Entries, Limits, NoMemory};
 
 /// What a journal holds.
-#[derive(Debug, Drop)]
+#[derive(Drop)]
 pub struct Journal {
     pub limits: Limits,
     pub entries: Entries,

@@ -10,7 +10,7 @@ use base_kinds::{
 };
 
 /// What is known of the entries that were read.
-#[derive(Clone, Copy, Debug)]
+#[derive(Clone, Copy)]
 pub(crate) struct Progress {
     pub count: u64,
     pub stamp: u64,

@@ -39,7 +39,7 @@ const BAD: [&[u8]; 4] = [
 #[test]
 fn what_is_no_commit(rt: HostRuntime) -> Result<(), Fail> {
     for octets in &BAD {
-        assert_eq!(rt; read_commit(rt.alloc(), octets), Err(MsgFault::BadMessage));
+        assert!(rt; read_commit(rt.alloc(), octets).err() == Some(MsgFault::BadMessage));
     }
     Ok(())
 }

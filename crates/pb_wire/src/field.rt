@@ -4,7 +4,7 @@ ghost use Rattle.pb_wire.specs.declared.field.WireFault.TheVariants.{NoMemory as
 use base_lists::{NoMemory, Seq};
 
 /// What a field holds.
-#[derive(Clone, Copy, Debug, PartialEq, Eq)]
+#[derive(Clone, Copy, PartialEq)]
 pub enum Body {
     /// Wire type 0.
     Varint(u64),
@@ -17,7 +17,7 @@ pub enum Body {
 }
 
 /// One field of a message, under its number.
-#[derive(Clone, Copy, Debug, PartialEq, Eq)]
+#[derive(Clone, Copy, PartialEq)]
 pub struct Field {
     pub number: u32,
     pub body: Body,

@@ -8,7 +8,7 @@ use std::marker::Model;
 
 /// A tree as the list of its rows. A row is found by binary search; setting one moves the rows behind it, and a delete and
 /// the choice of a part look at each row once.
-#[derive(Debug, Drop)]
+#[derive(Drop)]
 pub struct PlainTree {
     stored: Vec<Row>,
 }

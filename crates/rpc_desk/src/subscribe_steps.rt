@@ -12,7 +12,7 @@ use std::alloc::Global;
 use sub_plan::{Plan, plan_of};
 
 /// What a message asks of its Subscribe call, where it isn't refused.
-#[derive(Debug, PartialEq, Drop)]
+#[derive(Drop)]
 pub enum SubscribeStep {
     /// The call begins, with this plan.
     Begin(Plan),

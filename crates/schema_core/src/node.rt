@@ -8,11 +8,11 @@ use std::alloc::Global;
 use std::marker::Model;
 
 /// The number of a node of a schema, counted from 0 in the order of its text.
-#[derive(Clone, Copy, Debug, PartialEq, Eq)]
+#[derive(Clone, Copy, PartialEq)]
 pub struct NodeId(pub u32);
 
 /// A data node of a schema (RFC 7950 4.2.2). A leaf and a leaf-list have a shape, and no other node has one.
-#[derive(Debug, Drop)]
+#[derive(Drop)]
 pub struct Node {
     names: Texts,
     module_name: Text,

@@ -16,7 +16,7 @@ use std::cmp::Ordering;
 use std::marker::Model;
 
 /// The nodes of a schema in the order of its text. No names stand twice, and a node's parent stands before it.
-#[derive(Debug, Drop)]
+#[derive(Drop)]
 pub struct Schema {
     nodes: Seq<Node>,
     order: Vec<u32>,

@@ -2,7 +2,7 @@ use base_kinds::{Act, Bytes, Fill, ListMode, NoMemory, Path, Span, SubLine, Text
 use thiserror::Error;
 
 /// An event of a script. `A` stands for an author.
-#[derive(Debug, PartialEq, Drop)]
+#[derive(PartialEq, Drop)]
 pub enum Line {
     /// `at N`: the clock reads N from now on, in nanoseconds since 1970.
     At(u64),

@@ -3,7 +3,7 @@ use base_lists::{Bytes, Seq};
 use grpc_core::Method;
 
 /// What comes behind the first message of a Subscribe call.
-#[derive(Debug, Drop)]
+#[derive(Drop)]
 pub enum Later {
     Message(Bytes),
     /// A fault of its messages, for which the call is refused.
@@ -13,7 +13,7 @@ pub enum Later {
 }
 
 /// Something that a call asks for.
-#[derive(Debug, Drop)]
+#[derive(Drop)]
 pub enum Asked {
     /// A unary method, and the message for it.
     Call(Method, Bytes),
@@ -26,7 +26,7 @@ pub enum Asked {
 }
 
 /// What is to be answered on a stream.
-#[derive(Debug, Drop)]
+#[derive(Drop)]
 pub struct Request {
     pub stream: u32,
     pub asked: Asked,

@@ -20,7 +20,7 @@ const MOST_OCTETS: u64 = 281_474_976_710_656;
 const PIECE: usize = 4_096;
 
 /// What comes next of the peer.
-#[derive(Debug, Drop)]
+#[derive(Drop)]
 pub(crate) enum Next {
     /// A frame was read that means this.
     Event(RecvEvent),

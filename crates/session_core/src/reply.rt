@@ -4,7 +4,7 @@ use base_lists::Bytes;
 use subscribe_calls::Messages;
 
 /// What is said to what was asked, or by a turn of a call.
-#[derive(Debug, Drop)]
+#[derive(Drop)]
 pub(crate) enum Reply {
     Of(Result<Bytes, Refusal>),
     /// Messages of a Subscribe call, and whether the call ends with them.

@@ -2,7 +2,7 @@ use base_lists::Seq;
 use h2_events::Said;
 
 /// Something that waits to be said on a stream.
-#[derive(Debug, Drop)]
+#[derive(Drop)]
 pub struct Waiting {
     pub stream: u32,
     pub said: Said,

@@ -25,7 +25,7 @@ pub struct Group {
 pub type Groups = Seq<Group>;
 
 /// One subscription: which rows it covers, and the number of its group, counted from 0.
-#[derive(Debug, PartialEq, Drop)]
+#[derive(Drop)]
 pub struct Line {
     pub pattern: Path,
     pub group: u32,
@@ -34,7 +34,7 @@ pub struct Line {
 pub type Lines = Seq<Line>;
 
 /// What a Subscribe call asks, once it is accepted.
-#[derive(Debug, PartialEq, Drop)]
+#[derive(Drop)]
 pub struct Plan {
     pub lines: Lines,
     pub groups: Groups,

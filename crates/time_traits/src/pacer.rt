@@ -10,7 +10,7 @@ pub trait Pacer: Sized {
 }
 
 /// A pacer that doesn't wait.
-#[derive(Debug, Drop)]
+#[derive(Drop)]
 pub struct IdlePacer;
 
 impl Pacer for IdlePacer {

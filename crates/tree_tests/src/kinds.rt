@@ -182,7 +182,7 @@ fn is_copied(rt: &impl Abort, alloc: Global, value: &Value) -> bool {
 
 fn assert_copied(rt: &impl Abort, alloc: Global, values: &[Value]) {
     for value in values {
-        assert!(rt; is_copied(rt, alloc, value), "{value:?}");
+        assert!(rt; is_copied(rt, alloc, value));
     }
 }
 
