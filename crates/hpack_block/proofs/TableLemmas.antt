@@ -1,6 +1,8 @@
 -- Entries that are evicted, and the room that the others leave.
-use Rattle.std.proofs.Common.{◌≡◌, ℕ, zero, suc, ◌+◌, ◌-◌, ◌<◌, ◌≤◌, Bool, true, false, cond, leb, List, [], ◌∷◌, ◌++◌, length, Option, Some, None, refl, sym, ap, ◌∙◌, subst, arith}
+use Rattle.std.proofs.Common.{◌≡◌, ℕ, zero, suc, ◌+◌, ◌-◌, ◌<◌, ◌≤◌, Bool, true, false, cond, leb, List, [], ◌∷◌, ◌++◌, length, map, take, drop, get_or, Option, Some, None, refl, sym, ap, ◌∙◌, subst, arith}
 use Rattle.std.proofs.lemmas.Bool.{leb-true, le-leb, lt-leb}
+use Rattle.std.proofs.lemmas.List.{get_or-drop, get_or-take, get_or-map, length-map, length-take, length-drop}
+use Rattle.std.proofs.lemmas.Option.{slice_get-get_or}
 use Rattle.std.proofs.lemmas.List.Sums.{sum_by-cons, sum_by_push}
 use Rattle.std.specs.Prelude.{slice_get}
 use Rattle.hpack_block.specs.declared.header.Header.{Header}
@@ -27,6 +29,20 @@ slice_get-right (x ∷ xs) ys (suc i) n e le =
     let less : length xs ≡ n - 1 = omega (arith, e) in
     let same : i - (n - 1) ≡ suc i - n = omega (arith, e, le) in
     slice_get-right xs ys i (n - 1) less (omega (arith, e, le)) ∙ ap (slice_get ys) same
+
+-- what the first entries have, and those behind them
+pub first_at : {A : Type 0} (f : A → Header) (xs : List A) (place : ℕ) (d : A) → map f xs ≡ take 16 static_table → place < length xs
+    → slice_get static_table place ≡ Some (f (get_or xs place d))
+first_at f xs place d same lt =
+    let within : place < 16 = omega (arith, lt, length-map xs f, ap length same, length-take 16 static_table, static_length) in
+    slice_get-get_or static_table place (f d) (omega (arith, within, static_length))
+    ∙ ap (λ (h : Header). Some h) (sym (get_or-take 16 static_table place (f d) within) ∙ ap (λ (hs : List Header). get_or hs place (f d)) (sym same) ∙ get_or-map f xs place d (f d) lt)
+
+pub other_at : {A : Type 0} (f : A → Header) (xs : List A) (place : ℕ) (d : A) → map f xs ≡ drop 16 static_table → place < length xs
+    → slice_get static_table (16 + place) ≡ Some (f (get_or xs place d))
+other_at f xs place d same lt =
+    slice_get-get_or static_table (16 + place) (f d) (omega (arith, lt, length-map xs f, ap length same, length-drop 16 static_table, static_length))
+    ∙ ap (λ (h : Header). Some h) (sym (get_or-drop 16 static_table place (f d)) ∙ ap (λ (hs : List Header). get_or hs place (f d)) (sym same) ∙ get_or-map f xs place d (f d) lt)
 
 -- all are kept where all fit
 pub kept_all : (room : ℕ) (entries : List Header) → size_of_all entries ≤ room → fitting_entries room entries ≡ entries

@@ -111,7 +111,13 @@ fn fields_in(alloc: Global, octets: &[u8], table: &mut DynamicTable) -> Result<H
     let mut list = HeaderList::empty(alloc);
     let mut rest = octets;
     while !rest.is_empty() {
-        rest = field_in(alloc, rest, table, &mut list)?;
+        match field_in(alloc, rest, table, &mut list) {
+            Ok(after) => rest = after,
+            Err(ended) => {
+                drop(list);
+                return Err(ended);
+            }
+        }
     }
     Ok(list)
 }

@@ -76,6 +76,7 @@ impl DynamicTable {
         ensures { OnOk result (self.new ≡ with_entry header self.old) }
     {
         let Some(room) = room_beside(self.maximum, header.name.items(), header.value.items()) else {
+            drop(header);
             self.entries.clear();
             self.room = self.maximum;
             return Ok(());

@@ -73,7 +73,10 @@ fn with_indexing_in<'a>(
     ensures bad { IsErrOf result Ended.Bad → NoField Form.WithIndexing table.old octets.now }
 {
     let (header, rest) = literal_in(alloc, INDEXED_NAME_BITS, octets, table)?;
-    list.push_copy(alloc, header.name.items(), header.value.items())?;
+    if let Err(fault) = list.push_copy(alloc, header.name.items(), header.value.items()) {
+        drop(header);
+        return Err(Ended::from(fault));
+    }
     table.add(header)?;
     Ok(rest)
 }
@@ -114,8 +117,13 @@ fn literal_in<'a>(
         return Err(Ended::Bad);
     };
     let (name, last) = name_in(alloc, index, after, table)?;
-    let (value, rest) = string_in(alloc, last)?;
-    Ok((Header { name, value }, rest))
+    match string_in(alloc, last) {
+        Ok((value, rest)) => Ok((Header { name, value }, rest)),
+        Err(ended) => {
+            drop(name);
+            Err(ended)
+        }
+    }
 }
 
 /// The name at an index, or where the index is 0 the string at the front, and the octets after it.

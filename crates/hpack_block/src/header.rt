@@ -1,4 +1,5 @@
-ghost use Rattle.std.specs.Prelude.{◌≡◌};
+ghost use Rattle.std.specs.Prelude.{◌≡◌, IfOk};
+ghost use Rattle.hpack_block.specs.StaticTable.{pair};
 
 use base_lists::{Bytes, Copied, NoMemory, Seq};
 use std::alloc::Global;
@@ -55,8 +56,20 @@ impl From<NoMemory> for Ended {
 
 impl Copied for Header {
     fn copy(&self, alloc: Global) -> Result<Header, NoMemory> {
-        let name = Bytes::of(alloc, self.name.items())?;
-        let value = Bytes::of(alloc, self.value.items())?;
-        Ok(Header { name, value })
+        header_of(alloc, self.name.items(), self.value.items())
+    }
+}
+
+/// The header of copies of these.
+pub(crate) fn header_of(alloc: Global, name: &[u8], value: &[u8]) -> Result<Header, NoMemory>
+    ensures { IfOk result (λ header. header ≡ pair name.now value.now) }
+{
+    let name = Bytes::of(alloc, name)?;
+    match Bytes::of(alloc, value) {
+        Ok(value) => Ok(Header { name, value }),
+        Err(fault) => {
+            drop(name);
+            Err(fault)
+        }
     }
 }

@@ -1,10 +1,10 @@
-ghost use Rattle.std.specs.Prelude.{◌≡◌, [], Some, OnOk};
+ghost use Rattle.std.specs.Prelude.{◌≡◌, [], Some, None, OnOk};
 ghost use Rattle.hpack_block.specs.StaticTable.{pair};
 ghost use Rattle.hpack_block.specs.inner.Gathering.{with_header, list_or_fault};
 
 use crate::dynamic_table::room_beside;
-use crate::header::{BlockFault, Header, Headers};
-use base_lists::{Bytes, NoMemory};
+use crate::header::{BlockFault, Header, Headers, header_of};
+use base_lists::NoMemory;
 use std::alloc::Global;
 use std::marker::Model;
 
@@ -46,22 +46,30 @@ impl HeaderList {
     pub(crate) fn push(&mut self, header: Header) -> Result<(), NoMemory>
         ensures { OnOk result (self.new ≡ with_header header self.old) }
     {
-        match &mut self.headers {
-            None => Ok(()),
-            Some(headers) => {
-                match room_beside(self.room, header.name.items(), header.value.items()) {
-                    None => {
-                        self.headers = None;
-                        self.room = LARGEST_LIST;
-                    }
-                    Some(room) => {
-                        headers.push(header)?;
-                        self.room = room;
-                    }
-                }
+        let Some(headers) = &mut self.headers else {
+            drop(header);
+            return Ok(());
+        };
+        match room_beside(self.room, header.name.items(), header.value.items()) {
+            None => {
+                drop(header);
+                self.give_up();
+                Ok(())
+            }
+            Some(room) => {
+                headers.push(header)?;
+                self.room = room;
                 Ok(())
             }
         }
+    }
+
+    // The list is too long.
+    fn give_up(&mut self)
+        ensures { self.new ≡ None }
+    {
+        drop(self.headers.take());
+        self.room = LARGEST_LIST;
     }
 
     /// A copy of a header, which is only made where it is kept.
@@ -77,13 +85,11 @@ impl HeaderList {
             return Ok(());
         }
         if room_beside(self.room, name, value).is_none() {
-            self.headers = None;
-            self.room = LARGEST_LIST;
+            self.give_up();
             return Ok(());
         }
-        let name = Bytes::of(alloc, name)?;
-        let value = Bytes::of(alloc, value)?;
-        self.push(Header { name, value })
+        let header = header_of(alloc, name, value)?;
+        self.push(header)
     }
 
     pub(crate) fn into_headers(self) -> Result<Headers, BlockFault>

@@ -1,14 +1,16 @@
-ghost use Rattle.std.specs.Prelude.{◌≡◌, ◌<◌, length, map, Some, IfSome, slice_get, slice_index_or};
+ghost use Rattle.std.specs.Prelude.{◌≡◌, ◌<◌, ◌+◌, [], length, map, take, drop, Some, IfSome, slice_get, slice_index_or};
 ghost use Rattle.hpack_block.specs.StaticTable.{pair, nothing, static_table};
 ghost use Rattle.hpack_block.specs.Written.{is_pair, is_name, place_of_pair, place_of_name};
 
 use crate::header::Header;
 
-/// The static table (RFC 7541, appendix A), from index 1 on.
-#[rattlefmt::skip]
+/// How many entries the static table has (RFC 7541, appendix A).
 pub(crate) const STATIC_ENTRIES: usize = 61;
 
-static STATIC_TABLE: [(&[u8], &[u8]); 61] = [
+/// How many of them stand first, up to the last one that has a value.
+const FIRST_ENTRIES: usize = 16;
+
+static FIRST: [(&[u8], &[u8]); FIRST_ENTRIES] = [
     (b":authority", b""),
     (b":method", b"GET"),
     (b":method", b"POST"),
@@ -25,51 +27,55 @@ static STATIC_TABLE: [(&[u8], &[u8]); 61] = [
     (b":status", b"500"),
     (b"accept-charset", b""),
     (b"accept-encoding", b"gzip, deflate"),
-    (b"accept-language", b""),
-    (b"accept-ranges", b""),
-    (b"accept", b""),
-    (b"access-control-allow-origin", b""),
-    (b"age", b""),
-    (b"allow", b""),
-    (b"authorization", b""),
-    (b"cache-control", b""),
-    (b"content-disposition", b""),
-    (b"content-encoding", b""),
-    (b"content-language", b""),
-    (b"content-length", b""),
-    (b"content-location", b""),
-    (b"content-range", b""),
-    (b"content-type", b""),
-    (b"cookie", b""),
-    (b"date", b""),
-    (b"etag", b""),
-    (b"expect", b""),
-    (b"expires", b""),
-    (b"from", b""),
-    (b"host", b""),
-    (b"if-match", b""),
-    (b"if-modified-since", b""),
-    (b"if-none-match", b""),
-    (b"if-range", b""),
-    (b"if-unmodified-since", b""),
-    (b"last-modified", b""),
-    (b"link", b""),
-    (b"location", b""),
-    (b"max-forwards", b""),
-    (b"proxy-authenticate", b""),
-    (b"proxy-authorization", b""),
-    (b"range", b""),
-    (b"referer", b""),
-    (b"refresh", b""),
-    (b"retry-after", b""),
-    (b"server", b""),
-    (b"set-cookie", b""),
-    (b"strict-transport-security", b""),
-    (b"transfer-encoding", b""),
-    (b"user-agent", b""),
-    (b"vary", b""),
-    (b"via", b""),
-    (b"www-authenticate", b""),
+];
+
+/// The names of the others, whose values are empty.
+static OTHERS: [&[u8]; 45] = [
+    b"accept-language",
+    b"accept-ranges",
+    b"accept",
+    b"access-control-allow-origin",
+    b"age",
+    b"allow",
+    b"authorization",
+    b"cache-control",
+    b"content-disposition",
+    b"content-encoding",
+    b"content-language",
+    b"content-length",
+    b"content-location",
+    b"content-range",
+    b"content-type",
+    b"cookie",
+    b"date",
+    b"etag",
+    b"expect",
+    b"expires",
+    b"from",
+    b"host",
+    b"if-match",
+    b"if-modified-since",
+    b"if-none-match",
+    b"if-range",
+    b"if-unmodified-since",
+    b"last-modified",
+    b"link",
+    b"location",
+    b"max-forwards",
+    b"proxy-authenticate",
+    b"proxy-authorization",
+    b"range",
+    b"referer",
+    b"refresh",
+    b"retry-after",
+    b"server",
+    b"set-cookie",
+    b"strict-transport-security",
+    b"transfer-encoding",
+    b"user-agent",
+    b"vary",
+    b"via",
+    b"www-authenticate",
 ];
 
 /// The name and the value at a place of the static table, counted from 0.
@@ -77,18 +83,30 @@ pub(crate) fn static_entry(place: usize) -> (&'static [u8], &'static [u8])
     requires { place < 61 }
     ensures { slice_get static_table place ≡ Some (pair result.0.now result.1.now) }
 {
-    entry_of(&STATIC_TABLE, place)
+    if place < FIRST_ENTRIES {
+        first_entry(&FIRST, place)
+    } else {
+        (other_name(&OTHERS, place - FIRST_ENTRIES), b"")
+    }
 }
 
-fn entry_of(
-    table: &'static [(&'static [u8], &'static [u8])],
+fn first_entry(
+    entries: &'static [(&'static [u8], &'static [u8])],
     place: usize,
 ) -> (&'static [u8], &'static [u8])
-    requires table { map (λ x. pair x.0.now x.1.now) table.now ≡ static_table }
-    requires place { place < length table.now }
+    requires entries { map (λ x. pair x.0.now x.1.now) entries.now ≡ take 16 static_table }
+    requires place { place < length entries.now }
     ensures { slice_get static_table place ≡ Some (pair result.0.now result.1.now) }
 {
-    table[place]
+    entries[place]
+}
+
+fn other_name(names: &'static [&'static [u8]], place: usize) -> &'static [u8]
+    requires names { map (λ name. pair name.now []) names.now ≡ drop 16 static_table }
+    requires place { place < length names.now }
+    ensures { slice_get static_table (16 + place) ≡ Some (pair result.now []) }
+{
+    names[place]
 }
 
 /// The first place of the header in the static table, counted from 0.

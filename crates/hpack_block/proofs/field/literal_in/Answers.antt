@@ -12,14 +12,13 @@ returns-in_err-name-clause-bad c =
     rw (p.1, p.2) (λ bad.
     literal_no_name c.args.bits c.args.table.now c.args.octets.now c.in-Some.index c.in-Some.after.now c.in-Some.ensures.value (c.in_err-name.ensures.bad (err_as c.in_err-name.field-0.0 Bad bad)))
 
-pub returns-in_err-value-clause-bad : goal.returns-in_err-value-clause-bad
-returns-in_err-value-clause-bad c =
-    let p = err_from_is_err_and c.from_residual-in_err-value.result c.from_residual-in_err-value.ensures.1 in
-    rw (p.1, p.2) (λ bad.
+pub returns-in-Err-clause-bad : goal.returns-in-Err-clause-bad
+returns-in-Err-clause-bad c =
+    λ bad.
     literal_no_value c.args.bits c.args.table.now c.args.octets.now c.in-Some.index c.in-Some.after.now c.in_ok-name.name c.in_ok-name.last.now c.in-Some.ensures.value
-    c.in_ok-name.ensures.ok (c.in_err-value.ensures.bad (err_as c.in_err-value.field-0.0 Bad bad)))
+    c.in_ok-name.ensures.ok (c.in-Err.ensures.bad (err_as c.in-Err.ended Bad bad))
 
-pub returns-clause-ok : goal.returns-clause-ok
-returns-clause-ok c =
-    literal_is c.args.bits c.args.table.now c.args.octets.now c.in-Some.index c.in-Some.after.now c.in_ok-name.name c.in_ok-name.last.now c.in_ok-value.value c.in_ok-value.rest.now
-    c.in-Some.ensures.value c.in_ok-name.ensures.ok c.in_ok-value.ensures.ok
+pub returns-in-Ok-clause-ok : goal.returns-in-Ok-clause-ok
+returns-in-Ok-clause-ok c =
+    literal_is c.args.bits c.args.table.now c.args.octets.now c.in-Some.index c.in-Some.after.now c.in_ok-name.name c.in_ok-name.last.now c.in-Ok.value c.in-Ok.rest.now
+    c.in-Some.ensures.value c.in_ok-name.ensures.ok c.in-Ok.ensures.ok
