@@ -1,5 +1,5 @@
 -- The text that is written of a decimal is read as it.
-use Rattle.std.proofs.Common.{◌≡◌, ℕ, ◌+◌, ◌-◌, ◌*◌, ◌/◌, ◌%◌, ◌^◌, ◌<◌, ◌≤◌, zero, suc, List, [], ◌∷◌, ◌++◌, Bool, true, false, eqb, length, replicate, refl, sym, ap, subst, ◌∙◌, ℤ, pos, negsuc, IsTrue, codes, arith}
+use Rattle.std.proofs.Common.{◌≡◌, ℕ, ◌+◌, ◌-◌, ◌*◌, ◌/◌, ◌%◌, ◌^◌, ◌<◌, ◌≤◌, zero, suc, List, [], ◌∷◌, ◌++◌, Bool, true, false, eqb, length, replicate, refl, sym, ap, subst, ◌∙◌, ℤ, pos, negsuc, IsTrue, IfSome, Option, Some, None, codes, arith}
 use Rattle.std.specs.Char.{digit_value}
 use Rattle.std.specs.Fmt.{decimal, signed_decimal, sign_text}
 use Rattle.std.specs.Str.Parse.{AllDigits, digits_value, digits_value_after}
@@ -148,6 +148,10 @@ unread_whole octets front is none digits held written = none digits held (same_w
 pub one_whole : (octets front : List ℕ) (digits read : ℤ) → octets ≡ front ++ codes ".0" → front ≡ signed_decimal read → IsTrue (fits_signed 64 read) → IsTrue (fits_signed 64 digits) → octets ≡ dec_text digits 0 → digits ≡ read
 one_whole octets front digits read is reads held held' written =
     signed_decimal_injective digits read (magnitude digits held') (magnitude read held) (sym (same_whole octets front digits is written) ∙ reads)
+
+pub whole_if_some : (octets front : List ℕ) (o : Option ℤ) → octets ≡ front ++ codes ".0" → IfSome o (λ read. front ≡ signed_decimal read) → IfSome o (λ read. IsTrue (fits_signed 64 read)) → IfSome o (λ read. (digits : ℤ) → IsTrue (fits_signed 64 digits) → octets ≡ dec_text digits 0 → digits ≡ read)
+whole_if_some octets front None is reads held = tt
+whole_if_some octets front (Some read) is reads held = λ digits. one_whole octets front digits read is reads held
 
 pub one_written : (places : ℕ) (octets : List ℕ) (digits read : ℤ) → 1 ≤ places → IsDecimal places octets read → IsTrue (fits_signed 64 digits) → octets ≡ dec_text digits places → digits ≡ read
 one_written places octets digits read some d held written =

@@ -15,7 +15,10 @@ pub(crate) fn put_base64(alloc: Global, octets: &[u8], out: &mut Bytes) -> Resul
     ensures ok { OnOk result (out.new ≡ out.old ++ base64_text octets.now) }
     ensures is_utf8 { OnOk result (IsUtf8 (base64_text octets.now)) }
 {
-    out.extend_from_slice(STANDARD.encode(alloc, octets)?.as_str().as_bytes())
+    let text = STANDARD.encode(alloc, octets)?;
+    let outcome = out.extend_from_slice(text.as_str().as_bytes());
+    drop(text);
+    outcome
 }
 
 /// The octets whose base64 the text is: with its padding, and with no bits behind the last octet.

@@ -1,5 +1,5 @@
 // Decimal numbers, read in all their forms.
-ghost use Rattle.std.specs.Prelude.{◌≡◌, ℕ, ℤ, ◌++◌, List, [], ◌∷◌, ◌==◌, Bool, false, IsTrue, IfSome, IfNone, IfOk, IsErrOf, MatchOption, codes};
+ghost use Rattle.std.specs.Prelude.{◌≡◌, ℕ, ℤ, ◌++◌, List, [], ◌∷◌, ◌==◌, ◌↔◌, Bool, false, IsTrue, IfSome, IfNone, IfOk, IsErrOf, MatchOption, codes};
 ghost use Rattle.base_kinds.specs.Texts.{dec_text};
 ghost use Rattle.base_kinds.specs.Values.{fits_signed};
 ghost use Rattle.std.specs.Fmt.{sign_text};
@@ -10,7 +10,7 @@ ghost use Rattle.value_core.specs.inner.Cuts.{HasParts};
 use crate::fault::ValueFault;
 use crate::numbers::{after_minus, read_integer, with_digits, with_sign, with_zeros};
 use crate::written::put_decimal;
-use base_kinds::Seq;
+use base_kinds::{NoMemory, Seq};
 use plain_texts::cut_before;
 use std::alloc::Global;
 
@@ -107,9 +107,10 @@ fn read_whole(octets: &[u8]) -> Option<i64>
     ensures none { IfNone result ((digits : ℤ) → IsTrue (fits_signed 64 digits) → octets.now
         ≡ dec_text digits 0 → ⊥) }
 {
-    let front = before_zero(octets)?;
-    let digits = read_integer(front)?;
-    Some(digits)
+    match before_zero(octets) {
+        Some(front) => read_integer(front),
+        None => None,
+    }
 }
 
 /// The only digits whose text with so many places the octets may be.
@@ -135,11 +136,23 @@ pub(crate) fn read_decimal_key(alloc: Global, places: u8, octets: &[u8]) -> Resu
     let Some(digits) = read_written(places, octets) else {
         return Err(ValueFault::BadValue);
     };
-    let mut written = Seq::empty(alloc);
-    put_decimal(alloc, digits, places, &mut written)?;
-    if written.items() == octets {
+    if is_text_of(alloc, digits, places, octets)? {
         Ok(digits)
     } else {
         Err(ValueFault::BadValue)
+    }
+}
+
+/// Whether the digits with so many places are written so.
+fn is_text_of(alloc: Global, digits: i64, places: u8, octets: &[u8]) -> Result<bool, NoMemory>
+    ensures { IfOk result (λ is. IsTrue is ↔ (octets.now ≡ dec_text digits places)) }
+{
+    let mut written = Seq::empty(alloc);
+    let outcome = put_decimal(alloc, digits, places, &mut written);
+    let is_same = written.items() == octets;
+    drop(written);
+    match outcome {
+        Ok(()) => Ok(is_same),
+        Err(NoMemory) => Err(NoMemory),
     }
 }

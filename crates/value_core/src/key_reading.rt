@@ -13,7 +13,7 @@ use crate::decimals::read_decimal_key;
 use crate::fault::ValueFault;
 use crate::numbers::read_integer;
 use crate::shapes::{fits_signed, is_below_power, is_listed};
-use base_kinds::{Copied, Shape, Text, Value};
+use base_kinds::{Copied, NoMemory, Shape, Text, Value};
 use plain_texts::natural_of;
 use std::alloc::Global;
 
@@ -25,13 +25,22 @@ pub fn read_key(alloc: Global, shape: &Shape, text: &Text) -> Result<Value, Valu
 {
     let octets = text.octets();
     match shape {
-        Shape::Bool => Ok(Value::Bool(read_bool(octets)?)),
-        Shape::Int(width) => Ok(Value::Int(read_int(*width, octets)?)),
-        Shape::Uint(width) => Ok(Value::Uint(read_uint(*width, octets)?)),
-        Shape::Dec(places) => Ok(Value::Dec(read_decimal_key(alloc, *places, octets)?, *places)),
-        Shape::Text => Ok(Value::Text(text.copy(alloc)?)),
-        Shape::Bin => Ok(Value::Bin(read_base64(alloc, octets)?)),
-        Shape::Enum(texts) => Ok(Value::Enum(read_enum(alloc, texts.items(), text)?)),
+        Shape::Bool => read_bool(octets).map(Value::Bool),
+        Shape::Int(width) => read_int(*width, octets).map(Value::Int),
+        Shape::Uint(width) => read_uint(*width, octets).map(Value::Uint),
+        Shape::Dec(places) => match read_decimal_key(alloc, *places, octets) {
+            Ok(digits) => Ok(Value::Dec(digits, *places)),
+            Err(fault) => Err(fault),
+        },
+        Shape::Text => match text.copy(alloc) {
+            Ok(copy) => Ok(Value::Text(copy)),
+            Err(NoMemory) => Err(ValueFault::NoMemory),
+        },
+        Shape::Bin => match read_base64(alloc, octets) {
+            Ok(octets) => Ok(Value::Bin(octets)),
+            Err(fault) => Err(fault),
+        },
+        Shape::Enum(texts) => read_enum(alloc, texts.items(), text).map(Value::Enum),
     }
 }
 

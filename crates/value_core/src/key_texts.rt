@@ -14,8 +14,17 @@ pub fn key_text(alloc: Global, value: &Value) -> Result<Text, NoMemory>
     ensures { IfOk result (λ text. text ≡ key_text value.now) }
 {
     let mut octets = Seq::empty(alloc);
-    put_key(alloc, value, &mut octets)?;
-    text_of(alloc, octets.items())
+    match put_key(alloc, value, &mut octets) {
+        Ok(()) => {
+            let text = text_of(alloc, octets.items());
+            drop(octets);
+            text
+        }
+        Err(NoMemory) => {
+            drop(octets);
+            Err(NoMemory)
+        }
+    }
 }
 
 /// Adds the value's key text; a list has none.

@@ -68,7 +68,7 @@ pub fn with_sign(negative: bool, number: u64) -> Option<i64>
         return Some(0);
     }
     if number <= 1 << 63 {
-        Some(-((number - 1) as i64) - 1)
+        Some(-1 - (number - 1) as i64)
     } else {
         None
     }
@@ -90,19 +90,18 @@ fn integer_in(octets: &[u8]) -> Option<i64>
         ≡ signed_decimal number → ⊥) }
 {
     match after_minus(octets) {
-        None => {
-            let number = natural_of(octets)?;
-            let value = with_sign(false, number)?;
-            Some(value)
-        }
-        Some(digits) => {
-            let magnitude = natural_of(digits)?;
-            if magnitude == 0 {
-                return None;
-            }
-            let negative = with_sign(true, magnitude)?;
-            Some(negative)
-        }
+        None => match natural_of(octets) {
+            Some(number) => with_sign(false, number),
+            None => None,
+        },
+        Some(digits) => match natural_of(digits) {
+            Some(magnitude) => if magnitude == 0 {
+                None
+            } else {
+                with_sign(true, magnitude)
+            },
+            None => None,
+        },
     }
 }
 

@@ -15,8 +15,17 @@ pub fn value_text(alloc: Global, value: &Value, out: &mut Bytes) -> Result<(), N
     ensures err { OnErr result (out.new ≡ out.old) }
 {
     let mut text = Seq::empty(alloc);
-    put_value(alloc, value, &mut text)?;
-    out.extend_from_slice(text.items())
+    match put_value(alloc, value, &mut text) {
+        Ok(()) => {
+            let outcome = out.extend_from_slice(text.items());
+            drop(text);
+            outcome
+        }
+        Err(NoMemory) => {
+            drop(text);
+            Err(NoMemory)
+        }
+    }
 }
 
 #[cycle(values)]

@@ -1,5 +1,5 @@
 // How truth values and numbers are written.
-ghost use Rattle.std.specs.Prelude.{◌≡◌, ◌+◌, ◌++◌, ◌/◌, ◌^◌, ◌≤◌, length, take, IsUtf8, OnOk};
+ghost use Rattle.std.specs.Prelude.{◌≡◌, ◌+◌, ◌∷◌, ◌++◌, ◌/◌, ◌^◌, ◌≤◌, length, string_bytes, take, IsUtf8, OnOk};
 ghost use Rattle.std.specs.Fmt.{decimal, signed_decimal};
 ghost use Rattle.base_kinds.specs.Texts.{bool_text, dec_text, scaled_text, last_digits, fraction, without_last_zeros};
 
@@ -17,7 +17,10 @@ pub(crate) fn put_natural(alloc: Global, number: u64, out: &mut Bytes) -> Result
     ensures ok { OnOk result (out.new ≡ out.old ++ decimal number) }
     ensures is_utf8 { IsUtf8 (decimal number) }
 {
-    out.extend_from_slice(number.to_string(alloc)?.as_str().as_bytes())
+    match number.to_string(alloc) {
+        Ok(text) => put_string(text, out),
+        Err(_) => Err(NoMemory),
+    }
 }
 
 /// Adds the number in decimal, with a `-` where it is negative.
@@ -25,7 +28,19 @@ pub(crate) fn put_integer(alloc: Global, number: i64, out: &mut Bytes) -> Result
     ensures ok { OnOk result (out.new ≡ out.old ++ signed_decimal number) }
     ensures is_utf8 { IsUtf8 (signed_decimal number) }
 {
-    out.extend_from_slice(number.to_string(alloc)?.as_str().as_bytes())
+    match number.to_string(alloc) {
+        Ok(text) => put_string(text, out),
+        Err(_) => Err(NoMemory),
+    }
+}
+
+/// Adds the octets of the text.
+fn put_string(text: String, out: &mut Bytes) -> Result<(), NoMemory>
+    ensures { OnOk result (out.new ≡ out.old ++ string_bytes text) }
+{
+    let outcome = out.extend_from_slice(text.as_str().as_bytes());
+    drop(text);
+    outcome
 }
 
 /// Adds the digits as a decimal with so many places behind the point.
@@ -50,9 +65,18 @@ fn put_scaled(alloc: Global, number: u64, places: u8, out: &mut Bytes) -> Result
 {
     let mut digits = vec![in alloc; b'0'; places as usize]?;
     let whole = split_digits(number, digits.as_mut_slice());
+    let outcome = put_parts(alloc, whole, fraction_of(digits.as_slice()), out);
+    drop(digits);
+    outcome
+}
+
+/// Adds the number, a point, and the fraction.
+fn put_parts(alloc: Global, whole: u64, fraction: &[u8], out: &mut Bytes) -> Result<(), NoMemory>
+    ensures { OnOk result (out.new ≡ out.old ++ (decimal whole ++ (46 ∷ fraction.now))) }
+{
     put_natural(alloc, whole, out)?;
     out.push(b'.')?;
-    out.extend_from_slice(fraction_of(digits.as_slice()))
+    out.extend_from_slice(fraction)
 }
 
 /// Writes the last digits of the number over these, and gives what stands before them.

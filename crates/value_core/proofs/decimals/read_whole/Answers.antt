@@ -1,16 +1,12 @@
-use Rattle.std.proofs.Common.{FitsSigned, w64, rules}
-use Rattle.std.proofs.lemmas.Int.{to_z-of_z}
-use Rattle.value_core.proofs.DecimalTexts.{no_whole, unread_whole, one_whole}
-use Rattle.value_core.proofs.Outcomes.{none_from}
+use Rattle.value_core.proofs.DecimalTexts.{no_whole, unread_whole, whole_if_some}
+use Rattle.value_core.proofs.Outcomes.{none_by}
 use Rattle.value_core.proofs.decimals.read_whole.Goals as goal
 
-pub returns-in_err-front-clause-none : goal.returns-in_err-front-clause-none
-returns-in_err-front-clause-none c = none_from _ _ (no_whole c.args.octets.now c.in_err-front.ensures)
+pub returns-in-None-clause-none : goal.returns-in-None-clause-none
+returns-in-None-clause-none c = no_whole c.args.octets.now c.in-None.ensures
 
-pub returns-in_err-digits-clause-none : goal.returns-in_err-digits-clause-none
-returns-in_err-digits-clause-none c = none_from _ _ (unread_whole c.args.octets.now c.in_ok-front.front.now c.in_ok-front.ensures c.in_err-digits.ensures.none)
+pub returns-in-Some-clause-none : goal.returns-in-Some-clause-none
+returns-in-Some-clause-none c = none_by _ (unread_whole c.args.octets.now c.in-Some.front.now c.in-Some.ensures) c.read_integer.ensures.none
 
-pub returns-clause-some : goal.returns-clause-some
-returns-clause-some c digits held written =
-    let fits : FitsSigned w64 c.in_ok-digits.digits = search rules in
-    simp to_z-of_z (one_whole c.args.octets.now c.in_ok-front.front.now digits c.in_ok-digits.digits c.in_ok-front.ensures c.in_ok-digits.ensures.some c.in_ok-digits.ensures.held held written)
+pub returns-in-Some-clause-some : goal.returns-in-Some-clause-some
+returns-in-Some-clause-some c = whole_if_some c.args.octets.now c.in-Some.front.now c.read_integer.result c.in-Some.ensures c.read_integer.ensures.some c.read_integer.ensures.held
