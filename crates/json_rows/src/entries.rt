@@ -10,7 +10,7 @@ ghost use Rattle.schema_core.specs.Nodes.{names_at, names_above};
 ghost use Rattle.base_lists.specs.Results.{IsUnlessMemory, and_then};
 ghost use Rattle.json_rows.specs.Leaves.{leaf_at};
 ghost use Rattle.json_rows.specs.Members.{qualified};
-ghost use Rattle.json_rows.specs.Entries.{only_member, key_text_of, key_of_entry, required_key, with_key, keys_of_entry, same_key, same_keys, keys_unless_seen, key_as_in_path, entry_keys_agree};
+ghost use Rattle.json_rows.specs.Entries.{only_member, key_text_of, key_of_entry, required_key, with_key, keys_of_entry, same_key, key_as_in_path, entry_keys_agree};
 
 use crate::fault::RowsFault;
 use crate::leaves::leaf_at;
@@ -60,10 +60,18 @@ fn key_text_of(alloc: Global, leaf: &Node, json: &Json) -> Result<Text, RowsFaul
     ensures answer { IsUnlessMemory RowsFault.NoMemory (and_then result (λ text. Ok (Some text)))
         (key_text_of (leaf_at leaf.now.shape (view json.now))) }
 {
-    let Some(value) = leaf_at(alloc, leaf.shape(), json)? else {
-        return Err(RowsFault::BadValue);
-    };
-    Ok(key_text(alloc, &value)?)
+    match leaf_at(alloc, leaf.shape(), json) {
+        Ok(Some(value)) => {
+            let text = key_text(alloc, &value);
+            drop(value);
+            match text {
+                Ok(text) => Ok(text),
+                Err(NoMemory) => Err(RowsFault::NoMemory),
+            }
+        }
+        Ok(None) => Err(RowsFault::BadValue),
+        Err(NoMemory) => Err(RowsFault::NoMemory),
+    }
 }
 
 /// The text of the key with this name in an entry of the list, where the entry has it.
@@ -83,9 +91,15 @@ fn key_of_entry(
     };
     let leaf = schema.node(id);
     let full = qualified(alloc, leaf.module_name(), name)?;
-    match only_member(entry, str_of(name), full.as_str())? {
-        None => Ok(None),
-        Some(json) => Ok(Some(key_text_of(alloc, leaf, json)?)),
+    let found = only_member(entry, str_of(name), full.as_str());
+    drop(full);
+    match found {
+        Ok(Some(json)) => match key_text_of(alloc, leaf, json) {
+            Ok(text) => Ok(Some(text)),
+            Err(fault) => Err(fault),
+        },
+        Ok(None) => Ok(None),
+        Err(fault) => Err(fault),
     }
 }
 
@@ -132,19 +146,60 @@ pub(crate) fn keys_of_entry(
 {
     let mut keys: Keys = Seq::empty(alloc);
     for name in names {
-        let Some(text) = key_of_entry(alloc, schema, list, name, entry)? else {
-            return Err(RowsFault::BadValue);
+        let text = match required_key(alloc, schema, list, name, entry) {
+            Ok(text) => text,
+            Err(fault) => {
+                drop(keys);
+                return Err(fault);
+            }
         };
-        keys = with_key(keys, (name.copy(alloc)?, text))?;
+        keys = with_named_key(alloc, name, text, keys)?;
     }
     Ok(keys)
+}
+
+/// The text of the key with this name in an entry of the list, which has it.
+fn required_key(
+    alloc: Global,
+    schema: &Schema,
+    list: NodeId,
+    name: &Text,
+    entry: &Json,
+) -> Result<Text, RowsFault>
+    requires { list.0 < length schema.now }
+    ensures answer { IsUnlessMemory RowsFault.NoMemory result
+        (and_then (key_of_entry schema.now (names_at schema.now list.0) name.now (view entry.now))
+        required_key) }
+{
+    match key_of_entry(alloc, schema, list, name, entry) {
+        Ok(found) => found.ok_or(RowsFault::BadValue),
+        Err(fault) => Err(fault),
+    }
+}
+
+/// The keys with this text as the key of this name.
+fn with_named_key(alloc: Global, name: &Text, text: Text, keys: Keys) -> Result<Keys, NoMemory>
+    ensures { IfOk result (λ more. more ≡ with_key (name.now, text) keys) }
+{
+    match name.copy(alloc) {
+        Ok(name) => with_key(keys, (name, text)),
+        Err(NoMemory) => {
+            drop(text);
+            drop(keys);
+            Err(NoMemory)
+        }
+    }
 }
 
 fn has_key(keys: &Keys, name: &Text, text: &Text) -> bool
     ensures { result ≡ list_any (same_key (name.now, text.now)) keys.now }
 {
-    keys.items().iter().any(|other| name.octets() == other.0.octets()
-        && text.octets() == other.1.octets())
+    for (other_name, other_text) in keys.items() {
+        if name.octets() == other_name.octets() && text.octets() == other_text.octets() {
+            return true;
+        }
+    }
+    false
 }
 
 /// Looks whether the entry's keys are those of its path, as far as it has them.
@@ -163,7 +218,9 @@ pub(crate) fn entry_keys_agree(
 {
     for name in names {
         if let Some(text) = key_of_entry(alloc, schema, list, name, entry)? {
-            if !has_key(keys, name, &text) {
+            let is_there = has_key(keys, name, &text);
+            drop(text);
+            if !is_there {
                 return Err(RowsFault::BadValue);
             }
         }

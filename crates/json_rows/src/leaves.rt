@@ -86,13 +86,14 @@ pub(crate) fn leaf_of(alloc: Global, shape: &Shape, json: &Json) -> Result<Optio
     ensures ok { IfOk result (λ value. value ≡ leaf_of shape.now (view json.now)) }
     ensures scalar { IfOk result (λ value. IfSome value (λ v. is_list v ≡ false)) }
 {
-    let Some(value) = value_of_data(alloc, shape, json)? else {
-        return Ok(None);
-    };
-    if check_value(shape, &value) {
-        Ok(Some(value))
-    } else {
-        Ok(None)
+    match value_of_data(alloc, shape, json) {
+        Ok(Some(value)) => if check_value(shape, &value) {
+            Ok(Some(value))
+        } else {
+            drop(value);
+            Ok(None)
+        },
+        other => other,
     }
 }
 

@@ -44,7 +44,14 @@ impl SeenKeys {
             (λ added. added ≡ not (list_any (same_keys keys.now) self.old)) }
         ensures more { IfOk result (λ added. IsTrue added → self.new ≡ self.old ++ keys.now ∷ []) }
     {
-        let added = self.index.insert(keys.copy(alloc)?)?;
+        let copy = keys.copy(alloc)?;
+        let added = match self.index.insert(copy) {
+            Ok(added) => added,
+            Err(failed) => {
+                drop(failed);
+                return Err(NoMemory);
+            }
+        };
         if added {
             self.seen.remember(keys);
         }

@@ -1,13 +1,14 @@
 // The rows that a JSON text means.
-ghost use Rattle.std.specs.Prelude.{◌≡◌, ◌≢◌, ◌-◌, [], Ok, Err, Some, None, length, take, slice_get, IfOk, IfErr, IfSome, OnOk, ◌<◌, IsTrue};
-ghost use Rattle.std.specs.Option.{option_map};
+ghost use Rattle.std.specs.Prelude.{◌≡◌, ◌≢◌, ◌-◌, ◌++◌, ◌∷◌, [], Ok, Err, Some, None, length, take, slice_get, IfOk, IfErr, IfSome, OnOk, ◌<◌, IsTrue};
+ghost use Rattle.std.specs.Option.{option_map, ForSome};
 ghost use Rattle.base_lists.specs.Rising.{rises};
 ghost use Rattle.base_kinds.specs.Paths.{path_cmp};
 ghost use Rattle.base_kinds.specs.Schema.{names_of};
-ghost use Rattle.schema_core.specs.Nodes.{names_at};
+ghost use Rattle.schema_core.specs.Nodes.{names_at, names_above};
 ghost use Rattle.serde_json.specs.View.{view};
 ghost use Rattle.serde_json.specs.Errors.{IsMemory};
 ghost use Rattle.base_lists.specs.Results.{IsUnlessMemory};
+ghost use Rattle.json_rows.specs.Walk.{rows_at_node, rows_of_object};
 ghost use Rattle.json_rows.specs.Rows.{data_of, is_entry, rows_of_entry, rows_at_last_elem, rows_of_walk, rows_of};
 
 use crate::entries::{entry_keys_agree, str_of};
@@ -55,9 +56,14 @@ fn is_entry(sort: Sort, last: &Elem) -> bool
 fn above_last(alloc: Global, path: &Path) -> Result<Path, NoMemory>
     ensures { IfOk result (λ above. above ≡ take (length path.now - 1) path.now) }
 {
-    let mut elems = path.copy(alloc)?.into_vec();
-    elems.pop();
-    Ok(Seq::from_vec(elems))
+    match path.copy(alloc) {
+        Ok(copy) => {
+            let mut elems = copy.into_vec();
+            drop(elems.pop());
+            Ok(Seq::from_vec(elems))
+        }
+        Err(NoMemory) => Err(NoMemory),
+    }
 }
 
 /// The rows of the value of an entry whose path has its keys.
@@ -76,9 +82,30 @@ fn rows_of_entry(
 {
     let names = schema.node(id).keys().items();
     entry_keys_agree(alloc, schema, id, names, &last.keys, json)?;
+    rows_of_object(alloc, schema, Some(id), path, json)
+}
+
+/// The rows of an object at the path of a list's entry, or of the root.
+fn rows_of_object(
+    alloc: Global,
+    schema: &Schema,
+    parent: Option<NodeId>,
+    path: &Path,
+    json: &Json,
+) -> Result<Rows, RowsFault>
+    requires within { ForSome parent (λ id. id.0 < length schema.now) }
+    requires named { names_above schema.now parent ≡ names_of path.now }
+    ensures answer { IsUnlessMemory RowsFault.NoMemory result
+        (rows_of_object schema.now path.now [] (view json.now)) }
+{
     let mut rows = Seq::empty(alloc);
-    add_object(alloc, schema, Some(id), path, json, &mut rows)?;
-    Ok(rows)
+    match add_object(alloc, schema, parent, path, json, &mut rows) {
+        Ok(()) => Ok(rows),
+        Err(fault) => {
+            drop(rows);
+            Err(fault)
+        }
+    }
 }
 
 /// The rows of a value at the node of a path with this last element.
@@ -101,19 +128,47 @@ fn rows_at_last_elem(
     if is_entry(node.sort(), last) {
         return rows_of_entry(alloc, schema, id, path, last, json);
     }
-    let above = above_last(alloc, path)?;
+    match above_last(alloc, path) {
+        Ok(above) => {
+            let rows = rows_of_node(alloc, schema, id, &above, str_of(&last.name), json);
+            drop(above);
+            rows
+        }
+        Err(NoMemory) => Err(RowsFault::NoMemory),
+    }
+}
+
+/// The rows of a value at a node: its name, and the path above it.
+fn rows_of_node(
+    alloc: Global,
+    schema: &Schema,
+    id: NodeId,
+    above: &Path,
+    name: &str,
+    json: &Json,
+) -> Result<Rows, RowsFault>
+    requires within { id.0 < length schema.now }
+    requires named { names_at schema.now id.0 ≡ names_of above.now ++ name.now ∷ [] }
+    ensures answer { IfSome (slice_get schema.now id.0) (λ node. IsUnlessMemory RowsFault.NoMemory
+        result (rows_at_node node.sort schema.now node above.now name.now [] (view json.now))) }
+{
     let mut rows = Seq::empty(alloc);
-    add_node(
+    match add_node(
         alloc,
         schema,
         id,
-        node,
-        &above,
-        str_of(&last.name),
+        schema.node(id),
+        above,
+        name,
         json,
         &mut rows,
-    )?;
-    Ok(rows)
+    ) {
+        Ok(()) => Ok(rows),
+        Err(fault) => {
+            drop(rows);
+            Err(fault)
+        }
+    }
 }
 
 /// The rows of a text at the root.
@@ -122,12 +177,15 @@ fn rows_at_root(alloc: Global, schema: &Schema, path: &Path, text: &[u8]) -> Res
     ensures answer { IsUnlessMemory RowsFault.NoMemory result
         (rows_of_walk schema.now path.now (data_of text.now)) }
 {
-    let Some(json) = data_of(alloc, text)? else {
-        return Err(RowsFault::BadValue);
-    };
-    let mut rows = Seq::empty(alloc);
-    add_object(alloc, schema, None, path, &json, &mut rows)?;
-    Ok(rows)
+    match data_of(alloc, text) {
+        Ok(Some(json)) => {
+            let rows = rows_of_object(alloc, schema, None, path, &json);
+            drop(json);
+            rows
+        }
+        Ok(None) => Err(RowsFault::BadValue),
+        Err(NoMemory) => Err(RowsFault::NoMemory),
+    }
 }
 
 /// The rows of a text in the order of the walk.
@@ -141,10 +199,15 @@ fn rows_of_walk(alloc: Global, schema: &Schema, path: &Path, text: &[u8]) -> Res
     let Some(id) = schema.find(path) else {
         return Err(RowsFault::NotInSchema);
     };
-    let Some(json) = data_of(alloc, text)? else {
-        return Err(RowsFault::BadValue);
-    };
-    rows_at_last_elem(alloc, schema, id, path, last, &json)
+    match data_of(alloc, text) {
+        Ok(Some(json)) => {
+            let rows = rows_at_last_elem(alloc, schema, id, path, last, &json);
+            drop(json);
+            rows
+        }
+        Ok(None) => Err(RowsFault::BadValue),
+        Err(NoMemory) => Err(RowsFault::NoMemory),
+    }
 }
 
 /// The rows that the JSON text means at the path, rising by path. The keys of a path
@@ -158,6 +221,11 @@ pub fn rows_of(alloc: Global, schema: &Schema, path: &Path, json: &[u8]) -> Resu
         (rows_of schema.now path.now json.now) }
     ensures rising { IfOk result (λ rows. IsTrue (rises (λ a b. path_cmp a.path b.path) rows)) }
 {
-    let rows = rows_of_walk(alloc, schema, path, json)?;
-    Ok(rows_by_path(rows)?)
+    match rows_of_walk(alloc, schema, path, json) {
+        Ok(rows) => match rows_by_path(rows) {
+            Ok(sorted) => Ok(sorted),
+            Err(NoMemory) => Err(RowsFault::NoMemory),
+        },
+        Err(fault) => Err(fault),
+    }
 }

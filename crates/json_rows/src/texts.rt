@@ -1,8 +1,8 @@
 // Octets and texts that strings stand for.
-ghost use Rattle.std.specs.Prelude.{◌≡◌, None, Ok, IfOk, OnOk};
+ghost use Rattle.std.specs.Prelude.{◌≡◌, ◌++◌, ◌∷◌, [], None, Ok, IfOk, OnOk};
 ghost use Rattle.value_core.specs.Base64.{octets_of};
 
-use base_kinds::{Bytes, NoMemory, Text, TextOfFault};
+use base_kinds::{Bytes, NoMemory, Text, TextOfFault, Texts};
 use std::alloc::Global;
 use value_core::{ValueFault, read_base64};
 
@@ -24,6 +24,16 @@ fn no_octets(fault: ValueFault) -> Result<Option<Bytes>, NoMemory>
     match fault {
         ValueFault::BadValue => Ok(None),
         ValueFault::NoMemory => Err(NoMemory),
+    }
+}
+
+/// Adds the text.
+pub(crate) fn put_text(alloc: Global, text: &str, texts: &mut Texts) -> Result<(), NoMemory>
+    ensures { OnOk result (texts.new ≡ texts.old ++ text.now ∷ []) }
+{
+    match text_of(alloc, text) {
+        Ok(copy) => texts.push(copy),
+        Err(NoMemory) => Err(NoMemory),
     }
 }
 

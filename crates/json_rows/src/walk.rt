@@ -5,15 +5,14 @@ ghost use Rattle.base_lists.specs.Results.{IsUnlessMemory, and_then};
 ghost use Rattle.base_kinds.specs.Schema.{names_of};
 ghost use Rattle.serde_json.specs.View.{view, items_view, members_view};
 ghost use Rattle.schema_core.specs.Nodes.{names_at, names_above};
-ghost use Rattle.json_rows.specs.Walk.{rows_at_node, rows_of_members, rows_of_entries, rows_of_object};
+ghost use Rattle.json_rows.specs.Walk.{rows_at_node, rows_of_members, rows_of_entries, rows_of_object, below as path_below};
 
-use crate::entries::keys_of_entry;
 use crate::fault::RowsFault;
-use crate::leaf_rows::{add_keys, add_leaf, add_list, below};
+use crate::leaf_rows::{add_leaf, add_list, below, fresh_keys};
 use crate::members::{fresh_child, spelling_of};
 use crate::seen_keys::SeenKeys;
-use crate::texts::text_of;
-use base_kinds::{Path, Rows, Seq, Sort, Texts};
+use crate::texts::put_text;
+use base_kinds::{Keys, NoMemory, Path, Rows, Seq, Sort, Texts};
 use schema_core::{Node, NodeId, Schema};
 use serde_json::{Map, Value as Json};
 use std::alloc::Global;
@@ -38,10 +37,16 @@ pub(crate) fn add_node(
         (view json.now)) }
 {
     match (node.sort(), json) {
-        (Sort::Container, Json::Object(members)) => {
-            let here = below(alloc, above, name, Seq::empty(alloc))?;
-            add_members(alloc, schema, Some(id), &here, members, rows)
-        }
+        (Sort::Container, Json::Object(_)) => add_object_below(
+            alloc,
+            schema,
+            id,
+            above,
+            name,
+            Seq::empty(alloc),
+            json,
+            rows,
+        ),
         (Sort::List, Json::Array(items)) => add_entries(
             alloc, schema, id, node, above, name, items, rows,
         ),
@@ -69,11 +74,32 @@ fn add_members(
         (rows_of_members schema.now here.now [] rows.old (members_view members.now.entries)) }
 {
     let mut seen: Texts = Seq::empty(alloc);
+    let outcome = add_members_behind(alloc, schema, parent, here, &mut seen, members, rows);
+    drop(seen);
+    outcome
+}
+
+/// Adds the rows of an object's members behind members that named the children seen.
+#[cycle(walk)]
+fn add_members_behind(
+    alloc: Global,
+    schema: &Schema,
+    parent: Option<NodeId>,
+    here: &Path,
+    seen: &mut Texts,
+    members: &Map<String, Json>,
+    rows: &mut Rows,
+) -> Result<(), RowsFault>
+    requires within { ForSome parent (λ id. id.0 < length schema.now) }
+    requires named { names_above schema.now parent ≡ names_of here.now }
+    ensures answer { IsUnlessMemory RowsFault.NoMemory (and_then result (λ _. Ok rows.new))
+        (rows_of_members schema.now here.now seen.old rows.old (members_view members.now.entries)) }
+{
     for (text, json) in members.iter() {
-        let id = fresh_child(schema, parent, &seen, text.as_str())?;
+        let id = fresh_child(schema, parent, seen, text.as_str())?;
         let name = spelling_of(text.as_str()).name;
         add_node(alloc, schema, id, schema.node(id), here, name, json, rows)?;
-        seen.push(text_of(alloc, name)?)?;
+        put_text(alloc, name, seen)?;
     }
     Ok(())
 }
@@ -97,13 +123,62 @@ fn add_entries(
         (items_view items.now.items)) }
 {
     let mut seen = SeenKeys::empty(alloc);
+    let outcome = add_entries_behind(alloc, schema, id, node, above, name, &mut seen, items, rows);
+    drop(seen);
+    outcome
+}
+
+/// Adds the rows of a list's entries behind entries that had the keys seen.
+#[cycle(walk)]
+fn add_entries_behind(
+    alloc: Global,
+    schema: &Schema,
+    id: NodeId,
+    node: &Node,
+    above: &Path,
+    name: &str,
+    seen: &mut SeenKeys,
+    items: &Vec<Json>,
+    rows: &mut Rows,
+) -> Result<(), RowsFault>
+    requires within { id.0 < length schema.now }
+    requires named { names_at schema.now id.0 ≡ names_of above.now ++ name.now ∷ [] }
+    ensures answer { IsUnlessMemory RowsFault.NoMemory (and_then result (λ _. Ok rows.new))
+        (rows_of_entries schema.now node.now above.now name.now seen.old rows.old
+        (items_view items.now.items)) }
+{
     for item in items {
-        let keys = keys_of_entry(alloc, schema, id, node.keys().items(), item)?;
-        add_keys(alloc, &mut seen, &keys)?;
-        let here = below(alloc, above, name, keys)?;
-        add_object(alloc, schema, Some(id), &here, item, rows)?;
+        let keys = fresh_keys(alloc, schema, id, node.keys().items(), seen, item)?;
+        add_object_below(alloc, schema, id, above, name, keys, item, rows)?;
     }
     Ok(())
+}
+
+/// Adds the rows of an object that stands at the element of this name and these keys.
+#[cycle(walk)]
+fn add_object_below(
+    alloc: Global,
+    schema: &Schema,
+    id: NodeId,
+    above: &Path,
+    name: &str,
+    keys: Keys,
+    json: &Json,
+    rows: &mut Rows,
+) -> Result<(), RowsFault>
+    requires within { id.0 < length schema.now }
+    requires named { names_at schema.now id.0 ≡ names_of above.now ++ name.now ∷ [] }
+    ensures answer { IsUnlessMemory RowsFault.NoMemory (and_then result (λ _. Ok rows.new))
+        (rows_of_object schema.now (path_below above.now name.now keys) rows.old (view json.now)) }
+{
+    match below(alloc, above, name, keys) {
+        Ok(here) => {
+            let outcome = add_object(alloc, schema, Some(id), &here, json, rows);
+            drop(here);
+            outcome
+        }
+        Err(NoMemory) => Err(RowsFault::NoMemory),
+    }
 }
 
 /// Adds the rows of an object at the path of a list's entry, or of the root.

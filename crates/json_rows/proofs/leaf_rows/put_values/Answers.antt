@@ -4,7 +4,7 @@ use Rattle.std.proofs.lemmas.List.{drop_more}
 use Rattle.serde_json.specs.Data.{item}
 use Rattle.serde_json.specs.View.{view, items_view}
 use Rattle.json_rows.proofs.ValuesRead.{behind, one_read}
-use Rattle.json_rows.proofs.leaf_rows.values_of.Goals as goal
+use Rattle.json_rows.proofs.leaf_rows.put_values.Goals as goal
 
 pub loop-item-preserved : goal.loop-item-preserved
 loop-item-preserved c =

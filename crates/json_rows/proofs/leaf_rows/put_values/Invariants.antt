@@ -3,7 +3,7 @@ use Rattle.std.specs.Option.{option_copied}
 use Rattle.serde_json.specs.View.{items_view}
 use Rattle.base_kinds.specs.Values.{all_differ}
 use Rattle.json_rows.specs.Leaves.{values_from}
-use Rattle.json_rows.proofs.leaf_rows.values_of.Given as goal
+use Rattle.json_rows.proofs.leaf_rows.put_values.Given as goal
 
 -- what the other items give after the values so far, where these differ, is what all of them give
 abbrev pub invariant-loop-item : goal.invariant-loop-item
