@@ -65,3 +65,14 @@ way_more schema front longer done after elem copy rest items split is same added
     ap (λ f. joined after (key_leaves_from schema f rest)) e
     ∙ sym (elem_more done after (key_leaves_of_elem schema here elem (node_at schema here)) (key_leaves_from schema here rest) own)
     ∙ sym (ap (λ i. joined done (key_leaves_from schema front i)) split)
+
+-- an element more whose leaves are refused
+pub way_refused : (schema : List SchemaNode) (front longer : List Elem) (done : List Row) (elem copy : Elem) (rest items : List Elem) (refusal : Refusal) → items ≡ elem ∷ rest → longer ≡ front ++ copy ∷ [] → copy ≡ elem
+    → key_leaves_of_elem schema longer elem (node_at schema longer) ≡ Err refusal
+    → joined done (key_leaves_from schema front items) ≡ Err refusal
+way_refused schema front longer done elem copy rest items refusal split is same refused =
+    let here = front ++ elem ∷ [] in
+    let e : longer ≡ here = is ∙ ap (λ c. front ++ c ∷ []) same in
+    let own : key_leaves_of_elem schema here elem (node_at schema here) ≡ Err refusal = subst (λ f. key_leaves_of_elem schema f elem (node_at schema f) ≡ Err refusal) e refused in
+    ap (λ i. joined done (key_leaves_from schema front i)) split
+    ∙ elem_refused done (key_leaves_of_elem schema here elem (node_at schema here)) (key_leaves_from schema here rest) refusal own

@@ -34,10 +34,25 @@ pub(crate) fn ask_of(alloc: Global, action: &Action, ops: Ops, nanos: u64) -> Re
     ensures { IfOk result (λ ask. ask ≡ ask_of action.now ops nanos) }
 {
     match action {
-        Action::Trial(id, _) => Ok(Ask::Trial(id.copy(alloc)?, ops, nanos)),
-        Action::Confirm(id) => Ok(Ask::Confirm(id.copy(alloc)?)),
-        Action::Cancel(id) => Ok(Ask::Cancel(id.copy(alloc)?)),
-        Action::Extend(id, _) => Ok(Ask::Extend(id.copy(alloc)?, nanos)),
+        Action::Trial(id, _) => match id.copy(alloc) {
+            Ok(id) => Ok(Ask::Trial(id, ops, nanos)),
+            Err(NoMemory) => {
+                drop(ops);
+                Err(NoMemory)
+            }
+        },
+        Action::Confirm(id) => {
+            drop(ops);
+            Ok(Ask::Confirm(id.copy(alloc)?))
+        }
+        Action::Cancel(id) => {
+            drop(ops);
+            Ok(Ask::Cancel(id.copy(alloc)?))
+        }
+        Action::Extend(id, _) => {
+            drop(ops);
+            Ok(Ask::Extend(id.copy(alloc)?, nanos))
+        }
         Action::Plain | Action::Mixed => Ok(Ask::Apply(ops)),
     }
 }

@@ -5,7 +5,7 @@ ghost use Rattle.value_core.specs.KeyValues.{key_value};
 ghost use Rattle.base_lists.specs.Results.{IsUnlessMemory, and_then, traverse};
 ghost use Rattle.base_kinds.specs.Schema.{node_at};
 ghost use Rattle.base_kinds.specs.Ancestors.{child};
-ghost use Rattle.set_txn.specs.KeyLeaves.{shape_at, value_of_key, leaf_with, key_leaf, key_leaves_of_elem, key_leaves_of};
+ghost use Rattle.set_txn.specs.KeyLeaves.{shape_at, value_of_key, leaf_with, key_leaf, key_leaves_of_elem, key_leaves_from, key_leaves_of};
 
 use crate::key_values::key_value;
 use base_kinds::{Copied, Elem, NoMemory, Path, Refusal, Row, Rows, Seq, Shape, Text, Value};
@@ -16,17 +16,55 @@ use std::alloc::Global;
 ///
 /// `NotInSchema`: no node has the element's name there. `BadPath`: the element's keys aren't just its node's, or a key's
 /// text is that of no value of its leaf. The first element decides.
-#[tactic(auto, using(crate::proofs::Traversals::none_before, crate::proofs::Traversals::none_behind, crate::proofs::Traversals::elem_more, crate::proofs::Traversals::elem_refused))]
+#[tactic(auto, using(crate::proofs::Traversals::none_before))]
 pub(crate) fn key_leaves_of(alloc: Global, schema: &Schema, path: &Path) -> Result<Rows, Refusal>
     ensures { IsUnlessMemory Refusal.NoMemory result (key_leaves_of schema.now path.now) }
 {
     let mut keys = Seq::empty(alloc);
     let mut entry = Seq::empty(alloc);
-    for elem in path.items() {
-        entry.push(elem.copy(alloc)?)?;
-        push_elem(alloc, schema, &entry, elem, &mut keys)?;
+    let pushed = push_elems(alloc, schema, path.items(), &mut entry, &mut keys);
+    drop(entry);
+    match pushed {
+        Ok(()) => Ok(keys),
+        Err(refusal) => {
+            drop(keys);
+            Err(refusal)
+        }
     }
-    Ok(keys)
+}
+
+/// Adds a copy of the element.
+fn put_copy(alloc: Global, elem: &Elem, path: &mut Path) -> Result<(), NoMemory>
+    ensures { OnOk result (path.new ≡ path.old ++ elem.now ∷ []) }
+{
+    match elem.copy(alloc) {
+        Ok(copy) => path.push(copy),
+        Err(NoMemory) => Err(NoMemory),
+    }
+}
+
+/// Adds the key leaves of the elements behind the entry, which grows by them.
+#[tactic(auto, using(crate::proofs::Traversals::none_behind))]
+fn push_elems(
+    alloc: Global,
+    schema: &Schema,
+    elems: &[Elem],
+    entry: &mut Path,
+    rows: &mut Rows,
+) -> Result<(), Refusal>
+    ensures ok { OnOk result (and_then (key_leaves_from schema.now entry.old elems.now)
+        (λ leaves. Ok (rows.old ++ leaves)) ≡ Ok rows.new) }
+    ensures refused { IfErr result (λ refusal. refusal ≢ Refusal.NoMemory
+        → key_leaves_from schema.now entry.old elems.now ≡ Err refusal) }
+{
+    for elem in elems {
+        put_copy(alloc, elem, entry)?;
+        match push_elem(alloc, schema, entry, elem, rows) {
+            Ok(()) => {}
+            Err(refusal) => return Err(refusal),
+        }
+    }
+    Ok(())
 }
 
 /// Adds the key leaves of the element that ends the entry's path.
@@ -84,8 +122,13 @@ fn key_leaf(
     ensures { IsUnlessMemory Refusal.NoMemory result (key_leaf schema.now entry.now key.now) }
 {
     let path = child(alloc, entry, &key.0)?;
-    let value = value_at(alloc, schema, &path, &key.1)?;
-    leaf_with(path, value)
+    match value_at(alloc, schema, &path, &key.1) {
+        Ok(value) => leaf_with(path, value),
+        Err(NoMemory) => {
+            drop(path);
+            Err(Refusal::NoMemory)
+        }
+    }
 }
 
 /// The value that a key spells whose leaf has this path.
@@ -110,7 +153,10 @@ fn leaf_with(path: Path, value: Option<Value>) -> Result<Row, Refusal>
     ensures refused { IfErr result (λ refusal. (refusal ≡ Refusal.BadPath) × (value ≡ None)) }
 {
     match value {
-        None => Err(Refusal::BadPath),
+        None => {
+            drop(path);
+            Err(Refusal::BadPath)
+        }
         Some(value) => Ok(Row { path, value }),
     }
 }
@@ -128,8 +174,24 @@ fn child(alloc: Global, entry: &Path, name: &Text) -> Result<Path, NoMemory>
     ensures { IfOk result (λ path. path ≡ child entry.now name.now) }
 {
     let mut path = entry.copy(alloc)?;
-    let name = name.copy(alloc)?;
-    let keys = Seq::empty(alloc);
-    path.push(Elem { name, keys })?;
-    Ok(path)
+    match push_name(alloc, name, &mut path) {
+        Ok(()) => Ok(path),
+        Err(NoMemory) => {
+            drop(path);
+            Err(NoMemory)
+        }
+    }
+}
+
+/// Adds an element of this name, without keys.
+fn push_name(alloc: Global, name: &Text, path: &mut Path) -> Result<(), NoMemory>
+    ensures { OnOk result (path.new ≡ child path.old name.now) }
+{
+    match name.copy(alloc) {
+        Ok(name) => path.push(Elem {
+            name,
+            keys: Seq::empty(alloc),
+        }),
+        Err(NoMemory) => Err(NoMemory),
+    }
 }

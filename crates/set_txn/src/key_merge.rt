@@ -1,6 +1,6 @@
 // Key leaves among the rows of a value.
-ghost use Rattle.std.specs.Prelude.{◌≡◌, IfOk, OnOk};
-ghost use Rattle.std.specs.List.{list_all};
+ghost use Rattle.std.specs.Prelude.{◌≡◌, ◌<◌, ◌≤◌, length, set, IfOk, IfErr, OnOk};
+ghost use Rattle.std.specs.List.{list_all, insert};
 ghost use Rattle.std.specs.Option.{option_copied};
 ghost use Rattle.base_kinds.specs.Tree.{set_row, set_rows};
 ghost use Rattle.base_kinds.specs.Valid.{unless_none};
@@ -53,25 +53,32 @@ pub(crate) fn with_keys(alloc: Global, rows: Rows, keys: &[Row]) -> Result<Rows,
     Ok(Seq::from_vec(stored))
 }
 
-/// Sets the row's value at its path. Rows rise by path.
+/// Where the row's path stands among the rows, or else the gap where the row belongs.
 #[tactic(auto, using(crate::proofs::Placing::in_place, crate::proofs::Placing::before, crate::proofs::Placing::behind))]
+fn place_of(rows: &[Row], row: &Row) -> Result<usize, usize>
+    ensures within { IfOk result (λ place. place < length rows.now) }
+    ensures there { IfOk result (λ place. set rows.now place row.now ≡ set_row row.now rows.now) }
+    ensures inside { IfErr result (λ gap. gap ≤ length rows.now) }
+    ensures gap { IfErr result (λ gap. insert rows.now gap row.now ≡ set_row row.now rows.now) }
+{
+    for i in 0..rows.len() {
+        match cmp_paths(&rows[i].path, &row.path) {
+            Ordering::Less => {}
+            Ordering::Equal => return Ok(i),
+            Ordering::Greater => return Err(i),
+        }
+    }
+    Err(rows.len())
+}
+
+/// Sets the row's value at its path. Rows rise by path.
 fn put_row(alloc: Global, rows: &mut Vec<Row>, row: &Row) -> Result<(), NoMemory>
     ensures { OnOk result (rows.new.items ≡ set_row row.now rows.old.items) }
 {
     let copy = row.copy(alloc)?;
-    for i in 0..rows.len() {
-        match cmp_paths(&rows[i].path, &row.path) {
-            Ordering::Less => {}
-            Ordering::Equal => {
-                rows[i] = copy;
-                return Ok(());
-            }
-            Ordering::Greater => {
-                rows.insert(i, copy)?;
-                return Ok(());
-            }
-        }
+    match place_of(rows.as_slice(), row) {
+        Ok(place) => drop(std::mem::replace(&mut rows[place], copy)),
+        Err(gap) => rows.insert(gap, copy)?,
     }
-    rows.push(copy)?;
     Ok(())
 }

@@ -23,6 +23,7 @@ pub(crate) fn key_value(
             if is_fit_scalar(&value) {
                 Ok(Some(value))
             } else {
+                drop(value);
                 Ok(None)
             }
         }

@@ -1,19 +1,18 @@
 // The operations of a request, resolved by a schema.
-ghost use Rattle.std.specs.Prelude.{◌≡◌, ◌≢◌, ◌++◌, [], Ok, Err, true, false, IfOk, IfErr, OnOk};
-ghost use Rattle.set_txn.specs.Operations.{is_whole_path, op_of_delete, op_with, op_of_change, ops_of_request};
+ghost use Rattle.std.specs.Prelude.{◌≡◌, ◌≢◌, ◌++◌, [], Ok, Err, true, false, if◌then◌else◌, IfOk, IfErr, OnOk};
+ghost use Rattle.set_txn.specs.Operations.{is_whole_path, are_fit_rows, op_of_delete, op_with, op_at, op_of_change, ops_of_request};
 ghost use Rattle.base_lists.specs.Results.{IsUnlessMemory, and_then, traverse};
 
 use crate::fitness::{are_fit_rows, has_wildcard, is_whole_path};
 use crate::key_leaves::key_leaves_of;
 use crate::key_merge::{key_leaves_agree, with_keys};
 use crate::value_rows::rows_of_value;
-use base_kinds::{Act, Change, Op, Ops, Path, Refusal, Rows, Seq, UnresolvedSet};
+use base_kinds::{Act, Change, NoMemory, Op, Ops, Path, Refusal, Rows, Seq, UnresolvedSet};
 use path_core::{PathFault, join_prefix};
 use schema_core::Schema;
 use std::alloc::Global;
 
 /// The deletes, then the replaces, then the updates, each in list order.
-#[tactic(auto, using(crate::proofs::Traversals::in_three))]
 pub(crate) fn ops_of_request(
     alloc: Global,
     schema: &Schema,
@@ -22,14 +21,35 @@ pub(crate) fn ops_of_request(
     ensures answer { IsUnlessMemory Refusal.NoMemory result (ops_of_request schema.now ask.now) }
 {
     let mut ops = Seq::empty(alloc);
-    push_deletes(alloc, &ask.prefix, ask.deletes.items(), &mut ops)?;
+    match push_ops(alloc, schema, ask, &mut ops) {
+        Ok(()) => Ok(ops),
+        Err(refusal) => {
+            drop(ops);
+            Err(refusal)
+        }
+    }
+}
+
+#[tactic(auto, using(crate::proofs::Traversals::in_three))]
+fn push_ops(
+    alloc: Global,
+    schema: &Schema,
+    ask: &UnresolvedSet,
+    ops: &mut Ops,
+) -> Result<(), Refusal>
+    requires { ops.old ≡ [] }
+    ensures ok { OnOk result (ops_of_request schema.now ask.now ≡ Ok ops.new) }
+    ensures refused { IfErr result (λ refusal. refusal ≢ Refusal.NoMemory
+        → ops_of_request schema.now ask.now ≡ Err refusal) }
+{
+    push_deletes(alloc, &ask.prefix, ask.deletes.items(), ops)?;
     push_changes(
         alloc,
         schema,
         &ask.prefix,
         Act::Replace,
         ask.replaces.items(),
-        &mut ops,
+        ops,
     )?;
     push_changes(
         alloc,
@@ -37,9 +57,8 @@ pub(crate) fn ops_of_request(
         &ask.prefix,
         Act::Update,
         ask.updates.items(),
-        &mut ops,
-    )?;
-    Ok(ops)
+        ops,
+    )
 }
 
 #[tactic(auto, using(crate::proofs::Traversals::none_behind, crate::proofs::Traversals::one_more, crate::proofs::Traversals::one_refused, crate::proofs::Traversals::refused_so))]
@@ -133,11 +152,37 @@ fn op_of_change(
 {
     let path = whole_path(alloc, prefix, &change.path)?;
     if has_wildcard(path.items()) {
+        drop(path);
         return Err(Refusal::BadPath);
     }
-    let keys = key_leaves_of(alloc, schema, &path)?;
-    let rows = rows_of_value(alloc, schema, &path, &change.given)?;
-    op_with(alloc, act, path, keys, rows)
+    op_at(alloc, schema, act, path, change)
+}
+
+/// The operation of a change whose whole path this is.
+fn op_at(
+    alloc: Global,
+    schema: &Schema,
+    act: Act,
+    path: Path,
+    change: &Change,
+) -> Result<Op, Refusal>
+    ensures answer { IsUnlessMemory Refusal.NoMemory result
+        (op_at schema.now act path change.now) }
+{
+    match key_leaves_of(alloc, schema, &path) {
+        Ok(keys) => match rows_of_value(alloc, schema, &path, &change.given) {
+            Ok(rows) => op_with(alloc, act, path, keys, rows),
+            Err(refusal) => {
+                drop(path);
+                drop(keys);
+                Err(refusal)
+            }
+        },
+        Err(refusal) => {
+            drop(path);
+            Err(refusal)
+        }
+    }
 }
 
 /// The operation with the rows of its value and the key leaves that its path names.
@@ -145,11 +190,31 @@ fn op_with(alloc: Global, act: Act, path: Path, keys: Rows, rows: Rows) -> Resul
     ensures answer { IsUnlessMemory Refusal.NoMemory result (op_with act path keys rows) }
 {
     if !key_leaves_agree(keys.items(), rows.items()) {
+        drop(path);
+        drop(keys);
+        drop(rows);
         return Err(Refusal::BadValue);
     }
-    let rows = with_keys(alloc, rows, keys.items())?;
-    if !are_fit_rows(rows.items()) {
-        return Err(Refusal::BadValue);
+    let rows = with_keys(alloc, rows, keys.items());
+    drop(keys);
+    match rows {
+        Ok(rows) => fit_op(act, path, rows),
+        Err(NoMemory) => {
+            drop(path);
+            Err(Refusal::NoMemory)
+        }
     }
-    Ok(Op { act, path, rows })
+}
+
+fn fit_op(act: Act, path: Path, rows: Rows) -> Result<Op, Refusal>
+    ensures { result ≡ if are_fit_rows rows
+        then Ok (record { act = act; path = path; rows = rows }) else Err Refusal.BadValue }
+{
+    if are_fit_rows(rows.items()) {
+        Ok(Op { act, path, rows })
+    } else {
+        drop(path);
+        drop(rows);
+        Err(Refusal::BadValue)
+    }
 }

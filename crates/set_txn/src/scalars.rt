@@ -61,6 +61,7 @@ fn signed_in(shape: &Shape, number: u64) -> Option<Value>
     if check_value(shape, &value) {
         Some(value)
     } else {
+        drop(value);
         None
     }
 }
@@ -75,6 +76,7 @@ fn unsigned_in(shape: &Shape, number: i64) -> Option<Value>
     if check_value(shape, &value) {
         Some(value)
     } else {
+        drop(value);
         None
     }
 }

@@ -1,5 +1,5 @@
 // The rows that a value gives at its path.
-ghost use Rattle.std.specs.Prelude.{◌≡◌, ◌≢◌, [], Ok, Err, IfOk, IfErr};
+ghost use Rattle.std.specs.Prelude.{◌≡◌, ◌≢◌, ◌∷◌, [], Ok, Err, IfOk, IfErr};
 ghost use Rattle.std.specs.Option.{option_map, option_and_then};
 ghost use Rattle.base_lists.specs.Results.{IsUnlessMemory};
 ghost use Rattle.base_kinds.specs.Schema.{node_at};
@@ -134,10 +134,17 @@ fn rows_of_distinct(
     let Some(kept) = values_in_shape(alloc, shape, scalars)? else {
         return Ok(None);
     };
-    if !all_differ(alloc, kept.items())? {
-        return Ok(None);
+    match all_differ(alloc, kept.items()) {
+        Ok(true) => Ok(Some(list_row(alloc, path, kept)?)),
+        Ok(false) => {
+            drop(kept);
+            Ok(None)
+        }
+        Err(NoMemory) => {
+            drop(kept);
+            Err(NoMemory)
+        }
     }
-    Ok(Some(list_row(alloc, path, kept)?))
 }
 
 /// The row of a leaf-list; without values it has none.
@@ -153,8 +160,24 @@ fn list_row(alloc: Global, path: &Path, values: Values) -> Result<Rows, NoMemory
 fn row_at(alloc: Global, path: &Path, value: Value) -> Result<Rows, NoMemory>
     ensures { IfOk result (λ rows. rows ≡ row_at path.now value) }
 {
-    let path = path.copy(alloc)?;
+    match path.copy(alloc) {
+        Ok(path) => one_row(alloc, Row { path, value }),
+        Err(NoMemory) => {
+            drop(value);
+            Err(NoMemory)
+        }
+    }
+}
+
+fn one_row(alloc: Global, row: Row) -> Result<Rows, NoMemory>
+    ensures { IfOk result (λ rows. rows ≡ row ∷ []) }
+{
     let mut rows = Seq::empty(alloc);
-    rows.push(Row { path, value })?;
-    Ok(rows)
+    match rows.push(row) {
+        Ok(()) => Ok(rows),
+        Err(NoMemory) => {
+            drop(rows);
+            Err(NoMemory)
+        }
+    }
 }
