@@ -18,8 +18,13 @@ impl Part for Row {
     #[tactic(auto, unfolding(crate::specs::inner::Reading::row_at))]
     fn read(alloc: Global, octets: &[u8]) -> Result<(Row, &[u8]), RecordFault> {
         let (path, rest) = path_at(alloc, octets)?;
-        let (value, rest) = value_at(alloc, rest)?;
-        Ok((Row { path, value }, rest))
+        match value_at(alloc, rest) {
+            Ok((value, rest)) => Ok((Row { path, value }, rest)),
+            Err(fault) => {
+                drop(path);
+                Err(fault)
+            }
+        }
     }
 }
 
@@ -30,6 +35,7 @@ fn rows_at(alloc: Global, octets: &[u8]) -> Result<(Rows, &[u8]), RecordFault>
     let (count, rest) = four_in(octets)?;
     let (rows, rest) = many(alloc, count as usize, rest)?;
     if !rises(rows.items()) {
+        drop(rows);
         return Err(RecordFault::NoRecord);
     }
     Ok((rows, rest))
@@ -62,8 +68,13 @@ fn op_parts_at(alloc: Global, octets: &[u8]) -> Result<(Op, &[u8]), RecordFault>
 {
     let (act, rest) = act_at(octets)?;
     let (path, rest) = path_at(alloc, rest)?;
-    let (rows, rest) = rows_at(alloc, rest)?;
-    Ok((Op { act, path, rows }, rest))
+    match rows_at(alloc, rest) {
+        Ok((rows, rest)) => Ok((Op { act, path, rows }, rest)),
+        Err(fault) => {
+            drop(path);
+            Err(fault)
+        }
+    }
 }
 
 impl Part for Op {
@@ -75,6 +86,7 @@ impl Part for Op {
     fn read(alloc: Global, octets: &[u8]) -> Result<(Op, &[u8]), RecordFault> {
         let (op, rest) = op_parts_at(alloc, octets)?;
         if !has_fit_rows(op.act, op.rows.items()) {
+            drop(op);
             return Err(RecordFault::NoRecord);
         }
         Ok((op, rest))

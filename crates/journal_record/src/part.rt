@@ -5,7 +5,7 @@ ghost use Rattle.std.specs.Int.{w16, w32, w64};
 ghost use Rattle.journal_record.specs.inner.Reading.{AnswersPart, number_at, many_at};
 
 use crate::fault::RecordFault;
-use base_lists::Seq;
+use base_lists::{NoMemory, Seq};
 use std::alloc::Global;
 
 /// A part of which several may stand one after the other.
@@ -27,9 +27,19 @@ pub(crate) fn many<T: Part>(
     let mut parts = Seq::empty(alloc);
     let mut rest = octets;
     for _ in 0..count {
-        let (part, after) = T::read(alloc, rest)?;
-        parts.push(part)?;
-        rest = after;
+        match T::read(alloc, rest) {
+            Ok((part, after)) => match parts.push(part) {
+                Ok(()) => rest = after,
+                Err(NoMemory) => {
+                    drop(parts);
+                    return Err(RecordFault::NoMemory);
+                }
+            },
+            Err(fault) => {
+                drop(parts);
+                return Err(fault);
+            }
+        }
     }
     Ok((parts, rest))
 }

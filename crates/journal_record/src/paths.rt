@@ -50,8 +50,13 @@ impl Part for (Text, Text) {
     #[tactic(auto, unfolding(crate::specs::inner::Reading::key_at))]
     fn read(alloc: Global, octets: &[u8]) -> Result<((Text, Text), &[u8]), RecordFault> {
         let (name, rest) = text_at(alloc, octets)?;
-        let (value, rest) = text_at(alloc, rest)?;
-        Ok(((name, value), rest))
+        match text_at(alloc, rest) {
+            Ok((value, rest)) => Ok(((name, value), rest)),
+            Err(fault) => {
+                drop(name);
+                Err(fault)
+            }
+        }
     }
 }
 
@@ -62,6 +67,7 @@ fn keys_at(alloc: Global, octets: &[u8]) -> Result<(Keys, &[u8]), RecordFault>
     let (count, rest) = two_in(octets)?;
     let (keys, rest) = many(alloc, count as usize, rest)?;
     if !rises(keys.items()) {
+        drop(keys);
         return Err(RecordFault::NoRecord);
     }
     Ok((keys, rest))
@@ -75,8 +81,13 @@ impl Part for Elem {
     #[tactic(auto, unfolding(crate::specs::inner::Reading::elem_at))]
     fn read(alloc: Global, octets: &[u8]) -> Result<(Elem, &[u8]), RecordFault> {
         let (name, rest) = text_at(alloc, octets)?;
-        let (keys, rest) = keys_at(alloc, rest)?;
-        Ok((Elem { name, keys }, rest))
+        match keys_at(alloc, rest) {
+            Ok((keys, rest)) => Ok((Elem { name, keys }, rest)),
+            Err(fault) => {
+                drop(name);
+                Err(fault)
+            }
+        }
     }
 }
 

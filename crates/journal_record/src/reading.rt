@@ -24,9 +24,19 @@ fn trial_at(alloc: Global, octets: &[u8]) -> Result<(Kind, &[u8]), RecordFault>
     ensures { AnswersPart (λ x. (x.0, x.1.now)) result (trial_at octets.now) }
 {
     let (id, rest) = text_at(alloc, octets)?;
-    let (deadline, rest) = eight_in(rest)?;
-    let (ops, rest) = ops_at(alloc, rest)?;
-    Ok((Kind::Trial(id, ops, deadline), rest))
+    match eight_in(rest) {
+        Ok((deadline, rest)) => match ops_at(alloc, rest) {
+            Ok((ops, rest)) => Ok((Kind::Trial(id, ops, deadline), rest)),
+            Err(fault) => {
+                drop(id);
+                Err(fault)
+            }
+        },
+        Err(fault) => {
+            drop(id);
+            Err(fault)
+        }
+    }
 }
 
 fn extend_at(octets: &[u8]) -> Result<(Kind, &[u8]), RecordFault>

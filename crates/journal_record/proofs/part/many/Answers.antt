@@ -1,15 +1,12 @@
 use Rattle.std.proofs.Common.{◌-◌}
-use Rattle.std.proofs.lemmas.Result.{err_from_is_err_and}
 use Rattle.journal_record.proofs.Loops.{goes_on, ends, is_done}
 use Rattle.journal_record.proofs.part.many.Goals as goal
 
-pub returns-in_err-part : goal.returns-in_err-part
-returns-in_err-part g c =
-    let p = err_from_is_err_and c.from_residual.result c.from_residual.ensures.1 in
-    rw (p.1, p.2) (ends c.in_err-part.field-0.0 g.T.Part.at c.loop.parts c.args.count c.loop.counter c.loop.rest.now _ c.loop-test.true c.in_err-part.ensures c.loop.invariant)
+pub returns-in-Err : goal.returns-in-Err
+returns-in-Err g c = ends c.in-Err.fault g.T.Part.at c.loop.parts c.args.count c.loop.counter c.loop.rest.now _ c.loop-test.true c.in-Err.ensures c.loop.invariant
 
 pub loop-preserved : goal.loop-preserved
-loop-preserved g c = rw c.in_ok-push.ensures.ok (goes_on g.T.Part.at c.loop.parts c.args.count c.loop.counter c.loop.rest.now c.in_ok-part.part c.in_ok-part.after.now _ c.loop-test.true c.in_ok-part.ensures c.loop.invariant)
+loop-preserved g c = rw c.in-Ok-push.ensures.ok (goes_on g.T.Part.at c.loop.parts c.args.count c.loop.counter c.loop.rest.now c.in-Ok.part c.in-Ok.after.now _ c.loop-test.true c.in-Ok.ensures c.loop.invariant)
 
 pub returns : goal.returns
 returns g c = is_done g.T.Part.at c.loop.parts c.args.count c.loop.counter c.loop.rest.now _ c.loop-test.false c.loop.invariant
