@@ -1,22 +1,23 @@
 -- What the sorted values of a tree say of each reference.
-use Rattle.std.proofs.Common.{◌≡◌, ℕ, ◌<◌, List, [], ◌∷◌, length, refl, sym, ap, ◌∙◌, arith, Bool, true, false, true≢false, ◌&&◌, ◌||◌, Option, Some, None, is_some, unwrap_or, if◌then◌else◌, Result, Ok, Err, is_ok, inl, inr}
+use Rattle.std.proofs.Common.{◌≡◌, ℕ, ◌<◌, List, [], ◌∷◌, ◌++◌, length, refl, sym, ap, ◌∙◌, arith, Bool, true, false, true≢false, ◌&&◌, ◌||◌, Option, Some, None, is_some, unwrap_or, if◌then◌else◌, Result, Ok, Err, is_ok, inl, inr}
 use Rattle.std.specs.Prelude.{slice_get, EachIndex}
 use Rattle.std.specs.declared.cmp.Ordering.{Ordering}
 use Rattle.std.specs.List.{list_any, list_all}
 use Rattle.std.specs.List.Sorted.{IsSorted, IsPermutation, IsSearchInRange, IsBinarySearchResult}
 use Rattle.std.specs.Ordering.{nat_cmp, is_eq}
 use Rattle.std.specs.Cmp.{IsTotalOrder, tied_then}
+use Rattle.std.proofs.Math.Bool.{or-false}
 use Rattle.std.proofs.lemmas.Bool.{cases_lt}
 use Rattle.std.proofs.lemmas.Bool.Decides.{nat_tests}
 use Rattle.std.proofs.lemmas.Cmp.{nat_cmp_total, then_total, on_total, tied_itself}
-use Rattle.std.proofs.lemmas.List.Elements.{All-head, All-tail}
-use Rattle.std.proofs.lemmas.List.Folds.{list_any_at}
+use Rattle.std.proofs.lemmas.List.Elements.{All-nil, All-cons, All-head, All-tail, All-append}
+use Rattle.std.proofs.lemmas.List.Folds.{list_any_at, list_any-append}
 use Rattle.std.proofs.lemmas.List.Recursion.{or_from_places}
 use Rattle.std.proofs.lemmas.List.Sorted.{searchable_from_sorted, list_any-IsPermutation, All-permutation}
 use Rattle.base_kinds.specs.declared.value.Value.{Value}
 use Rattle.base_kinds.specs.declared.value.Value as v
 use Rattle.base_kinds.specs.declared.operation.Row.{Row}
-use Rattle.base_kinds.specs.Schema.{SchemaNode, same_names, node_of, node_at}
+use Rattle.base_kinds.specs.Schema.{SchemaNode, names_of, same_names, node_of, node_at}
 use Rattle.base_kinds.specs.Values.{is_list, same_scalar}
 use Rattle.base_kinds.specs.Valid.{if_some, unless_none, refers, row_resolves, leafrefs_resolve}
 use Rattle.schema_core.specs.Nodes.{names_at}
@@ -142,6 +143,38 @@ and_false false = refl
 pub no_leaf : (schema : List SchemaNode) (targets : List (ℕ × Scalar)) (value : Value) (names : List (List ℕ)) → AreNumbered schema targets → None ≡ (if is_list value then None else Some value) → false ≡ has_target schema targets value names
 no_leaf schema targets value names within none = sym (none_passes schema (λ one. same_names (names_at schema one.0) names && same_scalar (value_of one.1) value) targets within (λ one less.
     ap (λ b. same_names (names_at schema one.0) names && b) (unlisted one.1 value (made_of_none value none)) ∙ and_false (same_names (names_at schema one.0) names)))
+
+-- a row's value that is no list stands at its leaf from then on
+pub with_target : (schema : List SchemaNode) (rows : List Row) (targets : List (ℕ × Scalar)) (row : Row) (number : ℕ) (scalar : Scalar) → AreTargets schema rows targets → number < length schema → names_at schema number ≡ names_of row.path → Some (value_of scalar) ≡ (if is_list row.value then None else Some row.value) → AreTargets schema (rows ++ row ∷ []) (targets ++ (number, scalar) ∷ [])
+with_target schema rows targets row number scalar are inside named made = record {
+  within = All-append (λ (one : ℕ × Scalar). one.0 < length schema) targets ((number, scalar) ∷ []) are.within (All-cons (λ (one : ℕ × Scalar). one.0 < length schema) (number, scalar) [] inside (All-nil (λ (one : ℕ × Scalar). one.0 < length schema)));
+  same = λ value names.
+      list_any-append (λ (one : ℕ × Scalar). same_names (names_at schema one.0) names && same_scalar (value_of one.1) value) targets ((number, scalar) ∷ [])
+      ∙ (λ i. are.same value names i || ((same_names (named i) names && same_scalar (made_from row.value (value_of scalar) made i) value) || false))
+      ∙ sym (list_any-append (λ (other : Row). same_names (names_of other.path) names && same_scalar other.value value) rows (row ∷ []));
+}
+
+listed : (a b : Value) → is_list a ≡ true → same_scalar a b ≡ false
+listed (v.List' n values) b is = refl
+listed (v.Bool a) b is = absurd (true≢false (sym is))
+listed (v.Int a) b is = absurd (true≢false (sym is))
+listed (v.Uint a) b is = absurd (true≢false (sym is))
+listed (v.Dec a p) b is = absurd (true≢false (sym is))
+listed (v.Text a) b is = absurd (true≢false (sym is))
+listed (v.Bin a) b is = absurd (true≢false (sym is))
+listed (v.Enum a) b is = absurd (true≢false (sym is))
+
+-- and a list nowhere
+pub without_target : (schema : List SchemaNode) (rows : List Row) (targets : List (ℕ × Scalar)) (row : Row) → AreTargets schema rows targets → None ≡ (if is_list row.value then None else Some row.value) → AreTargets schema (rows ++ row ∷ []) targets
+without_target schema rows targets row are none = record {
+  within = are.within;
+  same = λ value names.
+      let apart = (λ i. (same_names (names_of row.path) names && listed row.value value (made_of_none row.value none) i) || false) ∙ ap (λ b. b || false) (and_false (same_names (names_of row.path) names)) in
+      are.same value names
+      ∙ sym (or-false (refers rows value names))
+      ∙ (λ i. refers rows value names || sym apart i)
+      ∙ sym (list_any-append (λ (other : Row). same_names (names_of other.path) names && same_scalar other.value value) rows (row ∷ []));
+}
 
 -- sorting changes nothing
 pub targets_sorted : (schema : List SchemaNode) (rows : List Row) (targets sorted : List (ℕ × Scalar)) → AreTargets schema rows targets → IsPermutation targets sorted → AreTargets schema rows sorted

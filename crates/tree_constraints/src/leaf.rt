@@ -27,13 +27,15 @@ pub fn find_leaf<'a>(rows: &'a [Row], instance: &[Elem], name: &[u8]) -> Option<
 fn compare_child(path: &[Elem], instance: &[Elem], name: &[u8]) -> Ordering
     ensures { result ≡ path_cmp path.now (child instance.now name.now) }
 {
-    match (path.split_first(), instance.split_first()) {
-        (None, _) => Ordering::Less,
-        (Some((elem, others)), None) => compare_leaf(elem, name).then(others.len().cmp(&0)),
-        (Some((elem, others)), Some((first, rest))) => match elem.cmp(first) {
-            Ordering::Equal => compare_child(others, rest, name),
-            order => order,
-        },
+    let Some((elem, others)) = path.split_first() else {
+        return Ordering::Less;
+    };
+    let Some((first, rest)) = instance.split_first() else {
+        return compare_leaf(elem, name).then(others.len().cmp(&0));
+    };
+    match elem.cmp(first) {
+        Ordering::Equal => compare_child(others, rest, name),
+        order => order,
     }
 }
 

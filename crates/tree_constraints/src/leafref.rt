@@ -1,6 +1,6 @@
 // Rule 5, leafref: the value of a leaf that refers to another one is the value of some instance of that leaf
 // (RFC 7950 9.9, with "require-instance" true).
-ghost use Rattle.std.specs.Prelude.{◌≡◌, false, IfOk, IfSome, IsNone};
+ghost use Rattle.std.specs.Prelude.{◌≡◌, [], true, false, IfOk, IfSome, IsNone};
 ghost use Rattle.std.specs.List.{list_all};
 ghost use Rattle.std.specs.List.Sorted.{IsSorted};
 ghost use Rattle.base_kinds.specs.Valid.{leafrefs_resolve};
@@ -18,9 +18,14 @@ use std::alloc::Global;
 pub fn leafrefs_resolve(alloc: Global, schema: &Schema, rows: &[Row]) -> Result<bool, NoMemory>
     ensures { IfOk result (λ is. is ≡ leafrefs_resolve schema.now rows.now) }
 {
-    match targets_of(alloc, schema, rows)? {
-        None => Ok(false),
-        Some(targets) => Ok(each_has_target(schema, targets.as_slice(), rows)),
+    match targets_of(alloc, schema, rows) {
+        Ok(None) => Ok(false),
+        Ok(Some(targets)) => {
+            let is_resolved = each_has_target(schema, targets.as_slice(), rows);
+            drop(targets);
+            Ok(is_resolved)
+        }
+        Err(NoMemory) => Err(NoMemory),
     }
 }
 
@@ -38,16 +43,43 @@ fn targets_of<'a>(
         IsNone found → leafrefs_resolve schema.now rows.now ≡ false) }
 {
     let mut targets = Vec::new(alloc);
+    match put_targets(schema, rows, &mut targets) {
+        Ok(true) => {
+            targets.sort_unstable();
+            Ok(Some(targets))
+        }
+        Ok(false) => {
+            drop(targets);
+            Ok(None)
+        }
+        Err(NoMemory) => {
+            drop(targets);
+            Err(NoMemory)
+        }
+    }
+}
+
+/// Adds each leaf's value with the number of its node; false where some row has no node.
+fn put_targets<'a>(
+    schema: &Schema,
+    rows: &'a [Row],
+    targets: &mut Vec<(u32, Scalar<'a>)>,
+) -> Result<bool, NoMemory>
+    requires { targets.old.items ≡ [] }
+    ensures targets { IfOk result (λ is. is ≡ true →
+        AreTargets schema.now rows.now targets.new.items) }
+    ensures unknown { IfOk result (λ is. is ≡ false →
+        leafrefs_resolve schema.now rows.now ≡ false) }
+{
     for row in rows {
         let Some(id) = schema.find(&row.path) else {
-            return Ok(None);
+            return Ok(false);
         };
         if let Some(scalar) = scalar_of(&row.value) {
             targets.push((id.0, scalar))?;
         }
     }
-    targets.sort_unstable();
-    Ok(Some(targets))
+    Ok(true)
 }
 
 /// Whether the value of each row that refers to another leaf stands there.
@@ -56,7 +88,12 @@ fn each_has_target(schema: &Schema, targets: &[(u32, Scalar<'_>)], rows: &[Row])
     requires within { AreNumbered schema.now targets.now }
     ensures { result ≡ list_all (row_has_target schema.now targets.now) rows.now }
 {
-    rows.iter().all(|row| row_has_target(schema, targets, row))
+    for row in rows {
+        if !row_has_target(schema, targets, row) {
+            return false;
+        }
+    }
+    true
 }
 
 fn row_has_target(schema: &Schema, targets: &[(u32, Scalar<'_>)], row: &Row) -> bool

@@ -103,6 +103,13 @@ fn has_key_text(alloc: Global, value: &Value, octets: &[u8]) -> Result<bool, NoM
 {
     match value {
         Value::List(_) => Ok(octets.is_empty()),
-        _ => Ok(key_text(alloc, value)?.octets() == octets),
+        _ => match key_text(alloc, value) {
+            Ok(text) => {
+                let is_same = text.octets() == octets;
+                drop(text);
+                Ok(is_same)
+            }
+            Err(NoMemory) => Err(NoMemory),
+        },
     }
 }
