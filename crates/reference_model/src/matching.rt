@@ -63,7 +63,10 @@ fn matches_elem(pattern: &Elem, elem: &Elem) -> bool
 fn matches_keys(keys: &[(Text, Text)], elem: &Elem) -> bool
     ensures { result ≡ list_all (key_matches elem.now) keys.now }
 {
-    keys.iter().all(|key| matches_key(elem, key))
+    match keys.split_first() {
+        None => true,
+        Some((key, others)) => matches_key(elem, key) && matches_keys(others, elem),
+    }
 }
 
 fn matches_key(elem: &Elem, key: &(Text, Text)) -> bool
@@ -76,10 +79,19 @@ fn has_key(keys: &[(Text, Text)], key: &(Text, Text)) -> bool
     ensures { result ≡ list_any
         (λ other. bytes_eq key.now.0 other.0 && bytes_eq key.now.1 other.1) keys.now }
 {
-    keys.iter().any(|other| is_text(&key.0, other.0.octets()) && is_text(&key.1, other.1.octets()))
+    match keys.split_first() {
+        None => false,
+        Some((other, others)) => is_pair(key, other) || has_key(others, key),
+    }
 }
 
-fn is_text(text: &Text, octets: &[u8]) -> bool
+fn is_pair(key: &(Text, Text), other: &(Text, Text)) -> bool
+    ensures { result ≡ (bytes_eq key.now.0 other.now.0 && bytes_eq key.now.1 other.now.1) }
+{
+    is_text(&key.0, other.0.octets()) && is_text(&key.1, other.1.octets())
+}
+
+pub(crate) fn is_text(text: &Text, octets: &[u8]) -> bool
     ensures { result ≡ bytes_eq text.now octets.now }
 {
     text.octets() == octets

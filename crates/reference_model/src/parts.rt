@@ -3,14 +3,24 @@ ghost use Rattle.std.specs.Prelude.{◌≡◌, ◌++◌, IfOk, OnOk};
 ghost use Rattle.base_kinds.specs.Parts.{is_covered, part};
 
 use crate::matching::covers;
-use base_kinds::{Copied, NoMemory, Path, Paths, Row, Rows, Seq};
+use crate::trees::put_copy;
+use base_kinds::{NoMemory, Path, Paths, Row, Rows, Seq};
 use std::alloc::Global;
 
 /// Whether some pattern covers the path.
 pub fn is_covered(patterns: &Paths, path: &Path) -> bool
     ensures { result ≡ is_covered patterns.now path.now }
 {
-    patterns.items().iter().any(|pattern| covers(pattern, path))
+    some_covers(patterns.items(), path)
+}
+
+fn some_covers(patterns: &[Path], path: &Path) -> bool
+    ensures { result ≡ is_covered patterns.now path.now }
+{
+    match patterns.split_first() {
+        None => false,
+        Some((pattern, others)) => covers(pattern, path) || some_covers(others, path),
+    }
 }
 
 /// The rows that some pattern covers.
@@ -18,8 +28,13 @@ pub fn part_of(alloc: Global, patterns: &Paths, rows: &Rows) -> Result<Rows, NoM
     ensures { IfOk result (λ found. found ≡ part patterns.now rows.now) }
 {
     let mut found = Seq::empty(alloc);
-    put_part(alloc, patterns, rows.items(), &mut found)?;
-    Ok(found)
+    match put_part(alloc, patterns, rows.items(), &mut found) {
+        Ok(()) => Ok(found),
+        Err(NoMemory) => {
+            drop(found);
+            Err(NoMemory)
+        }
+    }
 }
 
 fn put_part(alloc: Global, patterns: &Paths, rows: &[Row], found: &mut Rows) -> Result<(), NoMemory>
@@ -29,7 +44,7 @@ fn put_part(alloc: Global, patterns: &Paths, rows: &[Row], found: &mut Rows) -> 
         return Ok(());
     };
     if is_covered(patterns, &row.path) {
-        found.push(row.copy(alloc)?)?;
+        put_copy(alloc, row, found)?;
     }
     put_part(alloc, patterns, others, found)
 }

@@ -83,6 +83,10 @@ pub(crate) fn own_name(names: &[Text]) -> &[u8]
 pub(crate) fn has_row(rows: &[Row], parent: &[Elem], name: &[u8]) -> bool
     ensures { result ≡ has_row rows.now (child parent.now name.now) }
 {
-    rows.iter()
-        .any(|row| is_child(row.path.items(), parent, name))
+    match rows.split_first() {
+        None => false,
+        Some((row, others)) => {
+            is_child(row.path.items(), parent, name) || has_row(others, parent, name)
+        }
+    }
 }

@@ -3,6 +3,7 @@ ghost use Rattle.std.specs.Prelude.{◌≡◌};
 ghost use Rattle.std.specs.Option.{option_copied};
 ghost use Rattle.base_kinds.specs.Schema.{names_of, same_names, node_at};
 
+use crate::matching::is_text;
 use base_kinds::{Elem, Shape, Sort, Text, Texts};
 use std::marker::Model;
 
@@ -57,12 +58,12 @@ pub fn node_at<'a>(schema: &'a [Node], path: &[Elem]) -> Option<&'a Node>
 fn has_path(names: &[Text], path: &[Elem]) -> bool
     ensures { result ≡ same_names names.now (names_of path.now) }
 {
-    match (names.split_first(), path.split_first()) {
-        (None, None) => true,
-        (Some((name, others)), Some((elem, elems))) => {
-            name.octets() == elem.name.octets() && has_path(others, elems)
-        }
-        _ => false,
+    let Some((name, others)) = names.split_first() else {
+        return path.is_empty();
+    };
+    match path.split_first() {
+        None => false,
+        Some((elem, elems)) => { is_text(name, elem.name.octets()) && has_path(others, elems) }
     }
 }
 
@@ -70,11 +71,11 @@ fn has_path(names: &[Text], path: &[Elem]) -> bool
 pub(crate) fn has_names(path: &[Elem], names: &[Text]) -> bool
     ensures { result ≡ same_names (names_of path.now) names.now }
 {
-    match (path.split_first(), names.split_first()) {
-        (None, None) => true,
-        (Some((elem, elems)), Some((name, others))) => {
-            elem.name.octets() == name.octets() && has_names(elems, others)
-        }
-        _ => false,
+    let Some((elem, elems)) = path.split_first() else {
+        return names.is_empty();
+    };
+    match names.split_first() {
+        None => false,
+        Some((name, others)) => { is_text(&elem.name, name.octets()) && has_names(elems, others) }
     }
 }

@@ -148,25 +148,23 @@ fn judge_in(
                 GATE_OCTETS + CLOSING_OCTETS,
             )
         }
-        Ask::Confirm(id) => checked_trial(
-            world,
-            &id,
-            next_entry(entries, stamp, author, Kind::Confirm),
-        ),
-        Ask::Cancel(id) => checked_trial(
-            world,
-            &id,
-            next_entry(entries, stamp, author, Kind::Cancel),
-        ),
+        Ask::Confirm(id) => {
+            let entry = next_entry(entries, stamp, author, Kind::Confirm);
+            let checked = checked_trial(world, &id, entry);
+            drop(id);
+            checked
+        }
+        Ask::Cancel(id) => {
+            let entry = next_entry(entries, stamp, author, Kind::Cancel);
+            let checked = checked_trial(world, &id, entry);
+            drop(id);
+            checked
+        }
         Ask::Extend(id, duration) => {
-            let kind = Kind::Extend(stamp + duration);
-            checked_extend(
-                limits,
-                entries,
-                world,
-                &id,
-                next_entry(entries, stamp, author, kind),
-            )
+            let entry = next_entry(entries, stamp, author, Kind::Extend(stamp + duration));
+            let checked = checked_extend(limits, entries, world, &id, entry);
+            drop(id);
+            checked
         }
     }
 }
@@ -186,9 +184,11 @@ fn checked_ops(
         result ≡ first_refusal cases entry }
 {
     if is_open(world) {
+        drop(entry);
         return Err(Refusal::TrialOpen);
     }
     if !has_room(limits, entries, further, &entry, beside) {
+        drop(entry);
         return Err(Refusal::LogFull);
     }
     Ok(entry)
@@ -198,9 +198,11 @@ fn checked_trial(world: &PlainWorld, id: &Text, entry: Entry) -> Result<Entry, R
     ensures { result ≡ first_refusal (refusal_cases_of_trial (world_in world.now) id.now []) entry }
 {
     if !is_open(world) {
+        drop(entry);
         return Err(Refusal::NoTrial);
     }
     if is_other(world, id) {
+        drop(entry);
         return Err(Refusal::WrongId);
     }
     Ok(entry)
@@ -218,12 +220,15 @@ fn checked_extend(
         ((not (limited limits.now entries.now 2 octets), Refusal.LogFull) ∷ [])) entry }
 {
     if !is_open(world) {
+        drop(entry);
         return Err(Refusal::NoTrial);
     }
     if is_other(world, id) {
+        drop(entry);
         return Err(Refusal::WrongId);
     }
     if !has_room(limits, entries, 2, &entry, GATE_OCTETS + CLOSING_OCTETS) {
+        drop(entry);
         return Err(Refusal::LogFull);
     }
     Ok(entry)

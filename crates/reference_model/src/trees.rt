@@ -32,10 +32,15 @@ fn in_turn(alloc: Global, act: Act, ops: &[Op], tree: Rows) -> Result<Rows, NoMe
     let Some((op, others)) = ops.split_first() else {
         return Ok(tree);
     };
-    if op.act.is_act(act) {
-        return in_turn(alloc, act, others, op_effect(alloc, op, &tree)?);
+    if !op.act.is_act(act) {
+        return in_turn(alloc, act, others, tree);
     }
-    in_turn(alloc, act, others, tree)
+    let next = op_effect(alloc, op, &tree);
+    drop(tree);
+    match next {
+        Ok(next) => in_turn(alloc, act, others, next),
+        Err(NoMemory) => Err(NoMemory),
+    }
 }
 
 fn op_effect(alloc: Global, op: &Op, tree: &Rows) -> Result<Rows, NoMemory>
@@ -79,11 +84,16 @@ fn set_rows(alloc: Global, rows: &[Row], tree: Rows) -> Result<Rows, NoMemory>
     let Some((row, others)) = rows.split_first() else {
         return Ok(tree);
     };
-    set_rows(alloc, others, set_row(alloc, row, &tree)?)
+    let next = set_row(alloc, row, &tree);
+    drop(tree);
+    match next {
+        Ok(next) => set_rows(alloc, others, next),
+        Err(NoMemory) => Err(NoMemory),
+    }
 }
 
 /// Adds a copy of the row.
-fn put_copy(alloc: Global, row: &Row, rows: &mut Rows) -> Result<(), NoMemory>
+pub(crate) fn put_copy(alloc: Global, row: &Row, rows: &mut Rows) -> Result<(), NoMemory>
     ensures { OnOk result (rows.new ≡ rows.old ++ row.now ∷ []) }
 {
     match row.copy(alloc) {

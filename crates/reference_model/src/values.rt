@@ -46,15 +46,21 @@ pub(crate) fn same_scalar(a: &Value, b: &Value) -> bool
     ensures { result ≡ same_scalar a.now b.now }
 {
     match (a, b) {
-        (Value::Bool(a), Value::Bool(b)) => a == b,
-        (Value::Int(a), Value::Int(b)) => a == b,
-        (Value::Uint(a), Value::Uint(b)) => a == b,
-        (Value::Dec(a, places), Value::Dec(b, others)) => a == b && places == others,
-        (Value::Text(a), Value::Text(b)) => a.octets() == b.octets(),
-        (Value::Bin(a), Value::Bin(b)) => a.items() == b.items(),
-        (Value::Enum(a), Value::Enum(b)) => a.octets() == b.octets(),
+        (Value::Bool(a), Value::Bool(b)) => *a == *b,
+        (Value::Int(a), Value::Int(b)) => *a == *b,
+        (Value::Uint(a), Value::Uint(b)) => *a == *b,
+        (Value::Dec(a, places), Value::Dec(b, others)) => *a == *b && *places == *others,
+        (Value::Text(a), Value::Text(b)) => are_same(a.octets(), b.octets()),
+        (Value::Bin(a), Value::Bin(b)) => are_same(a.items(), b.items()),
+        (Value::Enum(a), Value::Enum(b)) => are_same(a.octets(), b.octets()),
         _ => false,
     }
+}
+
+fn are_same(a: &[u8], b: &[u8]) -> bool
+    ensures { result ≡ bytes_eq a.now b.now }
+{
+    a == b
 }
 
 /// Whether no two of the values are equal.
@@ -70,13 +76,21 @@ pub(crate) fn all_differ(values: &[Value]) -> bool
 fn has_same(value: &Value, others: &[Value]) -> bool
     ensures { result ≡ list_any (same_scalar value.now) others.now }
 {
-    others.iter().any(|other| same_scalar(value, other))
+    match others.split_first() {
+        None => false,
+        Some((other, rest)) => same_scalar(value, other) || has_same(value, rest),
+    }
 }
 
 fn is_one_of(text: &Text, texts: &[Text]) -> bool
     ensures { result ≡ list_any (bytes_eq text.now) texts.now }
 {
-    texts.iter().any(|other| text.octets() == other.octets())
+    match texts.split_first() {
+        None => false,
+        Some((other, others)) => {
+            are_same(text.octets(), other.octets()) || is_one_of(text, others)
+        }
+    }
 }
 
 /// Whether the number is one of two's complement in so many bits.

@@ -6,6 +6,7 @@ ghost use Rattle.std.specs.Str.{bytes_eq};
 ghost use Rattle.base_kinds.specs.Valid.{is_leafy, has_just_keys, step_has_node, row_has_nodes, nodes_exist};
 ghost use Rattle.base_kinds.specs.Ancestors.{path_steps_from};
 
+use crate::matching::is_text;
 use crate::paths::elem_at;
 use crate::schema::{Node, node_at};
 use base_kinds::{Elem, Row, Sort, Text};
@@ -13,7 +14,10 @@ use base_kinds::{Elem, Row, Sort, Text};
 pub(crate) fn nodes_exist(schema: &[Node], rows: &[Row]) -> bool
     ensures { result ≡ nodes_exist schema.now rows.now }
 {
-    rows.iter().all(|row| row_has_nodes(schema, row))
+    match rows.split_first() {
+        None => true,
+        Some((row, others)) => row_has_nodes(schema, row) && nodes_exist(schema, others),
+    }
 }
 
 fn row_has_nodes(schema: &[Node], row: &Row) -> bool
@@ -67,11 +71,17 @@ fn has_keys(elem: &Elem, keys: &[Text]) -> bool
     ensures { result
         ≡ list_all (λ key. list_any (λ pair. bytes_eq key pair.0) elem.now.keys) keys.now }
 {
-    keys.iter().all(|key| has_key(elem.keys.items(), key))
+    match keys.split_first() {
+        None => true,
+        Some((key, others)) => has_key(elem.keys.items(), key) && has_keys(elem, others),
+    }
 }
 
 fn has_key(pairs: &[(Text, Text)], key: &Text) -> bool
     ensures { result ≡ list_any (λ pair. bytes_eq key.now pair.0) pairs.now }
 {
-    pairs.iter().any(|pair| key.octets() == pair.0.octets())
+    match pairs.split_first() {
+        None => false,
+        Some((pair, others)) => is_text(key, pair.0.octets()) || has_key(others, key),
+    }
 }

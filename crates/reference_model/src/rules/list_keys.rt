@@ -2,12 +2,14 @@
 // (RFC 7950 7.8.2: all key leaves must be given values when an entry is created).
 ghost use Rattle.std.specs.Prelude.{◌≡◌, ◌≤◌, length, take, drop, IfOk};
 ghost use Rattle.std.specs.List.{list_all};
+ghost use Rattle.std.specs.Str.{bytes_eq};
+ghost use Rattle.base_kinds.specs.Keys.{key_text};
 ghost use Rattle.base_kinds.specs.Valid.{has_key_leaf, row_has_keys, keys_hold};
 ghost use Rattle.base_kinds.specs.Ancestors.{path_steps_from};
 
 use crate::key_texts::key_text;
 use crate::paths::{elem_at, is_child};
-use base_kinds::{Elem, NoMemory, Row, Text};
+use base_kinds::{Elem, NoMemory, Row, Text, Value};
 use std::alloc::Global;
 
 pub(crate) fn keys_hold(alloc: Global, rows: &[Row]) -> Result<bool, NoMemory>
@@ -23,7 +25,10 @@ fn are_keyed(alloc: Global, all: &[Row], rows: &[Row]) -> Result<bool, NoMemory>
     let Some((row, others)) = rows.split_first() else {
         return Ok(true);
     };
-    Ok(steps_keyed(alloc, all, row.path.items(), 0)? && are_keyed(alloc, all, others)?)
+    if !steps_keyed(alloc, all, row.path.items(), 0)? {
+        return Ok(false);
+    }
+    are_keyed(alloc, all, others)
 }
 
 /// Whether the keys of the path's steps have their leaves, but for so many steps.
@@ -38,10 +43,10 @@ fn steps_keyed(alloc: Global, rows: &[Row], path: &[Elem], n: usize) -> Result<b
         return Ok(true);
     }
     let elem = elem_at(path, n);
-    Ok(
-        have_key_leaves(alloc, rows, &path[..n + 1], elem.keys.items())?
-            && steps_keyed(alloc, rows, path, n + 1)?,
-    )
+    if !have_key_leaves(alloc, rows, &path[..n + 1], elem.keys.items())? {
+        return Ok(false);
+    }
+    steps_keyed(alloc, rows, path, n + 1)
 }
 
 fn have_key_leaves(
@@ -55,7 +60,10 @@ fn have_key_leaves(
     let Some((key, others)) = keys.split_first() else {
         return Ok(true);
     };
-    Ok(has_key_leaf(alloc, rows, instance, key)? && have_key_leaves(alloc, rows, instance, others)?)
+    if !has_key_leaf(alloc, rows, instance, key)? {
+        return Ok(false);
+    }
+    have_key_leaves(alloc, rows, instance, others)
 }
 
 /// Whether some row is the key's leaf below the instance, and has the key's text.
@@ -71,9 +79,19 @@ fn has_key_leaf(
         return Ok(false);
     };
     if is_child(row.path.items(), instance, key.0.octets())
-        && key_text(alloc, &row.value)?.items() == key.1.octets()
+        && has_key_text(alloc, &row.value, key.1.octets())?
     {
         return Ok(true);
     }
     has_key_leaf(alloc, others, instance, key)
+}
+
+/// Whether the value's text as a key is this one.
+fn has_key_text(alloc: Global, value: &Value, octets: &[u8]) -> Result<bool, NoMemory>
+    ensures { IfOk result (λ is. is ≡ bytes_eq (key_text value.now) octets.now) }
+{
+    let text = key_text(alloc, value)?;
+    let is_same = text.items() == octets;
+    drop(text);
+    Ok(is_same)
 }

@@ -12,7 +12,10 @@ use base_kinds::{Elem, Row, Text};
 pub(crate) fn mandatory_present(schema: &[Node], rows: &[Row]) -> bool
     ensures { result ≡ mandatory_present schema.now rows.now }
 {
-    schema.iter().all(|node| node_is_present(rows, node))
+    match schema.split_first() {
+        None => true,
+        Some((node, others)) => node_is_present(rows, node) && mandatory_present(others, rows),
+    }
 }
 
 fn node_is_present(rows: &[Row], node: &Node) -> bool
@@ -26,8 +29,20 @@ fn stands_below_each(rows: &[Row], names: &[Text]) -> bool
     ensures { result ≡ list_all
         (λ row. list_all (stands_below rows.now names.now) (ancestors row.path)) rows.now }
 {
-    rows.iter()
-        .all(|row| stands_on(rows, names, row.path.items(), 0))
+    stands_for_each(rows, names, rows)
+}
+
+/// The same of the instances that these rows stand below, among all rows.
+fn stands_for_each(all: &[Row], names: &[Text], rows: &[Row]) -> bool
+    ensures { result ≡ list_all
+        (λ row. list_all (stands_below all.now names.now) (ancestors row.path)) rows.now }
+{
+    match rows.split_first() {
+        None => true,
+        Some((row, others)) => {
+            stands_on(all, names, row.path.items(), 0) && stands_for_each(all, names, others)
+        }
+    }
 }
 
 /// The same of the instances that the path stands below, but for so many.

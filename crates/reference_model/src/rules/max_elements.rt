@@ -1,8 +1,9 @@
 // Rule 6, max-elements: no list has more entries in one instance of its parent, and no leaf-list more values, than its
 // maximum (RFC 7950 7.7.6).
-ghost use Rattle.std.specs.Prelude.{◌≡◌, ◌++◌, IfOk, OnOk, filter, length, nat_le};
+ghost use Rattle.std.specs.Prelude.{◌≡◌, ◌++◌, ◌∷◌, [], ◌||◌, not, IfOk, OnOk, filter, length, nat_le};
 ghost use Rattle.std.specs.List.{list_any, list_all, flat_map};
 ghost use Rattle.base_kinds.specs.Schema.{names_of, same_names};
+ghost use Rattle.base_kinds.specs.Values.{values_in};
 ghost use Rattle.base_kinds.specs.Valid.{each_once, entries_of, few_beside, few_values, is_in_maximum, node_in_maximum, max_elements_hold};
 ghost use Rattle.base_kinds.specs.Paths.{same_path};
 ghost use Rattle.base_kinds.specs.Ancestors.{ancestors, ancestors_from, parent_of};
@@ -23,7 +24,10 @@ pub(crate) fn max_elements_hold(
     let Some((node, others)) = schema.split_first() else {
         return Ok(true);
     };
-    Ok(node_in_maximum(alloc, rows, node)? && max_elements_hold(alloc, others, rows)?)
+    if !node_in_maximum(alloc, rows, node)? {
+        return Ok(false);
+    }
+    max_elements_hold(alloc, others, rows)
 }
 
 fn node_in_maximum(alloc: Global, rows: &[Row], node: &Node) -> Result<bool, NoMemory>
@@ -47,7 +51,9 @@ fn is_in_maximum(
     match sort {
         Sort::List => {
             let entries = entries_of(alloc, rows, names)?;
-            Ok(few_beside(most, entries.items()))
+            let is_few = few_beside(most, entries.items());
+            drop(entries);
+            Ok(is_few)
         }
         Sort::LeafList => Ok(few_values(most, rows, names)),
         Sort::Container | Sort::Leaf => Ok(true),
@@ -57,18 +63,45 @@ fn is_in_maximum(
 fn few_values(most: u32, rows: &[Row], names: &[Text]) -> bool
     ensures { result ≡ few_values most rows.now names.now }
 {
-    rows.iter().all(|row| {
-        !has_names(row.path.items(), names) || values_in(&row.value).len() <= most as usize
-    })
+    match rows.split_first() {
+        None => true,
+        Some((row, others)) => is_few(most, row, names) && few_values(most, others, names),
+    }
+}
+
+/// Whether a row of the leaf-list with these names has so many values at most.
+fn is_few(most: u32, row: &Row, names: &[Text]) -> bool
+    ensures { result ≡ (not (same_names (names_of row.now.path) names.now)
+        || nat_le (length (values_in row.now.value)) most) }
+{
+    !has_names(row.path.items(), names) || values_in(&row.value).len() <= most as usize
 }
 
 /// Whether so many of the paths at most have the same path above them.
 fn few_beside(most: u32, paths: &[Path]) -> bool
     ensures { result ≡ few_beside most paths.now }
 {
-    paths
-        .iter()
-        .all(|path| few_below(most, parent_of(path.items()), paths))
+    few_beside_each(most, paths, paths)
+}
+
+/// The same of all paths that stand beside one of these.
+fn few_beside_each(most: u32, all: &[Path], paths: &[Path]) -> bool
+    ensures { result ≡ list_all (λ path. nat_le (length (filter
+        (λ other. same_path (parent_of other) (parent_of path)) all.now)) most) paths.now }
+{
+    match paths.split_first() {
+        None => true,
+        Some((path, others)) => { few_with(most, all, path) && few_beside_each(most, all, others) }
+    }
+}
+
+/// Whether so many of the paths at most have the same path above them as this one.
+fn few_with(most: u32, paths: &[Path], path: &Path) -> bool
+    ensures { let beside = filter
+        (λ other. same_path (parent_of other) (parent_of path.now)) paths.now in
+        result ≡ nat_le (length beside) most }
+{
+    few_below(most, parent_of(path.items()), paths)
 }
 
 /// Whether so many of the paths at most have this path above them.
@@ -92,12 +125,37 @@ fn entries_of(alloc: Global, rows: &[Row], names: &[Text]) -> Result<Paths, NoMe
     ensures { IfOk result (λ entries. entries ≡ entries_of rows.now names.now) }
 {
     let mut instances = Seq::empty(alloc);
-    put_instances(alloc, rows, &mut instances)?;
     let mut named = Seq::empty(alloc);
-    put_named(alloc, names, instances.items(), &mut named)?;
     let mut entries = Seq::empty(alloc);
-    put_once(alloc, named.items(), &mut entries)?;
-    Ok(entries)
+    let put = put_entries(alloc, rows, names, &mut instances, &mut named, &mut entries);
+    drop(instances);
+    drop(named);
+    match put {
+        Ok(()) => Ok(entries),
+        Err(NoMemory) => {
+            drop(entries);
+            Err(NoMemory)
+        }
+    }
+}
+
+/// Adds the instances that some row stands below, those with these names, and each of these once.
+fn put_entries(
+    alloc: Global,
+    rows: &[Row],
+    names: &[Text],
+    instances: &mut Paths,
+    named: &mut Paths,
+    entries: &mut Paths,
+) -> Result<(), NoMemory>
+    requires instances { instances.old ≡ [] }
+    requires named { named.old ≡ [] }
+    requires entries { entries.old ≡ [] }
+    ensures { OnOk result (entries.new ≡ entries_of rows.now names.now) }
+{
+    put_instances(alloc, rows, instances)?;
+    put_named(alloc, names, instances.items(), named)?;
+    put_once(alloc, named.items(), entries)
 }
 
 fn put_instances(alloc: Global, rows: &[Row], found: &mut Paths) -> Result<(), NoMemory>
@@ -120,12 +178,56 @@ fn put_parents(
     ensures { OnOk result (found.new ≡ found.old ++ ancestors_from front elems.now) }
 {
     let Some((elem, others)) = elems.split_first() else {
+        drop(front);
         return Ok(());
     };
-    let mut longer = front.copy(alloc)?;
-    longer.push(elem.copy(alloc)?)?;
-    found.push(front)?;
-    put_parents(alloc, longer, others, found)
+    match longer_path(alloc, &front, elem) {
+        Ok(longer) => match found.push(front) {
+            Ok(()) => put_parents(alloc, longer, others, found),
+            Err(NoMemory) => {
+                drop(longer);
+                Err(NoMemory)
+            }
+        },
+        Err(NoMemory) => {
+            drop(front);
+            Err(NoMemory)
+        }
+    }
+}
+
+/// The path, and the element behind it.
+fn longer_path(alloc: Global, path: &Path, elem: &Elem) -> Result<Path, NoMemory>
+    ensures { IfOk result (λ longer. longer ≡ path.now ++ elem.now ∷ []) }
+{
+    let mut longer = path.copy(alloc)?;
+    match put_elem(alloc, elem, &mut longer) {
+        Ok(()) => Ok(longer),
+        Err(NoMemory) => {
+            drop(longer);
+            Err(NoMemory)
+        }
+    }
+}
+
+/// Adds a copy of the element.
+fn put_elem(alloc: Global, elem: &Elem, path: &mut Path) -> Result<(), NoMemory>
+    ensures { OnOk result (path.new ≡ path.old ++ elem.now ∷ []) }
+{
+    match elem.copy(alloc) {
+        Ok(copy) => path.push(copy),
+        Err(NoMemory) => Err(NoMemory),
+    }
+}
+
+/// Adds a copy of the path.
+fn put_copy(alloc: Global, path: &Path, found: &mut Paths) -> Result<(), NoMemory>
+    ensures { OnOk result (found.new ≡ found.old ++ path.now ∷ []) }
+{
+    match path.copy(alloc) {
+        Ok(copy) => found.push(copy),
+        Err(NoMemory) => Err(NoMemory),
+    }
 }
 
 /// Adds the instances with these names.
@@ -142,7 +244,7 @@ fn put_named(
         return Ok(());
     };
     if has_names(instance.items(), names) {
-        found.push(instance.copy(alloc)?)?;
+        put_copy(alloc, instance, found)?;
     }
     put_named(alloc, names, others, found)
 }
@@ -155,7 +257,7 @@ fn put_once(alloc: Global, paths: &[Path], found: &mut Paths) -> Result<(), NoMe
         return Ok(());
     };
     if !is_among(path, others) {
-        found.push(path.copy(alloc)?)?;
+        put_copy(alloc, path, found)?;
     }
     put_once(alloc, others, found)
 }
@@ -163,7 +265,10 @@ fn put_once(alloc: Global, paths: &[Path], found: &mut Paths) -> Result<(), NoMe
 fn is_among(path: &Path, paths: &[Path]) -> bool
     ensures { result ≡ list_any (same_path path.now) paths.now }
 {
-    paths
-        .iter()
-        .any(|other| same_path(path.items(), other.items()))
+    match paths.split_first() {
+        None => false,
+        Some((other, others)) => {
+            same_path(path.items(), other.items()) || is_among(path, others)
+        }
+    }
 }

@@ -12,7 +12,10 @@ use base_kinds::{Row, Shape, Sort, Value};
 pub(crate) fn types_hold(schema: &[Node], rows: &[Row]) -> bool
     ensures { result ≡ types_hold schema.now rows.now }
 {
-    rows.iter().all(|row| row_has_type(schema, row))
+    match rows.split_first() {
+        None => true,
+        Some((row, others)) => row_has_type(schema, row) && types_hold(schema, others),
+    }
 }
 
 fn row_has_type(schema: &[Node], row: &Row) -> bool
@@ -43,5 +46,8 @@ fn has_type(sort: Sort, shape: &Shape, value: &Value) -> bool
 fn have_shape(shape: &Shape, values: &[Value]) -> bool
     ensures { result ≡ list_all (has_shape shape.now) values.now }
 {
-    values.iter().all(|value| has_shape(shape, value))
+    match values.split_first() {
+        None => true,
+        Some((value, others)) => has_shape(shape, value) && have_shape(shape, others),
+    }
 }
