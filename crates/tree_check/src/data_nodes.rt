@@ -9,7 +9,12 @@ use schema_core::{Schema, steps_have_nodes};
 pub(crate) fn nodes_exist(schema: &Schema, rows: &[Row]) -> bool
     ensures { result ≡ nodes_exist schema.now rows.now }
 {
-    rows.iter().all(|row| row_has_nodes(schema, row))
+    for row in rows {
+        if !row_has_nodes(schema, row) {
+            return false;
+        }
+    }
+    true
 }
 
 fn row_has_nodes(schema: &Schema, row: &Row) -> bool

@@ -1,8 +1,10 @@
 // Rule 6, max-elements: no list has more entries in one instance of its parent, and no leaf-list more values, than its
 // maximum (RFC 7950 7.7.6).
-ghost use Rattle.std.specs.Prelude.{◌≡◌, ◌<◌, ◌≤◌, ◌+◌, ◌^◌, length, nat_le};
+ghost use Rattle.std.specs.Prelude.{◌≡◌, ◌<◌, ◌≤◌, ◌+◌, ◌^◌, ◌||◌, not, length, nat_le};
 ghost use Rattle.std.specs.List.{list_all};
 ghost use Rattle.std.specs.Option.{option_copied};
+ghost use Rattle.base_kinds.specs.Schema.{names_of, same_names};
+ghost use Rattle.base_kinds.specs.Values.{values_in};
 ghost use Rattle.base_kinds.specs.Valid.{entries_of, few_beside, few_values, is_in_maximum, node_in_maximum, max_elements_hold};
 ghost use Rattle.base_kinds.specs.Ancestors.{parent_of};
 ghost use Rattle.base_kinds.specs.Rising.{IsRising};
@@ -50,9 +52,20 @@ fn is_in_maximum(rows: &[Row], sort: Sort, names: &[Text], most: u32) -> bool
 fn few_values(rows: &[Row], names: &[Text], most: u32) -> bool
     ensures { result ≡ few_values most rows.now names.now }
 {
-    rows.iter().all(|row| {
-        !has_names(row.path.items(), names) || row.value.values().len() <= most as usize
-    })
+    for row in rows {
+        if !is_few(row, names, most) {
+            return false;
+        }
+    }
+    true
+}
+
+/// Whether the row has so many values at most, where it is of the leaf-list with these names.
+fn is_few(row: &Row, names: &[Text], most: u32) -> bool
+    ensures { result ≡ (not (same_names (names_of row.now.path) names.now)
+        || nat_le (length (values_in row.now.value)) most) }
+{
+    !has_names(row.path.items(), names) || row.value.values().len() <= most as usize
 }
 
 /// The entry of the list with these names that the path stands below.

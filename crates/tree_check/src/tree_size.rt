@@ -31,9 +31,24 @@ fn is_light(rows: &[Row]) -> bool
 fn after_row(left: u64, row: &Row) -> Option<u64>
     ensures { IsLeft left (row_weight row.now) result }
 {
-    let mut left = after_value(left.checked_sub(64)?, &row.value)?;
-    for elem in row.path.items() {
-        left = after_elem(left, elem)?;
+    let Some(left) = left.checked_sub(64) else {
+        return None;
+    };
+    let Some(left) = after_value(left, &row.value) else {
+        return None;
+    };
+    after_elems(left, row.path.items())
+}
+
+fn after_elems(left: u64, elems: &[Elem]) -> Option<u64>
+    ensures { IsLeft left (sum_by elem_weight elems.now) result }
+{
+    let mut left = left;
+    for elem in elems {
+        match after_elem(left, elem) {
+            None => return None,
+            Some(rest) => left = rest,
+        }
     }
     Some(left)
 }
@@ -41,9 +56,21 @@ fn after_row(left: u64, row: &Row) -> Option<u64>
 fn after_elem(left: u64, elem: &Elem) -> Option<u64>
     ensures { IsLeft left (elem_weight elem.now) result }
 {
-    let mut left = after_octets(left.checked_sub(16)?, 1, elem.name.octets())?;
-    for key in elem.keys.items() {
-        left = after_key(left, key)?;
+    let Some(left) = after_text(left, 16, 1, elem.name.octets()) else {
+        return None;
+    };
+    after_keys(left, elem.keys.items())
+}
+
+fn after_keys(left: u64, keys: &[(Text, Text)]) -> Option<u64>
+    ensures { IsLeft left (sum_by key_weight keys.now) result }
+{
+    let mut left = left;
+    for key in keys {
+        match after_key(left, key) {
+            None => return None,
+            Some(rest) => left = rest,
+        }
     }
     Some(left)
 }
@@ -51,7 +78,9 @@ fn after_elem(left: u64, elem: &Elem) -> Option<u64>
 fn after_key(left: u64, key: &(Text, Text)) -> Option<u64>
     ensures { IsLeft left (key_weight key.now) result }
 {
-    let left = after_octets(left.checked_sub(16)?, 1, key.0.octets())?;
+    let Some(left) = after_text(left, 16, 1, key.0.octets()) else {
+        return None;
+    };
     after_octets(left, 1, key.1.octets())
 }
 
@@ -63,11 +92,12 @@ fn after_value(left: u64, value: &Value) -> Option<u64>
     match value {
         Value::Bool(_) => left.checked_sub(8),
         Value::Int(_) | Value::Uint(_) | Value::Dec(..) => left.checked_sub(32),
-        Value::Text(text) | Value::Enum(text) => {
-            after_octets(left.checked_sub(2)?, 6, text.octets())
-        }
-        Value::Bin(octets) => after_octets(left.checked_sub(8)?, 2, octets.items()),
-        Value::List(values) => after_values(left.checked_sub(8)?, values.items()),
+        Value::Text(text) | Value::Enum(text) => after_text(left, 2, 6, text.octets()),
+        Value::Bin(octets) => after_text(left, 8, 2, octets.items()),
+        Value::List(values) => match left.checked_sub(8) {
+            None => None,
+            Some(rest) => after_values(rest, values.items()),
+        },
     }
 }
 
@@ -78,14 +108,33 @@ fn after_values(left: u64, values: &[Value]) -> Option<u64>
 {
     let mut left = left;
     for value in values {
-        left = after_value(left, value)?.checked_sub(8)?;
+        let Some(rest) = after_value(left, value) else {
+            return None;
+        };
+        match rest.checked_sub(8) {
+            None => return None,
+            Some(rest) => left = rest,
+        }
     }
     Some(left)
+}
+
+/// What is left after a weight of its own, and octets that weigh so much each.
+fn after_text(left: u64, own: u64, each: u64, octets: &[u8]) -> Option<u64>
+    ensures { IsLeft left (own + each * length octets.now) result }
+{
+    match left.checked_sub(own) {
+        None => None,
+        Some(rest) => after_octets(rest, each, octets),
+    }
 }
 
 /// What is left after octets that weigh so much each.
 fn after_octets(left: u64, each: u64, octets: &[u8]) -> Option<u64>
     ensures { IsLeft left (each * length octets.now) result }
 {
-    left.checked_sub(each.checked_mul(octets.len() as u64)?)
+    match each.checked_mul(octets.len() as u64) {
+        None => None,
+        Some(weight) => left.checked_sub(weight),
+    }
 }

@@ -41,7 +41,10 @@ fn has_type(alloc: Global, sort: Sort, shape: &Shape, value: &Value) -> Result<b
         Sort::Leaf => Ok(check_value(shape, value)),
         Sort::LeafList => {
             let values = value.values();
-            Ok(value.is_list() && have_shape(shape, values) && all_differ(alloc, values)?)
+            if !value.is_list() || !have_shape(shape, values) {
+                return Ok(false);
+            }
+            all_differ(alloc, values)
         }
         Sort::Container | Sort::List => Ok(false),
     }
@@ -50,5 +53,10 @@ fn has_type(alloc: Global, sort: Sort, shape: &Shape, value: &Value) -> Result<b
 fn have_shape(shape: &Shape, values: &[Value]) -> bool
     ensures { result ≡ list_all (has_shape shape.now) values.now }
 {
-    values.iter().all(|value| check_value(shape, value))
+    for value in values {
+        if !check_value(shape, value) {
+            return false;
+        }
+    }
+    true
 }
