@@ -14,25 +14,54 @@ mod receiving;
 
 use codec::{CODECS, Codec, Fault};
 use std::alloc::Global;
-use std::{env, io};
+use std::env::{self, Args};
+use std::io;
+
+/// What the words ask for.
+enum Asked {
+    Each,
+    One(Codec, u32),
+    Neither,
+}
 
 fn main(rt: HostRuntime) -> io::Result<()> {
     let mut words = env::args(&rt)?;
-    let _program = words.next();
-    let Some(name) = words.next() else {
-        for codec in CODECS.iter().copied() {
-            run(rt.alloc(), &rt, codec, 1)?;
-        }
-        return Ok(());
-    };
-    let rounds = words.next().and_then(|word| word.parse::<u32>().ok());
-    match (Codec::named(name.as_str()), rounds) {
-        (Some(codec), Some(rounds)) => run(rt.alloc(), &rt, codec, rounds),
-        _ => {
+    let asked = asked_in(&mut words);
+    drop(words);
+    match asked {
+        Asked::Each => run_each(rt.alloc(), &rt),
+        Asked::One(codec, rounds) => run(rt.alloc(), &rt, codec, rounds),
+        Asked::Neither => {
             eprintln!(rt; "usage: codec_bench [CODEC ROUNDS]")?;
             Err(io::Error::from(io::ErrorKind::InvalidInput))
         }
     }
+}
+
+fn asked_in(words: &mut Args<Global>) -> Asked {
+    // The program's own name.
+    drop(words.next());
+    let Some(name) = words.next() else {
+        return Asked::Each;
+    };
+    let codec = Codec::named(name.as_str());
+    drop(name);
+    match (codec, rounds_in(words)) {
+        (Some(codec), Some(rounds)) => Asked::One(codec, rounds),
+        _ => Asked::Neither,
+    }
+}
+
+fn rounds_in(words: &mut Args<Global>) -> Option<u32> {
+    let word = words.next()?;
+    word.parse::<u32>().ok()
+}
+
+fn run_each(alloc: Global, rt: &impl Print) -> io::Result<()> {
+    for codec in CODECS {
+        run(alloc, rt, *codec, 1)?;
+    }
+    Ok(())
 }
 
 fn run(alloc: Global, rt: &impl Print, codec: Codec, rounds: u32) -> io::Result<()> {

@@ -57,14 +57,31 @@ fn made(alloc: Global, blocks: u32) -> Result<Bytes, Fault> {
 fn read_all(alloc: Global, octets: &[u8], size: usize, before: u64) -> Result<u64, Fault> {
     let mut splitter = Splitter::make(alloc);
     let mut messages = Messages::empty(alloc);
+    let cut = cut_all(alloc, octets, size, &mut splitter, &mut messages);
+    drop(splitter);
+    let checksum = lengths(before, messages.items());
+    drop(messages);
+    match cut {
+        Ok(()) => Ok(checksum),
+        Err(fault) => Err(fault),
+    }
+}
+
+fn cut_all(
+    alloc: Global,
+    octets: &[u8],
+    size: usize,
+    splitter: &mut Splitter,
+    messages: &mut Messages,
+) -> Result<(), Fault> {
     for piece in octets.chunks(size.max(1)) {
-        match splitter.feed(alloc, piece, &mut messages) {
+        match splitter.feed(alloc, piece, messages) {
             Ok(()) => {}
             Err(SplitFault::NoMemory) => return Err(Fault::NoMemory),
             Err(_) => return Err(Fault::BadOctets),
         }
     }
-    Ok(lengths(before, messages.items()))
+    Ok(())
 }
 
 fn lengths(before: u64, messages: &[Bytes]) -> u64

@@ -85,17 +85,29 @@ fn data_frames(alloc: Global) -> Result<Bytes, NoMemory> {
 // Receives the octets in pieces, and adds their events to the checksum.
 fn read_all(alloc: Global, octets: &[u8], before: u64) -> Result<u64, Fault> {
     let mut recv = Recv::make(alloc);
+    let read = read_pieces(alloc, &mut recv, octets, before);
+    drop(recv);
+    read
+}
+
+fn read_pieces(alloc: Global, recv: &mut Recv, octets: &[u8], before: u64) -> Result<u64, Fault> {
     let mut checksum = before;
     for piece in octets.chunks(PIECE) {
-        let mut events = RecvEvents::empty(alloc);
-        match recv.feed(alloc, piece, &mut events) {
-            Ok(()) => {}
-            Err(RecvFault::NoMemory) => return Err(Fault::NoMemory),
-            Err(RecvFault::Protocol(_)) => return Err(Fault::BadOctets),
-        }
-        checksum = checksum_of(checksum, events.items());
+        checksum = read_piece(alloc, recv, piece, checksum)?;
     }
     Ok(checksum)
+}
+
+fn read_piece(alloc: Global, recv: &mut Recv, piece: &[u8], before: u64) -> Result<u64, Fault> {
+    let mut events = RecvEvents::empty(alloc);
+    let fed = recv.feed(alloc, piece, &mut events);
+    let checksum = checksum_of(before, events.items());
+    drop(events);
+    match fed {
+        Ok(()) => Ok(checksum),
+        Err(RecvFault::NoMemory) => Err(Fault::NoMemory),
+        Err(RecvFault::Protocol(_)) => Err(Fault::BadOctets),
+    }
 }
 
 fn checksum_of(before: u64, events: &[RecvEvent]) -> u64
