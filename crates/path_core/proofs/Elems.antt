@@ -115,11 +115,6 @@ path_begins text (elem ∷ path) at =
 pub no_path : (text : List ℕ) → Lacks 47 text → (path : List Elem) → IsPathText text path → ⊥
 no_path text lacks path at = let begins = path_begins text path at in lacks begins.0 begins.1
 
-pub path_made : (text : List ℕ) (path : List Elem) (rest begun : List ℕ) → text ≡ flat_map elem_text path ++ rest → length rest ≡ 0 → text ≡ 47 ∷ begun → AreElems path → IsPathText text path
-path_made text path (c ∷ rest) begun spelled none begins elems = absurd (omega arith)
-path_made text [] [] begun spelled none begins elems = absurd (nothing_begins 47 begun (sym spelled ∙ begins))
-path_made text (elem ∷ path) [] begun spelled none begins elems = record { elems = elems; spelled = spelled ∙ append-nil (flat_map elem_text (elem ∷ path)) }
-
 pub no_elem_left : (text : List ℕ) (path : List Elem) (rest : List ℕ) → (text ≡ 47 ∷ [] → ⊥) → text ≡ flat_map elem_text path ++ rest → AreElems path → BeginsOrEnds 47 rest → (length rest ≡ 0 → ⊥) → ((elem : Elem) (after : List ℕ) → IsElemAt rest elem after → ⊥) → (path' : List Elem) → IsPathText text path' → ⊥
 no_elem_left text path rest no_root spelled elems good more refused [] at = no_root at.spelled
 no_elem_left text path rest no_root spelled elems good more refused (elem' ∷ path') at =
@@ -157,12 +152,6 @@ one_path text (elem ∷ path) [] at at' = absurd (no_bare_root elem (flat_map el
 one_path text (elem ∷ path) (elem' ∷ other) at at' =
     let whole : flat_map elem_text (elem ∷ path) ++ [] ≡ flat_map elem_text (elem' ∷ other) ++ [] = ap (λ t. t ++ []) (sym at.spelled ∙ at'.spelled) in
     (same_runs elem_text IsElem Goes elem_code (elem ∷ path) (elem' ∷ other) [] [] at.elems at'.elems tt tt ended_elems ended_elems whole).0
-
--- the path that was read is the only one
-pub only_path : (text : List ℕ) (path : List Elem) (rest : List ℕ) → text ≡ flat_map elem_text path ++ rest → length rest ≡ 0 → AreElems path → (other : List Elem) → IsPathText text other → other ≡ path
-only_path text path rest spelled none elems other at =
-    let begins = path_begins text other at in
-    one_path text other path at (path_made text path rest begins.0 spelled none begins.1 elems)
 
 pub only_root : (text : List ℕ) → text ≡ 47 ∷ [] → (other : List Elem) → IsPathText text other → other ≡ []
 only_root text is other at = one_path text other [] at (root_text text is)

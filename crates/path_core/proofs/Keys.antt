@@ -55,10 +55,6 @@ key_value begun name named given read is key rest at =
     let same : from_value key rest ≡ given = tail_is 61 61 (from_value key rest) given (sym (key_named begun name named read key rest at) ∙ is) in
     rw (← same) (value_at key rest at.is_key)
 
-pub key_ended : (begun name named given value ended : List ℕ) → IsTextAt Name begun name named → named ≡ 61 ∷ given → IsTextAt Value given value ended → (key : Key) (rest : List ℕ) → IsKeyAt (91 ∷ begun) key rest → ended ≡ 93 ∷ rest
-key_ended begun name named given value ended read is read' key rest at =
-    (same_text_at Value given value key.1 ended (93 ∷ rest) read' (key_value begun name named given read is key rest at)).1
-
 pub key_made : (begun name named given value ended rest : List ℕ) → IsTextAt Name begun name named → named ≡ 61 ∷ given → IsTextAt Value given value ended → ended ≡ 93 ∷ rest → IsKeyAt (91 ∷ begun) (name, value) rest
 key_made begun name named given value ended rest read is read' is' = record {
   spelled = ap (λ t. 91 ∷ t) (read.octets_at.spelled ∙ ap (λ t. escaped is_name_octet name ++ t) (is ∙ ap (λ t. 61 ∷ t) (read'.octets_at.spelled ∙ ap (λ t. escaped is_key_octet value ++ t) is'))) ∙ sym (regrouped (name, value) rest);

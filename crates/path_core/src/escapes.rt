@@ -62,11 +62,13 @@ fn read_hex(text: &[u8]) -> Option<(u8, &[u8])>
     ensures none { IfNone result ((octet : ℕ) (rest : List ℕ) →
         octet < 256 → text.now ≡ hex_pair octet ++ rest → ⊥) }
 {
-    let (high, others) = text.split_first()?;
-    let (low, rest) = others.split_first()?;
-    let high = hex_value(*high)?;
-    let low = hex_value(*low)?;
-    Some((high * 16 + low, rest))
+    match text {
+        [high, low, rest @ ..] => match (hex_value(*high), hex_value(*low)) {
+            (Some(high), Some(low)) => Some((high * 16 + low, rest)),
+            _ => None,
+        },
+        _ => None,
+    }
 }
 
 /// The octet whose spelling stands at the front, and what follows that.
@@ -77,16 +79,21 @@ pub(crate) fn read_octet(part: Part, text: &[u8]) -> Option<(u8, &[u8])>
     ensures shorter { IfSome result (λ read. length read.1.now < length text.now) }
     ensures none { IfNone result (NoOctet part text.now) }
 {
-    let (octet, rest) = text.split_first()?;
+    let Some((octet, rest)) = text.split_first() else {
+        return None;
+    };
     if stands_for_itself(part, *octet) {
         return Some((*octet, rest));
     }
     if *octet != b'\\' {
         return None;
     }
-    let (octet, rest) = read_hex(rest)?;
-    if stands_for_itself(part, octet) {
-        return None;
+    match read_hex(rest) {
+        Some((octet, rest)) => if stands_for_itself(part, octet) {
+            None
+        } else {
+            Some((octet, rest))
+        },
+        None => None,
     }
-    Some((octet, rest))
 }

@@ -115,7 +115,12 @@ fn matches_elem(pattern: &Elem, elem: &Elem) -> bool
 fn matches_keys(keys: &[(Text, Text)], elem: &Elem) -> bool
     ensures { result ≡ list_all (key_matches elem.now) keys.now }
 {
-    keys.iter().all(|key| matches_key(elem, key))
+    for key in keys {
+        if !matches_key(elem, key) {
+            return false;
+        }
+    }
+    true
 }
 
 fn matches_key(elem: &Elem, key: &(Text, Text)) -> bool
@@ -128,7 +133,12 @@ fn has_key(keys: &[(Text, Text)], key: &(Text, Text)) -> bool
     ensures { result ≡
         list_any (λ other. bytes_eq key.now.0 other.0 && bytes_eq key.now.1 other.1) keys.now }
 {
-    keys.iter().any(|other| is_text(&key.0, other.0.octets()) && is_text(&key.1, other.1.octets()))
+    for other in keys {
+        if is_text(&key.0, other.0.octets()) && is_text(&key.1, other.1.octets()) {
+            return true;
+        }
+    }
+    false
 }
 
 fn is_text(text: &Text, octets: &[u8]) -> bool

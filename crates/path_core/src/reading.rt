@@ -1,5 +1,5 @@
 // The text of a path, read in one pass.
-ghost use Rattle.std.specs.Prelude.{◌≡◌, ◌<◌, ◌≤◌, [], ◌∷◌, List, ℕ, length, IfOk, IfSome, IfNone, IsTrue, ◌↔◌, IsErrOf};
+ghost use Rattle.std.specs.Prelude.{◌≡◌, ◌<◌, ◌≤◌, [], ◌∷◌, List, ℕ, length, IfOk, OnOk, IfSome, IfNone, IsTrue, ◌↔◌, IsErrOf};
 ghost use Rattle.base_kinds.specs.declared.path.Elem.{Elem as PathElem};
 ghost use Rattle.path_core.specs.PathText.{name_cmp, IsPathText, IsValueText};
 ghost use Rattle.path_core.specs.inner.Reading.{AreOctetsAt, IsTextAt, IsKeyAt, AreKeysAt, IsElemAt, BeginsOrEnds, Lacks, ends_below};
@@ -15,11 +15,10 @@ fn after(text: &[u8], octet: u8) -> Option<&[u8]>
     ensures shorter { IfSome result (λ rest. length rest.now < length text.now) }
     ensures none { IfNone result (Lacks octet text.now) }
 {
-    let (first, rest) = text.split_first()?;
-    if *first != octet {
-        return None;
+    match text {
+        [] => None,
+        [first, rest @ ..] => if *first == octet { Some(rest) } else { None },
     }
-    Some(rest)
 }
 
 /// The octets that are spelled at the front, as many as there are, and what follows them.
@@ -63,6 +62,30 @@ pub fn read_value_text(alloc: Global, text: &[u8]) -> Result<Text, PathFault>
     Ok(value)
 }
 
+/// The text that is spelled up to this octet, and what follows that.
+fn read_text_before(
+    alloc: Global,
+    part: Part,
+    text: &[u8],
+    ending: u8,
+) -> Result<(Text, &[u8]), PathFault>
+    ensures ok { IfOk result (λ read. IsTextAt part text.now read.0 (ending ∷ read.1.now)) }
+    ensures shorter { IfOk result (λ read. length read.1.now < length text.now) }
+    ensures bad { IsErrOf result PathFault.BadPath →
+        (octets rest : List ℕ) → IsTextAt part text.now octets (ending ∷ rest) → ⊥ }
+{
+    match read_text(alloc, part, text) {
+        Ok((read, ended)) => match after(ended, ending) {
+            Some(rest) => Ok((read, rest)),
+            None => {
+                drop(read);
+                Err(PathFault::BadPath)
+            }
+        },
+        Err(fault) => Err(fault),
+    }
+}
+
 /// `NAME=VALUE]`, what follows the `[` of a key.
 fn read_key(alloc: Global, begun: &[u8]) -> Result<((Text, Text), &[u8]), PathFault>
     ensures ok { IfOk result (λ read. IsKeyAt (91 ∷ begun.now) read.0 read.1.now) }
@@ -70,15 +93,16 @@ fn read_key(alloc: Global, begun: &[u8]) -> Result<((Text, Text), &[u8]), PathFa
     ensures bad { IsErrOf result PathFault.BadPath →
         (key : List ℕ × List ℕ) (rest : List ℕ) → IsKeyAt (91 ∷ begun.now) key rest → ⊥ }
 {
-    let (name, named) = read_text(alloc, Part::Name, begun)?;
-    let Some(given) = after(named, b'=') else {
-        return Err(PathFault::BadPath);
-    };
-    let (value, ended) = read_text(alloc, Part::Value, given)?;
-    let Some(rest) = after(ended, b']') else {
-        return Err(PathFault::BadPath);
-    };
-    Ok(((name, value), rest))
+    match read_text_before(alloc, Part::Name, begun, b'=') {
+        Ok((name, given)) => match read_text_before(alloc, Part::Value, given, b']') {
+            Ok((value, rest)) => Ok(((name, value), rest)),
+            Err(fault) => {
+                drop(name);
+                Err(fault)
+            }
+        },
+        Err(fault) => Err(fault),
+    }
 }
 
 /// Whether the key's name is greater than that of the last key, if there is one.
@@ -99,16 +123,34 @@ fn read_keys(alloc: Global, text: &[u8]) -> Result<(Keys, &[u8]), PathFault>
         (keys : List (List ℕ × List ℕ)) (rest : List ℕ) → AreKeysAt text.now keys rest → ⊥ }
 {
     let mut keys = Seq::empty(alloc);
+    match put_keys(alloc, text, &mut keys) {
+        Ok(rest) => Ok((keys, rest)),
+        Err(fault) => {
+            drop(keys);
+            Err(fault)
+        }
+    }
+}
+
+/// Adds the keys of an element, as many as there are, and gives what follows them.
+fn put_keys<'t>(alloc: Global, text: &'t [u8], keys: &mut Keys) -> Result<&'t [u8], PathFault>
+    requires { keys.old ≡ [] }
+    ensures ok { IfOk result (λ rest. AreKeysAt text.now keys.new rest.now) }
+    ensures shorter { IfOk result (λ rest. length rest.now ≤ length text.now) }
+    ensures bad { IsErrOf result PathFault.BadPath →
+        (others : List (List ℕ × List ℕ)) (rest : List ℕ) → AreKeysAt text.now others rest → ⊥ }
+{
     let mut rest = text;
     while let Some(begun) = after(rest, b'[') {
         let (key, others) = read_key(alloc, begun)?;
         if !may_follow(keys.items(), &key) {
+            drop(key);
             return Err(PathFault::BadPath);
         }
         keys.push(key)?;
         rest = others;
     }
-    Ok((keys, rest))
+    Ok(rest)
 }
 
 /// Whether nothing follows an element, or another one.
@@ -133,13 +175,22 @@ fn read_elem(alloc: Global, text: &[u8]) -> Result<(Elem, &[u8]), PathFault>
     };
     let (name, named) = read_text(alloc, Part::Name, begun)?;
     if name.octets().is_empty() {
+        drop(name);
         return Err(PathFault::BadPath);
     }
-    let (keys, rest) = read_keys(alloc, named)?;
-    if !ends_elem(rest) {
-        return Err(PathFault::BadPath);
+    match read_keys(alloc, named) {
+        Ok((keys, rest)) => if ends_elem(rest) {
+            Ok((Elem { name, keys }, rest))
+        } else {
+            drop(name);
+            drop(keys);
+            Err(PathFault::BadPath)
+        },
+        Err(fault) => {
+            drop(name);
+            Err(fault)
+        }
     }
-    Ok((Elem { name, keys }, rest))
 }
 
 fn is_root(text: &[u8]) -> bool
@@ -157,10 +208,27 @@ pub fn read_path_text(alloc: Global, text: &[u8]) -> Result<Path, PathFault>
     ensures bad { IsErrOf result PathFault.BadPath →
         (path : List PathElem) → IsPathText text.now path → ⊥ }
 {
-    let mut path = Seq::empty(alloc);
     if is_root(text) {
-        return Ok(path);
+        return Ok(Seq::empty(alloc));
     }
+    let mut path = Seq::empty(alloc);
+    match put_elems(alloc, text, &mut path) {
+        Ok(()) => Ok(path),
+        Err(fault) => {
+            drop(path);
+            Err(fault)
+        }
+    }
+}
+
+/// Adds the elements of the path that the octets are the text of, which isn't the root.
+fn put_elems(alloc: Global, text: &[u8], path: &mut Path) -> Result<(), PathFault>
+    requires empty { path.old ≡ [] }
+    requires below { text.now ≡ 47 ∷ [] → ⊥ }
+    ensures ok { OnOk result (IsPathText text.now path.new) }
+    ensures bad { IsErrOf result PathFault.BadPath →
+        (other : List PathElem) → IsPathText text.now other → ⊥ }
+{
     if after(text, b'/').is_none() {
         return Err(PathFault::BadPath);
     }
@@ -170,5 +238,5 @@ pub fn read_path_text(alloc: Global, text: &[u8]) -> Result<Path, PathFault>
         path.push(elem)?;
         rest = others;
     }
-    Ok(path)
+    Ok(())
 }

@@ -15,11 +15,9 @@ pub returns-then-is_empty-clause-bad : goal.returns-then-is_empty-clause-bad
 returns-then-is_empty-clause-bad c fault = elem_without_name c.args.text.now c.in-Some.begun.now _ c.in_ok-name.named.now c.in-Some.ensures.some c.in_ok-name.ensures.ok
     (sym c.octets.ensures.value ∙ nil_from_length c.octets.result.now (eqb-true (length c.octets.result.now) 0 (sym c.is_empty.ensures ∙ c.if-is_empty.true)))
 
-pub returns-in_err-keys-clause-bad : goal.returns-in_err-keys-clause-bad
-returns-in_err-keys-clause-bad c =
-    let p = err_from_is_err_and c.from_residual-in_err-keys.result c.from_residual-in_err-keys.ensures.1 in
-    rw (p.1, p.2) (λ fault elem rest at. c.in_err-keys.ensures.bad (passed_on _ _ fault) elem.keys rest (elem_keys c.args.text.now c.in-Some.begun.now _ c.in_ok-name.named.now c.in-Some.ensures.some c.in_ok-name.ensures.ok elem rest at))
+pub returns-in-Err-clause-bad : goal.returns-in-Err-clause-bad
+returns-in-Err-clause-bad c fault elem rest at = c.in-Err.ensures.bad (passed_on _ _ fault) elem.keys rest (elem_keys c.args.text.now c.in-Some.begun.now _ c.in_ok-name.named.now c.in-Some.ensures.some c.in_ok-name.ensures.ok elem rest at)
 
-pub returns-then-not-ends_elem-clause-bad : goal.returns-then-not-ends_elem-clause-bad
-returns-then-not-ends_elem-clause-bad c fault = elem_ended c.args.text.now c.in-Some.begun.now _ c.in_ok-name.named.now _ c.in_ok-keys.rest.now c.in-Some.ensures.some c.in_ok-name.ensures.ok c.in_ok-keys.ensures.ok
-    (iff_false c.ends_elem.ensures c.if-not-ends_elem.true)
+pub returns-else-ends_elem-clause-bad : goal.returns-else-ends_elem-clause-bad
+returns-else-ends_elem-clause-bad c fault = elem_ended c.args.text.now c.in-Some.begun.now _ c.in_ok-name.named.now _ c.in-Ok.rest.now c.in-Some.ensures.some c.in_ok-name.ensures.ok c.in-Ok.ensures.ok
+    (iff_false c.ends_elem.ensures c.if-ends_elem.false)

@@ -6,7 +6,7 @@ use Rattle.path_core.specs.inner.Reading.{ends_below}
 use Rattle.path_core.proofs.Runs.{run_more, all_more}
 use Rattle.path_core.proofs.Passed.{passed_on}
 use Rattle.path_core.proofs.Keys.{no_key_left, key_out_of_order, rises_more}
-use Rattle.path_core.proofs.reading.read_keys.Goals as goal
+use Rattle.path_core.proofs.reading.put_keys.Goals as goal
 
 pub returns-in_err-key-clause-bad : goal.returns-in_err-key-clause-bad
 returns-in_err-key-clause-bad c =

@@ -1,6 +1,6 @@
 use Rattle.std.proofs.Common.{length}
 use Rattle.path_core.proofs.Kept.{KeysRead}
-use Rattle.path_core.proofs.reading.read_keys.Given as goal
+use Rattle.path_core.proofs.reading.put_keys.Given as goal
 
 abbrev pub invariant-loop-begun : goal.invariant-loop-begun
 invariant-loop-begun l = KeysRead l.text l.keys l.rest
