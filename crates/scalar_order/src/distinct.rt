@@ -43,18 +43,33 @@ fn many_differ(alloc: Global, values: &[Value]) -> Result<bool, NoMemory>
     let mut behind = BTreeSet::new(alloc);
     for n in (0..values.len()).rev() {
         if let Some(scalar) = scalar_of(&values[n]) {
-            if !behind.insert(scalar)? {
+            let added = match behind.insert(scalar) {
+                Ok(added) => added,
+                Err(failed) => {
+                    drop(failed);
+                    drop(behind);
+                    return Err(NoMemory);
+                }
+            };
+            if !added {
+                drop(behind);
                 return Ok(false);
             }
         }
     }
+    drop(behind);
     Ok(true)
 }
 
 fn has_same(value: &Value, others: &[Value]) -> bool
     ensures { result ≡ list_any (same_scalar value.now) others.now }
 {
-    others.iter().any(|other| same_scalar(value, other))
+    for other in others {
+        if same_scalar(value, other) {
+            return true;
+        }
+    }
+    false
 }
 
 /// Whether two values that are no lists are equal.
