@@ -132,16 +132,23 @@ fn read_marks(alloc: Global, shape: Shape, mut marks: Parts) -> Result<Option<De
     let Some(word) = marks.next() else {
         return Ok(Some(Declared::Leaf(shape, false, None)));
     };
-    if is_word(word, b"mandatory") {
-        let Some(reference) = read_reference(alloc, marks)? else {
-            return Ok(None);
-        };
-        return Ok(Some(Declared::Leaf(shape, true, reference)));
-    }
-    let Some(reference) = read_named(alloc, word, marks)? else {
-        return Ok(None);
+    let is_mandatory = is_word(word, b"mandatory");
+    let reference = if is_mandatory {
+        read_reference(alloc, marks)
+    } else {
+        read_named(alloc, word, marks)
     };
-    Ok(Some(Declared::Leaf(shape, false, reference)))
+    match reference {
+        Ok(Some(names)) => Ok(Some(Declared::Leaf(shape, is_mandatory, names))),
+        Ok(None) => {
+            drop(shape);
+            Ok(None)
+        }
+        Err(NoMemory) => {
+            drop(shape);
+            Err(NoMemory)
+        }
+    }
 }
 
 /// `PATH SHAPE` of a leaf, and its marks.

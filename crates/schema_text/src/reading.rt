@@ -1,6 +1,8 @@
 // The lines of a schema text, taken one after the other.
-ghost use Rattle.std.specs.Prelude.{◌≡◌, ◌+◌, ◌≤◌, ◌^◌, length, IfOk, IfErr, OnOk};
-ghost use Rattle.base_kinds.specs.Limits.{most_schema_octets};
+ghost use Rattle.std.specs.Prelude.{◌≡◌, ◌+◌, ◌≤◌, ◌<◌, ◌^◌, ◌++◌, ◌∷◌, [], ℕ, Some, None, Err, length, IfOk, IfErr, OnOk, IsTrue};
+ghost use Rattle.base_kinds.specs.Limits.{most_schema_nodes, most_schema_octets};
+ghost use Rattle.base_kinds.specs.Schema.{node_of};
+ghost use Rattle.schema_core.specs.Nodes.{has_parent};
 ghost use Rattle.schema_text.specs.Grammar.{line_of};
 ghost use Rattle.plain_texts.specs.Splits.{parts_of};
 ghost use Rattle.schema_text.specs.Schemas.{nothing_read, node_in, with_node, with_line, is_too_long, ended_line, last_part, at_line, read_parts, IsFaultOf};
@@ -77,6 +79,48 @@ impl Reading {
         }
     }
 
+    /// The module of a node with these names, or why the node can't be added.
+    fn module_for(&self, names: &[Text]) -> Result<&Text, Cause>
+        ensures module_name { IfOk result (λ name. self.now.module_name ≡ Some name.now) }
+        ensures room { OnOk result (length self.now.nodes < most_schema_nodes) }
+        ensures parent { OnOk result (IsTrue (has_parent self.now.nodes names.now)) }
+        ensures fresh { OnOk result (node_of self.now.nodes names.now ≡ None) }
+        ensures refused { IfErr result (λ cause. (number : ℕ) → (node : Declared) →
+            with_node number self.now names.now node ≡ Err cause) }
+    {
+        if self.schema.nodes() >= MOST_SCHEMA_NODES {
+            return Err(Cause::TooLarge);
+        }
+        let Some(module_name) = &self.module_name else {
+            return Err(Cause::NoModule);
+        };
+        if !self.schema.has_parent(names) {
+            return Err(Cause::NoParent);
+        }
+        if self.schema.find_names(names).is_some() {
+            return Err(Cause::Twice);
+        }
+        Ok(module_name)
+    }
+
+    /// Adds a node at the end, and the number of its line.
+    fn put_node(&mut self, number: u32, node: Node) -> Result<(), SchemaError>
+        requires room { length self.old.nodes < most_schema_nodes }
+        requires parent { IsTrue (has_parent self.old.nodes node.names) }
+        requires fresh { node_of self.old.nodes node.names ≡ None }
+        ensures ok { OnOk result (self.new ≡ record self.old {
+          nodes = self.old.nodes ++ node ∷ [];
+          lines = self.old.lines ++ number ∷ [];
+        }) }
+        ensures err { IfErr result (λ error. error ≡ SchemaError.NoMemory) }
+    {
+        self.schema.add(node)?;
+        if self.lines.push(number).is_err() {
+            return Err(SchemaError::NoMemory);
+        }
+        Ok(())
+    }
+
     fn add_node(
         &mut self,
         alloc: Global,
@@ -89,39 +133,22 @@ impl Reading {
         ensures refused { IfErr result
             (λ error. IsFaultOf error (at_line number (with_node number self.old names node))) }
     {
-        if self.schema.nodes() >= MOST_SCHEMA_NODES {
-            drop(names);
-            drop(node);
-            return Err(fault(number, Cause::TooLarge));
-        }
-        let Some(module_name) = &self.module_name else {
-            drop(names);
-            drop(node);
-            return Err(fault(number, Cause::NoModule));
+        let module_name = match self.module_for(names.items()) {
+            Ok(module_name) => module_name.copy(alloc),
+            Err(cause) => {
+                drop(names);
+                drop(node);
+                return Err(fault(number, cause));
+            }
         };
-        if !self.schema.has_parent(names.items()) {
-            drop(names);
-            drop(node);
-            return Err(fault(number, Cause::NoParent));
-        }
-        if self.schema.find_names(names.items()).is_some() {
-            drop(names);
-            drop(node);
-            return Err(fault(number, Cause::Twice));
-        }
-        let module_name = match module_name.copy(alloc) {
-            Ok(module_name) => module_name,
+        match module_name {
+            Ok(module_name) => self.put_node(number, node_in(alloc, module_name, names, node)),
             Err(NoMemory) => {
                 drop(names);
                 drop(node);
-                return Err(SchemaError::NoMemory);
+                Err(SchemaError::NoMemory)
             }
-        };
-        self.schema.add(node_in(alloc, module_name, names, node))?;
-        if self.lines.push(number).is_err() {
-            return Err(SchemaError::NoMemory);
         }
-        Ok(())
     }
 
     fn take_line(&mut self, alloc: Global, number: u32, line: &[u8]) -> Result<(), SchemaError>
@@ -180,6 +207,7 @@ fn take_last(
     if part.is_empty() {
         return Ok(reading);
     }
+    drop(reading);
     if is_too_long(part, place, 0) {
         return Err(fault(number, Cause::TooLarge));
     }
@@ -201,7 +229,10 @@ pub(crate) fn read_lines(alloc: Global, text: &[u8]) -> Result<Reading, SchemaEr
         if parts.is_empty() {
             return take_last(reading, number, place, part);
         }
-        reading.take_ended(alloc, number, place, part)?;
+        if let Err(error) = reading.take_ended(alloc, number, place, part) {
+            drop(reading);
+            return Err(error);
+        }
         number += 1;
         place = place + part.len() + 1;
     }

@@ -19,10 +19,16 @@ pub fn read_schema(alloc: Global, text: &[u8]) -> Result<Schema, SchemaError>
     let Reading {
         schema,
         lines,
-        module_name: _,
+        module_name,
     } = read_lines(alloc, text)?;
-    match first_fault(&schema, lines.as_slice()) {
+    drop(module_name);
+    let first = first_fault(&schema, lines.as_slice());
+    drop(lines);
+    match first {
         None => Ok(schema),
-        Some(fault) => Err(SchemaError::Fault(fault)),
+        Some(fault) => {
+            drop(schema);
+            Err(SchemaError::Fault(fault))
+        }
     }
 }

@@ -1,5 +1,5 @@
 // Lists of texts: the names of a path, the names of keys, the texts of an enum.
-ghost use Rattle.std.specs.Prelude.{◌≡◌, IfOk};
+ghost use Rattle.std.specs.Prelude.{◌≡◌, [], Some, None, if◌then◌else◌, IfOk};
 ghost use Rattle.std.specs.List.{list_any};
 ghost use Rattle.std.specs.Option.{option_and_then};
 ghost use Rattle.std.specs.Str.{bytes_eq};
@@ -30,29 +30,51 @@ impl Word {
     }
 }
 
+/// Adds the parts as texts, and answers whether there is one or more, at most so many, and each is such a word.
+fn put_texts(
+    alloc: Global,
+    mut parts: Parts,
+    word: Word,
+    most: usize,
+    texts: &mut Texts,
+) -> Result<bool, NoMemory>
+    requires { texts.old ≡ [] }
+    ensures { IfOk result (λ is_whole. some_parts (passes word) most parts.entry
+        ≡ if is_whole then Some texts.new else None) }
+{
+    while let Some(part) = parts.next() {
+        if texts.len() == most {
+            return Ok(false);
+        }
+        if !word.is(part) {
+            return Ok(false);
+        }
+        texts.push(text_of(alloc, part)?)?;
+    }
+    Ok(!texts.is_empty())
+}
+
 /// The parts as texts, where there is one or more, at most so many, and each is such a word.
 fn read_texts(
     alloc: Global,
-    mut parts: Parts,
+    parts: Parts,
     word: Word,
     most: usize,
 ) -> Result<Option<Texts>, NoMemory>
     ensures { IfOk result (λ texts. texts ≡ some_parts (passes word) most parts.entry) }
 {
     let mut texts = Seq::empty(alloc);
-    while let Some(part) = parts.next() {
-        if texts.len() == most {
-            return Ok(None);
+    match put_texts(alloc, parts, word, most, &mut texts) {
+        Ok(true) => Ok(Some(texts)),
+        Ok(false) => {
+            drop(texts);
+            Ok(None)
         }
-        if !word.is(part) {
-            return Ok(None);
+        Err(NoMemory) => {
+            drop(texts);
+            Err(NoMemory)
         }
-        texts.push(text_of(alloc, part)?)?;
     }
-    if texts.is_empty() {
-        return Ok(None);
-    }
-    Ok(Some(texts))
 }
 
 fn has_text(text: &Text, others: &[Text]) -> bool

@@ -1,7 +1,7 @@
 use Rattle.std.proofs.Common.{◌≡◌, ◌≤◌, ◌++◌, true, length}
 use Rattle.std.specs.List.{list_all}
 use Rattle.schema_text.specs.inner.Kinds.{passes}
-use Rattle.schema_text.proofs.texts.read_texts.Given as goal
+use Rattle.schema_text.proofs.texts.put_texts.Given as goal
 
 abbrev pub invariant-loop-part : goal.invariant-loop-part
 invariant-loop-part l = record {
