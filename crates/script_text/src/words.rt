@@ -1,5 +1,6 @@
 // The words of a line: what each kind says.
-ghost use Rattle.std.specs.Prelude.{IfOk, IsErrOf, List, ℕ};
+ghost use Rattle.std.specs.Prelude.{◌≡◌, IfOk, IsErrOf, List, ℕ};
+ghost use Rattle.std.specs.Str.{bytes_eq};
 ghost use Rattle.path_core.specs.PathText.{IsPathText, IsValueText};
 ghost use Rattle.script_text.specs.Words.{IsNumber, IsAuthor, IsName, IsSpan, IsSubMode, IsListMode, IsFlag, IsFill};
 
@@ -8,6 +9,13 @@ use base_kinds::{Fill, ListMode, Path, Span, SubMode, Text};
 use path_core::{PathFault, read_path_text, read_value_text};
 use plain_texts::{name_text, natural_of};
 use std::alloc::Global;
+
+/// Whether the octets are this word.
+pub(crate) fn is_word(octets: &[u8], word: &[u8]) -> bool
+    ensures { result ≡ bytes_eq octets.now word.now }
+{
+    octets == word
+}
 
 /// A kind of word.
 pub(crate) trait Word {
@@ -115,7 +123,7 @@ impl Word for Seconds {
     ghost spells = { IsSpan };
 
     fn read(alloc: Global, octets: &[u8]) -> Result<Span, LineFault> {
-        if octets == b"-".as_slice() {
+        if is_word(octets, b"-") {
             return Ok(Span::Absent);
         }
         let number = Number::read(alloc, octets)?;
@@ -133,11 +141,13 @@ impl Word for SendMode {
     ghost spells = { IsSubMode };
 
     fn read(_alloc: Global, octets: &[u8]) -> Result<SubMode, LineFault> {
-        match octets {
-            b"change" => Ok(SubMode::Change),
-            b"sample" => Ok(SubMode::Sample),
-            _ => Err(LineFault::NoLine),
+        if is_word(octets, b"change") {
+            return Ok(SubMode::Change);
         }
+        if is_word(octets, b"sample") {
+            return Ok(SubMode::Sample);
+        }
+        Err(LineFault::NoLine)
     }
 }
 
@@ -150,12 +160,16 @@ impl Word for CallMode {
     ghost spells = { IsListMode };
 
     fn read(_alloc: Global, octets: &[u8]) -> Result<ListMode, LineFault> {
-        match octets {
-            b"stream" => Ok(ListMode::Stream),
-            b"once" => Ok(ListMode::Once),
-            b"poll" => Ok(ListMode::Poll),
-            _ => Err(LineFault::NoLine),
+        if is_word(octets, b"stream") {
+            return Ok(ListMode::Stream);
         }
+        if is_word(octets, b"once") {
+            return Ok(ListMode::Once);
+        }
+        if is_word(octets, b"poll") {
+            return Ok(ListMode::Poll);
+        }
+        Err(LineFault::NoLine)
     }
 }
 
@@ -186,10 +200,10 @@ impl Word for DiskFill {
 
     #[tactic(auto, using(crate::proofs::OneMeanings::no_fill))]
     fn read(alloc: Global, octets: &[u8]) -> Result<Fill, LineFault> {
-        if octets == b"old".as_slice() {
+        if is_word(octets, b"old") {
             return Ok(Fill::Old);
         }
-        if octets == b"new".as_slice() {
+        if is_word(octets, b"new") {
             return Ok(Fill::New);
         }
         let octet = Number::read(alloc, octets)?;
