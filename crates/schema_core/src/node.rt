@@ -179,14 +179,37 @@ impl Node {
 
 impl Copied for Node {
     fn copy(&self, alloc: Global) -> Result<Node, NoMemory> {
+        let names = self.names.copy(alloc)?;
+        let Ok(module_name) = self.module_name.copy(alloc) else {
+            drop(names);
+            return Err(NoMemory);
+        };
+        let Ok(shape) = copy_shape(alloc, &self.shape) else {
+            drop(names);
+            drop(module_name);
+            return Err(NoMemory);
+        };
+        let Ok(keys) = self.keys.copy(alloc) else {
+            drop(names);
+            drop(module_name);
+            drop(shape);
+            return Err(NoMemory);
+        };
+        let Ok(reference) = copy_names(alloc, &self.reference) else {
+            drop(names);
+            drop(module_name);
+            drop(shape);
+            drop(keys);
+            return Err(NoMemory);
+        };
         Ok(Node {
-            names: self.names.copy(alloc)?,
-            module_name: self.module_name.copy(alloc)?,
+            names,
+            module_name,
             sort: self.sort,
-            shape: copy_shape(alloc, &self.shape)?,
-            keys: self.keys.copy(alloc)?,
+            shape,
+            keys,
             is_mandatory: self.is_mandatory,
-            reference: copy_names(alloc, &self.reference)?,
+            reference,
             maximum: self.maximum,
         })
     }

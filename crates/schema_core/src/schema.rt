@@ -182,7 +182,10 @@ impl Schema {
     {
         let number = self.nodes.len() as u32;
         let gap = gap_of(self.nodes.items(), self.order.as_slice(), &node);
-        self.order.reserve(1)?;
+        if self.order.reserve(1).is_err() {
+            drop(node);
+            return Err(NoMemory);
+        }
         self.nodes.push(node)?;
         self.order.insert(gap, number).unwrap();
         Ok(NodeId(number))
@@ -202,8 +205,13 @@ impl Schema {
 impl Copied for Schema {
     fn copy(&self, alloc: Global) -> Result<Schema, NoMemory> {
         let nodes = self.nodes.copy(alloc)?;
-        let order = Vec::from_slice(alloc, self.order.as_slice())?;
-        Ok(Schema { nodes, order })
+        match Vec::from_slice(alloc, self.order.as_slice()) {
+            Ok(order) => Ok(Schema { nodes, order }),
+            Err(_) => {
+                drop(nodes);
+                Err(NoMemory)
+            }
+        }
     }
 }
 
