@@ -98,12 +98,7 @@ impl FuseDisk {
         ensures octets { result ≡ disk_of (image_left self) self.starved }
         ensures image { IsImage self.content.mask result.content.seen }
     {
-        let FuseDisk {
-            alloc,
-            octets,
-            starved,
-            ..
-        } = self;
+        let (alloc, octets, _, starved) = self.into_left();
         MemDisk::holding(alloc, octets, starved)
     }
 
@@ -113,13 +108,7 @@ impl FuseDisk {
             ≡ new_disk_of (image_left self) self.starved (restarted self.arming) }
         ensures image { IsImage self.content.mask result.content.seen }
     {
-        let FuseDisk {
-            alloc,
-            octets,
-            arming,
-            starved,
-            ..
-        } = self;
+        let (alloc, octets, arming, starved) = self.into_left();
         FuseDisk {
             alloc,
             log: Log::start(&octets),
@@ -132,6 +121,23 @@ impl FuseDisk {
             faults: Tally::zero(),
             starved,
         }
+    }
+
+    /// Its allocator, that image, the lines that wait, and whether memory was wanting.
+    fn into_left(self) -> (Global, Vec<u8>, Lines, bool)
+        ensures octets { result.1.items ≡ image_left self }
+        ensures arming { result.2 ≡ self.arming }
+        ensures starved { result.3 ≡ self.starved }
+        ensures image { IsImage self.content.mask result.1.items }
+    {
+        let FuseDisk {
+            alloc,
+            octets,
+            arming,
+            starved,
+            ..
+        } = self;
+        (alloc, octets, arming, starved)
     }
 }
 
