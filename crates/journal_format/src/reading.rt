@@ -12,7 +12,7 @@ use crate::gates::OPEN_GATE;
 use crate::header::header_in;
 use crate::journal::{Journal, JournalFault};
 use crate::progress::{Progress, follow};
-use base_kinds::{Entry, Limits, Seq};
+use base_kinds::{Entry, Limits, NoMemory, Seq};
 use journal_record::{RecordFault, read_entry};
 use std::alloc::Global;
 
@@ -31,11 +31,18 @@ fn next_in<'a>(
     ensures none { IsErrOf result RecordFault.NoRecord
         → IsFollowedByNone limits.now so_far.now octets.now }
 {
-    let (entry, rest) = read_entry(alloc, so_far.count + 1, octets)?;
-    let length = octets.len() - rest.len();
-    match follow(limits, so_far, &entry, length) {
-        None => Err(RecordFault::NoRecord),
-        Some(next) => Ok((entry, next, rest)),
+    match read_entry(alloc, so_far.count + 1, octets) {
+        Ok((entry, rest)) => {
+            let length = octets.len() - rest.len();
+            match follow(limits, so_far, &entry, length) {
+                None => {
+                    drop(entry);
+                    Err(RecordFault::NoRecord)
+                }
+                Some(next) => Ok((entry, next, rest)),
+            }
+        }
+        Err(fault) => Err(fault),
     }
 }
 
@@ -66,14 +73,24 @@ fn entries_in(alloc: Global, limits: Limits, octets: &[u8]) -> Result<Journal, J
                 gate,
             });
         }
-        let (entry, next, after) = match next_in(alloc, &limits, &so_far, behind) {
-            Ok(found) => found,
-            Err(fault) => return Err(fault_at(fault, so_far.gate())),
-        };
-        entries.push(entry)?;
-        so_far = next;
-        rest = after;
+        match next_in(alloc, &limits, &so_far, behind) {
+            Ok((entry, next, after)) => match entries.push(entry) {
+                Ok(()) => {
+                    so_far = next;
+                    rest = after;
+                }
+                Err(NoMemory) => {
+                    drop(entries);
+                    return Err(JournalFault::NoMemory);
+                }
+            },
+            Err(fault) => {
+                drop(entries);
+                return Err(fault_at(fault, so_far.gate()));
+            }
+        }
     }
+    drop(entries);
     Err(JournalFault::Damaged(so_far.gate()))
 }
 

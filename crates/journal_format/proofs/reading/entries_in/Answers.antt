@@ -13,7 +13,7 @@ returns-in-Err-clause-damaged c =
 
 pub loop-gate-preserved : goal.loop-gate-preserved
 loop-gate-preserved c =
-    goes_on c.args.limits c.args.octets.now c.loop-gate.so_far c.loop-gate.entries c.in-Some.gate.now c.in-Some.behind.now c.loop-gate.rest.now c.in-Ok.found.0 c.in-Ok.found.1 c.in-Ok.found.2.now c.push.new.self c.loop-gate.invariant c.in-Some.ensures.cases.0 (omega arith) c.in-Ok.ensures.found c.in_ok-push.ensures.ok
+    goes_on c.args.limits c.args.octets.now c.loop-gate.so_far c.loop-gate.entries c.in-Some.gate.now c.in-Some.behind.now c.loop-gate.rest.now c.in-Ok.entry c.in-Ok.next c.in-Ok.after.now c.push.new.self c.loop-gate.invariant c.in-Some.ensures.cases.0 (omega arith) c.in-Ok.ensures.found c.in-Ok-push.ensures.ok
 
 pub returns-clause-damaged : goal.returns-clause-damaged
 returns-clause-damaged c = no_gate c.args.limits c.args.octets.now c.loop-gate.so_far c.loop-gate.entries c.loop-gate.rest.now c.gate-2.result c.requires c.loop-gate.invariant (nil_from_length c.loop-gate.rest.now c.in_default.ensures.cases) c.gate-2.ensures
