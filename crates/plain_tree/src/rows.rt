@@ -1,5 +1,5 @@
 // Changes of a list of rows, and what a tree's operations ask of it.
-ghost use Rattle.std.specs.Prelude.{◌≡◌, ◌<◌, length, slice_index_or, IfOk, IfErr, OnOk};
+ghost use Rattle.std.specs.Prelude.{◌≡◌, ◌<◌, [], ◌∷◌, ◌++◌, length, slice_index_or, IfOk, IfErr, OnOk};
 ghost use Rattle.base_kinds.specs.Paths.{path_cmp};
 ghost use Rattle.base_kinds.specs.Parts.{is_covered, part};
 ghost use Rattle.base_kinds.specs.Tree.{set_row, set_rows, uncovered};
@@ -15,30 +15,79 @@ pub fn copies(alloc: Global, rows: &[Row]) -> Result<Vec<Row>, NoMemory>
     ensures { IfOk result (λ copies. copies.items ≡ rows.now) }
 {
     let mut copies = Vec::with_capacity(alloc, rows.len())?;
-    for row in rows {
-        copies.push(row.copy(alloc)?)?;
+    match put_copies(alloc, rows, &mut copies) {
+        Ok(()) => Ok(copies),
+        Err(NoMemory) => {
+            drop(copies);
+            Err(NoMemory)
+        }
     }
-    Ok(copies)
+}
+
+fn put_copies(alloc: Global, rows: &[Row], copies: &mut Vec<Row>) -> Result<(), NoMemory>
+    requires { copies.old.items ≡ [] }
+    ensures { OnOk result (copies.new.items ≡ rows.now) }
+{
+    for row in rows {
+        put_copy(alloc, row, copies)?;
+    }
+    Ok(())
+}
+
+/// Adds a copy of the row.
+fn put_copy(alloc: Global, row: &Row, copies: &mut Vec<Row>) -> Result<(), NoMemory>
+    ensures { OnOk result (copies.new.items ≡ copies.old.items ++ row.now ∷ []) }
+{
+    match row.copy(alloc) {
+        Ok(copy) => {
+            copies.push(copy)?;
+            Ok(())
+        }
+        Err(NoMemory) => Err(NoMemory),
+    }
 }
 
 /// Copies of the rows that some pattern covers.
-#[tactic(auto, using(crate::proofs::Chosen::part_with, crate::proofs::Chosen::part_without))]
 pub fn covered(alloc: Global, rows: &[Row], patterns: &Paths) -> Result<Vec<Row>, NoMemory>
     ensures { IfOk result (λ found. found.items ≡ part patterns.now rows.now) }
 {
     let mut found = Vec::new(alloc);
-    for row in rows {
-        if is_covered(patterns.items(), &row.path) {
-            found.push(row.copy(alloc)?)?;
+    match put_covered(alloc, rows, patterns, &mut found) {
+        Ok(()) => Ok(found),
+        Err(NoMemory) => {
+            drop(found);
+            Err(NoMemory)
         }
     }
-    Ok(found)
+}
+
+#[tactic(auto, using(crate::proofs::Chosen::part_with, crate::proofs::Chosen::part_without))]
+fn put_covered(
+    alloc: Global,
+    rows: &[Row],
+    patterns: &Paths,
+    found: &mut Vec<Row>,
+) -> Result<(), NoMemory>
+    requires { found.old.items ≡ [] }
+    ensures { OnOk result (found.new.items ≡ part patterns.now rows.now) }
+{
+    for row in rows {
+        if is_covered(patterns.items(), &row.path) {
+            put_copy(alloc, row, found)?;
+        }
+    }
+    Ok(())
 }
 
 fn is_covered(patterns: &[Path], path: &Path) -> bool
     ensures { result ≡ is_covered patterns.now path.now }
 {
-    patterns.iter().any(|pattern| covers(pattern, path))
+    for pattern in patterns {
+        if covers(pattern, path) {
+            return true;
+        }
+    }
+    false
 }
 
 /// Removes the rows that the pattern covers.
@@ -70,10 +119,15 @@ fn put_row(alloc: Global, tree: &mut Vec<Row>, row: &Row) -> Result<(), NoMemory
 {
     let copy = row.copy(alloc)?;
     match place_of(tree, row) {
-        Ok(place) => tree[place] = copy,
-        Err(gap) => tree.insert(gap, copy)?,
+        Ok(place) => {
+            drop(std::mem::replace(&mut tree[place], copy));
+            Ok(())
+        }
+        Err(gap) => {
+            tree.insert(gap, copy)?;
+            Ok(())
+        }
     }
-    Ok(())
 }
 
 /// Where the row of the same path stands, or else the gap where the row belongs.

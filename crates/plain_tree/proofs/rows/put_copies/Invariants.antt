@@ -1,5 +1,5 @@
 use Rattle.std.proofs.Common.{◌≡◌, take}
-use Rattle.plain_tree.proofs.rows.copies.Given as goal
+use Rattle.plain_tree.proofs.rows.put_copies.Given as goal
 
 -- the copies are the rows so far
 abbrev pub invariant-loop-row : goal.invariant-loop-row
