@@ -25,9 +25,16 @@ pub fn changed_tree<T: TreeLike + Drop>(
     ensures refused { IfErr result (λ refusal.
         IsTreeRefusal schema.now (effect ops.now (T.rows tree.now)) refusal) }
 {
-    let next = tree_after(alloc, tree, ops)?;
-    check_tree(alloc, schema, &next)?;
-    Ok(next)
+    match tree_after(alloc, tree, ops) {
+        Ok(next) => match check_tree(alloc, schema, &next) {
+            Ok(()) => Ok(next),
+            Err(refusal) => {
+                drop(next);
+                Err(refusal)
+            }
+        },
+        Err(NoMemory) => Err(Refusal::NoMemory),
+    }
 }
 
 fn check_tree<T: TreeLike>(alloc: Global, schema: &Schema, tree: &T) -> Result<(), Refusal>
@@ -37,7 +44,9 @@ fn check_tree<T: TreeLike>(alloc: Global, schema: &Schema, tree: &T) -> Result<(
     ensures refused { IfErr result (λ refusal. IsTreeRefusal schema.now (T.rows tree.now) refusal) }
 {
     let rows = every_row(alloc, tree)?;
-    match check(alloc, schema, &rows) {
+    let checked = check(alloc, schema, &rows);
+    drop(rows);
+    match checked {
         Ok(()) => Ok(()),
         Err(CheckFault::TreeInvalid) => Err(Refusal::TreeInvalid),
         Err(CheckFault::TreeFull) => Err(Refusal::TreeFull),
@@ -51,8 +60,17 @@ fn every_row<T: TreeLike>(alloc: Global, tree: &T) -> Result<Rows, NoMemory>
     ensures { IfOk result (λ rows. rows ≡ T.rows tree.now) }
 {
     let mut patterns = Paths::empty(alloc);
-    patterns.push(Path::empty(alloc))?;
-    tree.part(alloc, &patterns)
+    match patterns.push(Path::empty(alloc)) {
+        Ok(()) => {
+            let rows = tree.part(alloc, &patterns);
+            drop(patterns);
+            rows
+        }
+        Err(NoMemory) => {
+            drop(patterns);
+            Err(NoMemory)
+        }
+    }
 }
 
 /// A copy of the tree, after the operations.
@@ -60,8 +78,13 @@ fn tree_after<T: TreeLike + Drop>(alloc: Global, tree: &T, ops: &[Op]) -> Result
     ensures { IfOk result (λ next. T.rows next ≡ effect ops.now (T.rows tree.now)) }
 {
     let mut next = tree.copy(alloc)?;
-    apply_ops(alloc, &mut next, ops)?;
-    Ok(next)
+    match apply_ops(alloc, &mut next, ops) {
+        Ok(()) => Ok(next),
+        Err(NoMemory) => {
+            drop(next);
+            Err(NoMemory)
+        }
+    }
 }
 
 /// Applies the operations: the deletes, then the replaces, then the updates, each in list order.

@@ -1,13 +1,13 @@
 ghost use Rattle.std.specs.Prelude.{◌≡◌, ◌+◌, ◌<◌, ◌≤◌, [], ◌∷◌, ◌++◌, Some, None, true, false, IfOk, OnOk, OnErr, IsErrOf};
 ghost use Rattle.base_lists.specs.Results.{IsUnlessMemory};
 ghost use Rattle.base_kinds.specs.Bases.{HasSoundTrees};
-ghost use Rattle.base_kinds.specs.History.{stamp_of, world_of};
+ghost use Rattle.base_kinds.specs.History.{stamp_of, world_from, world_of};
 ghost use Rattle.base_kinds.specs.Legal.{IsFit, IsLegal, Gives};
 ghost use Rattle.base_kinds.specs.Parts.{part};
 ghost use Rattle.base_kinds.specs.Rules.{rules_of};
 ghost use Rattle.base_kinds.specs.Step.{is_due, is_open, judge, new_stamp, next_entry};
 ghost use Rattle.commit_core.specs.CoreView.{EndsTrial, IsNext, IsReplayable, base_after, with_entry};
-ghost use Rattle.commit_core.specs.inner.StandsFor.{IsPreparedFor, entries_for, is_restart, preparation_of};
+ghost use Rattle.commit_core.specs.inner.StandsFor.{IsPreparedFor, entries_for, is_restart, preparation_of, world_in};
 
 use crate::judging::Judged;
 use crate::log::Log;
@@ -154,7 +154,18 @@ impl<T: TreeLike + Drop> Core<T> {
         ensures value { result ≡ self.entries }
         ensures replayable { IsReplayable result }
     {
-        let Core { log, .. } = self;
+        let Core {
+            schema,
+            log,
+            tree,
+            trial,
+            prepared,
+            ..
+        } = self;
+        drop(schema);
+        drop(tree);
+        drop(trial);
+        drop(prepared);
         log.into_entries()
     }
 
@@ -209,8 +220,13 @@ impl<T: TreeLike + Drop> Core<T> {
     {
         // a read of a field tells the clauses what every core keeps
         let _tree = &self.tree;
-        let judged = self.answer(alloc, now, author, ask)?;
-        Ok(self.stage(judged)?)
+        match self.answer(alloc, now, author, ask) {
+            Ok(judged) => match self.stage(judged) {
+                Ok(entry) => Ok(entry),
+                Err(NoMemory) => Err(Refusal::NoMemory),
+            },
+            Err(refusal) => Err(refusal),
+        }
     }
 
     /// Stages the entry, and takes the memory that it needs.
@@ -225,10 +241,19 @@ impl<T: TreeLike + Drop> Core<T> {
         ensures memory { OnErr result (is_open (world_of self.old.entries).trial ≡ true
             → 1 < entries_for judged.entry.kind) }
     {
-        self.log.reserve(entries_for(&judged.entry.kind))?;
-        self.prepared = judged.prepared;
-        self.staged = Some(Snapshot::of(&judged.entry));
-        Ok(judged.entry)
+        let Judged { entry, prepared } = judged;
+        match self.log.reserve(entries_for(&entry.kind)) {
+            Ok(()) => {
+                drop(std::mem::replace(&mut self.prepared, prepared));
+                self.staged = Some(Snapshot::of(&entry));
+                Ok(entry)
+            }
+            Err(NoMemory) => {
+                drop(entry);
+                drop(prepared);
+                Err(NoMemory)
+            }
+        }
     }
 
     /// Makes the entry the last one of the history. Takes no memory, and copies no tree.
@@ -251,7 +276,7 @@ impl<T: TreeLike + Drop> Core<T> {
     pub fn forget(&mut self)
         ensures { self.new ≡ record self.old { staged = None } }
     {
-        self.prepared = Prepared::Nothing;
+        drop(std::mem::replace(&mut self.prepared, Prepared::Nothing));
         self.staged = None;
     }
 
@@ -267,23 +292,51 @@ impl<T: TreeLike + Drop> Core<T> {
         }) }
         ensures err { OnErr result (self.new ≡ self.old) }
     {
-        let mut tree = self.tree.copy(alloc)?;
+        let mut tree = match self.tree.copy(alloc) {
+            Ok(tree) => tree,
+            Err(NoMemory) => {
+                drop(entries);
+                return Err(NoMemory);
+            }
+        };
         let mut trial = None;
-        replay_all(alloc, &mut tree, &mut trial, entries.items())?;
-        let stamp = last_stamp(entries.items());
-        let octets = journal_octets(entries.items());
         let mut log = Log::of(entries);
-        log.reserve(1)?;
-        self.base = Snapshot::of(&log);
-        self.log = log;
-        self.stamp = stamp;
-        self.octets = octets;
-        self.tree = tree;
-        self.trial = trial;
-        self.prepared = Prepared::Nothing;
-        self.staged = None;
-        Ok(())
+        match replay_log(alloc, &mut tree, &mut trial, &mut log) {
+            Ok(()) => {
+                self.stamp = last_stamp(log.items());
+                self.octets = journal_octets(log.items());
+                self.base = Snapshot::of(&log);
+                drop(std::mem::replace(&mut self.log, log));
+                drop(std::mem::replace(&mut self.tree, tree));
+                drop(std::mem::replace(&mut self.trial, trial));
+                drop(std::mem::replace(&mut self.prepared, Prepared::Nothing));
+                self.staged = None;
+                Ok(())
+            }
+            Err(NoMemory) => {
+                drop(log);
+                drop(tree);
+                drop(trial);
+                Err(NoMemory)
+            }
+        }
     }
+}
+
+/// Goes on by the entries of the log, and takes room for the one that closes an open trial.
+fn replay_log<T: TreeLike + Drop>(
+    alloc: Global,
+    tree: &mut T,
+    trial: &mut Option<Trial<T>>,
+    log: &mut Log,
+) -> Result<(), NoMemory>
+    ensures world { OnOk result (world_in T.rows tree.new trial.new
+        ≡ world_from (world_in T.rows tree.old trial.old) log.old.items) }
+    ensures items { log.new.items ≡ log.old.items }
+    ensures room { OnOk result (1 ≤ log.new.room) }
+{
+    replay_all(alloc, tree, trial, log.items())?;
+    log.reserve(1)
 }
 
 /// For how many entries there has to be memory: for the entry, and for the one that closes the trial which it leaves open.

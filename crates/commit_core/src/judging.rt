@@ -17,8 +17,8 @@ use crate::changed_tree::changed_tree;
 use crate::history_core::Core;
 use crate::trial::Prepared;
 use base_kinds::{
-    Ask, CLOSING_OCTETS, Copied, Entry, GATE_OCTETS, Kind, LATEST_READING, Ops, Refusal, Text,
-    TreeLike,
+    Ask, CLOSING_OCTETS, Copied, Entry, GATE_OCTETS, Kind, LATEST_READING, NoMemory, Ops, Refusal,
+    Text, TreeLike,
 };
 use std::alloc::Global;
 
@@ -53,9 +53,21 @@ impl<T: TreeLike + Drop> Core<T> {
             Ask::Trial(id, ops, duration) => {
                 self.answer_trial(alloc, now, author, id, ops, duration)
             }
-            Ask::Confirm(id) => self.answer_confirm(now, author, &id),
-            Ask::Cancel(id) => self.answer_cancel(now, author, &id),
-            Ask::Extend(id, duration) => self.answer_extend(now, author, &id, duration),
+            Ask::Confirm(id) => {
+                let answered = self.answer_confirm(now, author, &id);
+                drop(id);
+                answered
+            }
+            Ask::Cancel(id) => {
+                let answered = self.answer_cancel(now, author, &id);
+                drop(id);
+                answered
+            }
+            Ask::Extend(id, duration) => {
+                let answered = self.answer_extend(now, author, &id, duration);
+                drop(id);
+                answered
+            }
         }
     }
 
@@ -74,9 +86,17 @@ impl<T: TreeLike + Drop> Core<T> {
             IsPreparedFor (preparation_of T.rows judged.prepared)
             (world_of self.now.entries) judged.entry.kind) }
     {
-        let tree = self.tree_changed(alloc, &ops)?;
+        let tree = match self.tree_changed(alloc, &ops) {
+            Ok(tree) => tree,
+            Err(refusal) => {
+                drop(ops);
+                return Err(refusal);
+            }
+        };
         let entry = self.next_entry(now, author, Kind::Apply(ops));
         if !self.has_room(&entry, 1, GATE_OCTETS) {
+            drop(tree);
+            drop(entry);
             return Err(Refusal::LogFull);
         }
         Ok(Judged {
@@ -103,17 +123,49 @@ impl<T: TreeLike + Drop> Core<T> {
             IsPreparedFor (preparation_of T.rows judged.prepared)
             (world_of self.now.entries) judged.entry.kind) }
     {
-        let tree = self.tree_changed(alloc, &ops)?;
-        let kept_id = id.copy(alloc)?;
+        let (tree, kept_id) = match self.tree_and_id(alloc, &ops, &id) {
+            Ok(made) => made,
+            Err(refusal) => {
+                drop(id);
+                drop(ops);
+                return Err(refusal);
+            }
+        };
         let deadline = self.deadline(now, duration);
         let entry = self.next_entry(now, author, Kind::Trial(id, ops, deadline));
         if !self.has_room(&entry, 2, GATE_OCTETS + CLOSING_OCTETS) {
+            drop(tree);
+            drop(kept_id);
+            drop(entry);
             return Err(Refusal::LogFull);
         }
         Ok(Judged {
             entry,
             prepared: Prepared::Trial(tree, kept_id),
         })
+    }
+
+    /// The tree behind the operations, and a copy of the id.
+    fn tree_and_id(&self, alloc: Global, ops: &Ops, id: &Text) -> Result<(T, Text), Refusal>
+        ensures closed { OnOk result (is_open (world_of self.now.entries).trial ≡ false) }
+        ensures tree { IfOk result (λ made.
+            T.rows made.0 ≡ effect ops.now (world_of self.now.entries).tree) }
+        ensures id { IfOk result (λ made. made.1 ≡ id.now) }
+        ensures valid { OnOk result
+            (valid self.now.schema (effect ops.now (world_of self.now.entries).tree) ≡ true) }
+        ensures fits { OnOk result
+            (fits (effect ops.now (world_of self.now.entries).tree) ≡ true) }
+        ensures refused { IfErr result (λ refusal.
+            IsChangeRefusal self.now.schema (world_of self.now.entries) ops.now refusal) }
+    {
+        let tree = self.tree_changed(alloc, ops)?;
+        match id.copy(alloc) {
+            Ok(id) => Ok((tree, id)),
+            Err(NoMemory) => {
+                drop(tree);
+                Err(Refusal::NoMemory)
+            }
+        }
     }
 
     #[tactic(auto, using(crate::proofs::Judged::confirm_refused, crate::proofs::Judged::confirm_accepted))]
@@ -170,6 +222,7 @@ impl<T: TreeLike + Drop> Core<T> {
         let deadline = self.deadline(now, duration);
         let entry = self.next_entry(now, author, Kind::Extend(deadline));
         if !self.has_room(&entry, 2, GATE_OCTETS + CLOSING_OCTETS) {
+            drop(entry);
             return Err(Refusal::LogFull);
         }
         Ok(Judged {

@@ -1,13 +1,13 @@
 // What a whole history makes of an empty tree.
-ghost use Rattle.std.specs.Prelude.{◌≡◌, OnOk};
+ghost use Rattle.std.specs.Prelude.{◌≡◌, Some, IfOk, OnOk};
 ghost use Rattle.base_kinds.specs.History.{stamp_of, world_after, world_from};
 ghost use Rattle.base_kinds.specs.Records.{counted};
 ghost use Rattle.base_kinds.specs.Rules.{size_of};
-ghost use Rattle.commit_core.specs.inner.StandsFor.{world_in};
+ghost use Rattle.commit_core.specs.inner.StandsFor.{open_of, world_in};
 
 use crate::changed_tree::apply_ops;
 use crate::trial::{Trial, extend, undo};
-use base_kinds::{Copied, EMPTY_LOG_OCTETS, Entry, GATE_OCTETS, Kind, NoMemory, TreeLike};
+use base_kinds::{Copied, EMPTY_LOG_OCTETS, Entry, GATE_OCTETS, Kind, NoMemory, Text, TreeLike};
 use std::alloc::Global;
 
 /// Goes on by these entries. After want of memory a part of them may have been gone through.
@@ -38,21 +38,16 @@ fn replay_kind<T: TreeLike + Drop>(
 {
     match kind {
         Kind::Apply(ops) => {
-            *trial = None;
+            drop(trial.take());
             apply_ops(alloc, tree, ops.items())
         }
         Kind::Trial(id, ops, deadline) => {
-            let before = tree.copy(alloc)?;
-            let id = id.copy(alloc)?;
-            *trial = Some(Trial {
-                id,
-                before,
-                deadline: *deadline,
-            });
+            let begun = new_trial(alloc, tree, id, *deadline)?;
+            drop(std::mem::replace(trial, Some(begun)));
             apply_ops(alloc, tree, ops.items())
         }
         Kind::Confirm => {
-            *trial = None;
+            drop(trial.take());
             Ok(())
         }
         Kind::Cancel | Kind::Expire | Kind::Restart => {
@@ -63,6 +58,35 @@ fn replay_kind<T: TreeLike + Drop>(
             extend(trial, *deadline);
             Ok(())
         }
+    }
+}
+
+/// A trial that begins over this tree.
+fn new_trial<T: TreeLike + Drop>(
+    alloc: Global,
+    tree: &T,
+    id: &Text,
+    deadline: u64,
+) -> Result<Trial<T>, NoMemory>
+    ensures { IfOk result (λ trial. open_of T.rows (Some trial) ≡ Some (record {
+      id = id.now;
+      before = T.rows tree.now;
+      deadline = deadline;
+    })) }
+{
+    match tree.copy(alloc) {
+        Ok(before) => match id.copy(alloc) {
+            Ok(id) => Ok(Trial {
+                id,
+                before,
+                deadline,
+            }),
+            Err(NoMemory) => {
+                drop(before);
+                Err(NoMemory)
+            }
+        },
+        Err(NoMemory) => Err(NoMemory),
     }
 }
 

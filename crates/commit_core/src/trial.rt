@@ -34,25 +34,37 @@ pub fn advance<T: TreeLike + Drop>(
         ≡ world_after kind.now (world_in T.rows tree.old trial.old) }
 {
     match kind {
-        Kind::Apply(_) => {
-            if let Prepared::Tree(next) = prepared {
-                *tree = next;
-                *trial = None;
+        Kind::Apply(_) => match prepared {
+            Prepared::Tree(next) => {
+                drop(std::mem::replace(tree, next));
+                drop(trial.take());
             }
-        }
-        Kind::Trial(_, _, deadline) => {
-            if let Prepared::Trial(next, id) = prepared {
+            other => drop(other),
+        },
+        Kind::Trial(_, _, deadline) => match prepared {
+            Prepared::Trial(next, id) => {
                 let before = std::mem::replace(tree, next);
-                *trial = Some(Trial {
+                let begun = Trial {
                     id,
                     before,
                     deadline: *deadline,
-                });
+                };
+                drop(std::mem::replace(trial, Some(begun)));
             }
+            other => drop(other),
+        },
+        Kind::Confirm => {
+            drop(prepared);
+            drop(trial.take());
         }
-        Kind::Confirm => *trial = None,
-        Kind::Cancel | Kind::Expire | Kind::Restart => undo(tree, trial),
-        Kind::Extend(deadline) => extend(trial, *deadline),
+        Kind::Cancel | Kind::Expire | Kind::Restart => {
+            drop(prepared);
+            undo(tree, trial);
+        }
+        Kind::Extend(deadline) => {
+            drop(prepared);
+            extend(trial, *deadline);
+        }
     }
 }
 
