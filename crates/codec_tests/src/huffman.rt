@@ -2,11 +2,19 @@
 use base_lists::Bytes;
 use hpack_huff::{HuffFault, huff_decode};
 use std::alloc::Global;
+use std::process::Abort;
 
 /// Whether these octets are decoded to this text.
 fn decodes(alloc: Global, octets: &[u8], text: &[u8]) -> bool {
     let mut out = Bytes::empty(alloc);
     huff_decode(octets, &mut out) == Ok(()) && out.items() == text
+}
+
+/// Ends the test at the first of the rows whose octets aren't decoded to its text.
+fn assert_decoded(rt: &impl Abort, alloc: Global, rows: &[(&[u8], &[u8])]) {
+    for (octets, text) in rows {
+        assert!(rt; decodes(alloc, octets, text), "{octets:?}");
+    }
 }
 
 /// RFC 7541, appendices C.4 and C.6.
@@ -38,9 +46,7 @@ const EXAMPLES: &[(&[u8], &[u8])] = &[
 
 #[test]
 fn decodes_the_examples_of_the_rfc(rt: HostRuntime) {
-    for (octets, text) in EXAMPLES {
-        assert!(rt; decodes(rt.alloc(), octets, text), "{octets:?}");
-    }
+    assert_decoded(&rt, rt.alloc(), EXAMPLES);
 }
 
 /// Made by python-hpack: octets with codes of up to 28 bits.
@@ -64,9 +70,7 @@ const CODED: &[(&[u8], &[u8])] = &[
 
 #[test]
 fn decodes_what_another_library_coded(rt: HostRuntime) {
-    for (octets, text) in CODED {
-        assert!(rt; decodes(rt.alloc(), octets, text), "{octets:?}");
-    }
+    assert_decoded(&rt, rt.alloc(), CODED);
 }
 
 /// The code of 'a' is 00011, so that these end in 0, 3, 6, 1, 4, 7, 2, 5 and 0 ones.
@@ -84,9 +88,7 @@ const PADDED: &[(&[u8], &[u8])] = &[
 
 #[test]
 fn takes_padding_of_up_to_seven_ones(rt: HostRuntime) {
-    for (octets, text) in PADDED {
-        assert!(rt; decodes(rt.alloc(), octets, text), "{octets:?}");
-    }
+    assert_decoded(&rt, rt.alloc(), PADDED);
 }
 
 /// Padding of 8 ones and more, padding with a zero, and the end mark, also last. Most were refused by python-hpack.

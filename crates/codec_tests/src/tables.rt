@@ -2,6 +2,7 @@
 use base_lists::{Bytes, Copied, NoMemory};
 use hpack_block::{Decoder, Headers};
 use std::alloc::Global;
+use std::process::Abort;
 
 /// A block, what it gives, and how many entries the table has afterwards, and of what size.
 struct Step<'a> {
@@ -71,6 +72,11 @@ fn misread(alloc: Global, steps: &[Step<'_>]) -> Option<usize> {
     first_misread(&mut Decoder::make(alloc), alloc, steps)
 }
 
+/// Ends the test at the first of the steps that isn't read as it says.
+fn assert_read(rt: &impl Abort, alloc: Global, steps: &[Step<'_>]) {
+    assert_eq!(rt; misread(alloc, steps), None);
+}
+
 /// RFC 7541, appendices C.2.2 to C.2.4.
 const LITERALS: &[Step<'static>] = &[
     Step {
@@ -95,7 +101,7 @@ const LITERALS: &[Step<'static>] = &[
 
 #[test]
 fn reads_literals_and_an_index_of_the_rfc(rt: HostRuntime) {
-    assert_eq!(rt; misread(rt.alloc(), LITERALS), None);
+    assert_read(&rt, rt.alloc(), LITERALS);
 }
 
 /// RFC 7541, appendix C.2.1.
@@ -108,7 +114,7 @@ const ADDED_LITERAL: &[Step<'static>] = &[Step {
 
 #[test]
 fn reads_an_added_literal_of_the_rfc(rt: HostRuntime) {
-    assert_eq!(rt; misread(rt.alloc(), ADDED_LITERAL), None);
+    assert_read(&rt, rt.alloc(), ADDED_LITERAL);
 }
 
 /// RFC 7541, appendix C.3.
@@ -135,7 +141,7 @@ const REQUESTS: &[Step<'static>] = &[
 
 #[test]
 fn reads_requests_of_the_rfc(rt: HostRuntime) {
-    assert_eq!(rt; misread(rt.alloc(), REQUESTS), None);
+    assert_read(&rt, rt.alloc(), REQUESTS);
 }
 
 /// RFC 7541, appendix C.4.
@@ -162,7 +168,7 @@ const CODED_REQUESTS: &[Step<'static>] = &[
 
 #[test]
 fn reads_requests_of_the_rfc_in_huffman_code(rt: HostRuntime) {
-    assert_eq!(rt; misread(rt.alloc(), CODED_REQUESTS), None);
+    assert_read(&rt, rt.alloc(), CODED_REQUESTS);
 }
 
 /// RFC 7541, appendix C.5, where the table's maximum size is 256.
@@ -189,7 +195,7 @@ const RESPONSES: &[Step<'static>] = &[
 
 #[test]
 fn reads_responses_of_the_rfc_and_evicts(rt: HostRuntime) {
-    assert_eq!(rt; misread(rt.alloc(), RESPONSES), None);
+    assert_read(&rt, rt.alloc(), RESPONSES);
 }
 
 /// RFC 7541, appendix C.6.
@@ -216,7 +222,7 @@ const CODED_RESPONSES: &[Step<'static>] = &[
 
 #[test]
 fn reads_responses_of_the_rfc_in_huffman_code(rt: HostRuntime) {
-    assert_eq!(rt; misread(rt.alloc(), CODED_RESPONSES), None);
+    assert_read(&rt, rt.alloc(), CODED_RESPONSES);
 }
 
 /// Made by python-hpack: sequence 2 of its blocks through one table.
@@ -255,7 +261,7 @@ const OF_ANOTHER_LIBRARY_2: &[Step<'static>] = &[
 
 #[test]
 fn reads_what_another_library_wrote_2(rt: HostRuntime) {
-    assert_eq!(rt; misread(rt.alloc(), OF_ANOTHER_LIBRARY_2), None);
+    assert_read(&rt, rt.alloc(), OF_ANOTHER_LIBRARY_2);
 }
 
 /// Made by python-hpack: sequence 8 of its blocks through one table.
@@ -294,7 +300,7 @@ const OF_ANOTHER_LIBRARY_8: &[Step<'static>] = &[
 
 #[test]
 fn reads_what_another_library_wrote_8(rt: HostRuntime) {
-    assert_eq!(rt; misread(rt.alloc(), OF_ANOTHER_LIBRARY_8), None);
+    assert_read(&rt, rt.alloc(), OF_ANOTHER_LIBRARY_8);
 }
 
 /// Made by grpcio 1.51.1: what three calls of one connection begin with.
@@ -321,7 +327,7 @@ const OF_A_REAL_CLIENT: &[Step<'static>] = &[
 
 #[test]
 fn reads_three_calls_of_a_real_client(rt: HostRuntime) {
-    assert_eq!(rt; misread(rt.alloc(), OF_A_REAL_CLIENT), None);
+    assert_read(&rt, rt.alloc(), OF_A_REAL_CLIENT);
 }
 
 /// A size update to 4,096 alone, and updates down and up again, which empty the table.
@@ -360,5 +366,5 @@ const SIZE_UPDATES: &[Step<'static>] = &[
 
 #[test]
 fn reads_size_updates(rt: HostRuntime) {
-    assert_eq!(rt; misread(rt.alloc(), SIZE_UPDATES), None);
+    assert_read(&rt, rt.alloc(), SIZE_UPDATES);
 }
