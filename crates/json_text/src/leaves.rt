@@ -28,7 +28,16 @@ pub fn leaf_json(
     ensures err { OnErr result (out.new ≡ out.old) }
 {
     let json = value_json(alloc, shape, value)?;
-    out.extend_from_slice(json.to_vec(alloc)?.as_slice())
+    let text = json.to_vec(alloc);
+    drop(json);
+    match text {
+        Ok(octets) => {
+            let outcome = out.extend_from_slice(octets.as_slice());
+            drop(octets);
+            outcome
+        }
+        Err(_) => Err(NoMemory),
+    }
 }
 
 /// A leaf or a leaf-list.
@@ -92,7 +101,14 @@ fn key_json(alloc: Global, value: &Value) -> Result<Json, NoMemory>
     requires { is_list value.now ≡ false }
     ensures { IfOk result (λ json. view json ≡ string (key_text_of value.now)) }
 {
-    text_json(alloc, &key_text(alloc, value)?)
+    match key_text(alloc, value) {
+        Ok(text) => {
+            let json = text_json(alloc, &text);
+            drop(text);
+            json
+        }
+        Err(NoMemory) => Err(NoMemory),
+    }
 }
 
 fn text_json(alloc: Global, text: &Text) -> Result<Json, NoMemory>

@@ -1,8 +1,9 @@
 // The JSON of the rows at and below a path.
-ghost use Rattle.std.specs.Prelude.{◌≡◌, ◌≤◌, ◌<◌, ◌+◌, ◌^◌, ◌∷◌, suc, Some, Ok, length, map, slice_get, string_bytes, IfOk, IsUtf8, OnOk};
+ghost use Rattle.std.specs.Prelude.{◌≡◌, ◌≤◌, ◌<◌, ◌+◌, ◌^◌, ◌∷◌, suc, Some, None, Ok, length, map, slice_get, string_bytes, IfOk, IsUtf8, OnOk};
 ghost use Rattle.std.specs.Option.{option_copied, option_and_then, option_map, ForSome};
 ghost use Rattle.serde_json.specs.Data.{object};
 ghost use Rattle.serde_json.specs.View.{view, items_view, members_view};
+ghost use Rattle.base_kinds.specs.Limits.{most_elements};
 ghost use Rattle.base_kinds.specs.Schema.{SchemaNode};
 ghost use Rattle.schema_core.specs.Nodes.{names_above, names_at};
 ghost use Rattle.json_rows.specs.Rows.{data_of, rows_of};
@@ -43,7 +44,12 @@ fn tree_text(alloc: Global, schema: &Schema, path: &Path, rows: &[Row]) -> Resul
         ≡ Some (json_data schema.now path.now rows.now)) }
 {
     let json = data_json(alloc, schema, path, rows)?;
-    Ok(Seq::from_vec(json.to_vec(alloc)?))
+    let text = json.to_vec(alloc);
+    drop(json);
+    match text {
+        Ok(octets) => Ok(Seq::from_vec(octets)),
+        Err(_) => Err(NoMemory),
+    }
 }
 
 /// The value at the path.
@@ -51,8 +57,7 @@ fn data_json(alloc: Global, schema: &Schema, path: &Path, rows: &[Row]) -> Resul
     ensures { IfOk result (λ json. view json ≡ json_data schema.now path.now rows.now) }
 {
     if path.is_empty() {
-        let members = members_json(alloc, schema, None, None, MOST_ELEMENTS, 0, rows)?;
-        return Ok(Json::Object(members));
+        return object_json(alloc, schema, None, 0, rows);
     }
     let Some(id) = schema.find(path) else {
         return Ok(Json::Null);
@@ -60,16 +65,26 @@ fn data_json(alloc: Global, schema: &Schema, path: &Path, rows: &[Row]) -> Resul
     if ends_plain(path.items()) {
         return node_json(alloc, schema, None, id, MOST_ELEMENTS, path.len() - 1, rows);
     }
-    let members = members_json(
-        alloc,
-        schema,
-        None,
-        Some(id),
-        MOST_ELEMENTS,
-        path.len(),
-        rows,
-    )?;
-    Ok(Json::Object(members))
+    object_json(alloc, schema, Some(id), path.len(), rows)
+}
+
+/// An object that is a whole value.
+fn object_json(
+    alloc: Global,
+    schema: &Schema,
+    parent: Option<NodeId>,
+    depth: usize,
+    rows: &[Row],
+) -> Result<Json, NoMemory>
+    requires within { ForSome parent (λ id. id.0 < length schema.now) }
+    requires deep { depth + most_elements < 2 ^ 64 }
+    ensures { IfOk result (λ json. view json ≡ object (members_data most_elements schema.now None
+        (names_above schema.now parent) depth rows.now)) }
+{
+    match members_json(alloc, schema, None, parent, MOST_ELEMENTS, depth, rows) {
+        Ok(members) => Ok(Json::Object(members)),
+        Err(NoMemory) => Err(NoMemory),
+    }
 }
 
 /// Whether the last element has no keys.
