@@ -138,9 +138,12 @@ const OTHERS: &[&str] = &[
 
 /// Whether the names of this line are those of no node of the example.
 fn is_of_no_node(rt: &impl Abort, alloc: Global, line: &str) -> bool {
-    example(rt, alloc)
-        .find(&path_of(rt, alloc, line, "r1"))
-        .is_none()
+    let schema = example(rt, alloc);
+    let path = path_of(rt, alloc, line, "r1");
+    let found = schema.find(&path);
+    drop(path);
+    drop(schema);
+    found.is_none()
 }
 
 #[test]
@@ -162,7 +165,12 @@ const PLACES: &[(&str, bool)] = &[
 
 /// Whether a node with the names of this line has its place in the example.
 fn has_place(rt: &impl Abort, alloc: Global, line: &str) -> bool {
-    example(rt, alloc).has_parent(texts_of(rt, alloc, line).items())
+    let schema = example(rt, alloc);
+    let names = texts_of(rt, alloc, line);
+    let has_parent = schema.has_parent(names.items());
+    drop(names);
+    drop(schema);
+    has_parent
 }
 
 #[test]
@@ -210,9 +218,17 @@ fn has_all_of_lab(rt: &impl Abort, alloc: Global, schema: &Schema) -> bool {
         && tags.maximum() == Some(9)
 }
 
+fn copy_of_example(rt: &impl Abort, alloc: Global) -> Schema {
+    let schema = example(rt, alloc);
+    let copy = schema.copy(alloc).expect(rt, "memory");
+    drop(schema);
+    copy
+}
+
 #[test]
 fn a_copy_has_all_of_each_node(rt: HostRuntime) {
-    let alloc = rt.alloc();
-    let copy = example(&rt, alloc).copy(alloc).expect(&rt, "memory");
-    assert!(rt; has_all_of_lab(&rt, alloc, &copy));
+    let copy = copy_of_example(&rt, rt.alloc());
+    let has_all = has_all_of_lab(&rt, rt.alloc(), &copy);
+    drop(copy);
+    assert!(rt; has_all);
 }

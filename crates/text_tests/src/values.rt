@@ -19,7 +19,11 @@ fn has_key(rt: &impl Abort, alloc: Global, shape: &Shape, value: &Value, key: &T
 /// Whether the text is read as a value of the shape, which is written as it.
 fn is_read_back(rt: &impl Abort, alloc: Global, shape: &Shape, text: &Text) -> bool {
     match read_key(alloc, shape, text) {
-        Ok(value) => has_key(rt, alloc, shape, &value, text),
+        Ok(value) => {
+            let has_key = has_key(rt, alloc, shape, &value, text);
+            drop(value);
+            has_key
+        }
         Err(ValueFault::BadValue) => false,
         Err(ValueFault::NoMemory) => panic!(rt; "memory"),
     }
@@ -34,7 +38,10 @@ fn is_key(rt: &impl Abort, alloc: Global, shape: Shape, text: &str) -> bool {
 fn has_text(rt: &impl Abort, alloc: Global, value: Value, text: &str) -> bool {
     let mut out = Seq::empty(alloc);
     value_text(alloc, &value, &mut out).expect(rt, "memory");
-    out.items() == text.as_bytes()
+    drop(value);
+    let is_so = out.items() == text.as_bytes();
+    drop(out);
+    is_so
 }
 
 #[test]
