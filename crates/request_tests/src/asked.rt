@@ -242,14 +242,22 @@ fn asked(rt: &impl Abort, alloc: Global, ask: &Ask) -> Bytes {
 
 /// What becomes of the request in the schema.
 pub(crate) fn resolved(rt: &impl Abort, alloc: Global, ask: UnresolvedSet) -> Result<Ask, Refusal> {
-    resolve(alloc, &schema_of(rt, alloc, SCHEMA), &ask)
+    let schema = schema_of(rt, alloc, SCHEMA);
+    let resolved = resolve(alloc, &schema, &ask);
+    drop(schema);
+    drop(ask);
+    resolved
 }
 
 /// What becomes of the request, as a text.
 pub(crate) fn answer(rt: &impl Abort, alloc: Global, ask: UnresolvedSet) -> Bytes {
     match resolved(rt, alloc, ask) {
         Err(refusal) => refused(rt, alloc, refusal),
-        Ok(ask) => asked(rt, alloc, &ask),
+        Ok(ask) => {
+            let text = asked(rt, alloc, &ask);
+            drop(ask);
+            text
+        }
     }
 }
 

@@ -75,7 +75,11 @@ fn name_of(rt: &impl Abort, alloc: Global, fault: RowsFault) -> Bytes {
 /// The rows at the path that the JSON says.
 fn read(rt: &impl Abort, alloc: Global, path: &str, json: &[u8]) -> Result<Rows, RowsFault> {
     let schema = schema_of(rt, alloc, SCHEMA);
-    rows_of(alloc, &schema, &path_of(rt, alloc, path), json)
+    let path = path_of(rt, alloc, path);
+    let rows = rows_of(alloc, &schema, &path, json);
+    drop(path);
+    drop(schema);
+    rows
 }
 
 /// The rows' lines, or what the fault is called.

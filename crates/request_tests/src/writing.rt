@@ -64,7 +64,11 @@ fn rows_of(rt: &impl Abort, alloc: Global, table: &[(&str, Sent)]) -> Rows {
 fn written(rt: &impl Abort, alloc: Global, line: &str, rows: Rows) -> Bytes {
     let schema = schema_of(rt, alloc, SCHEMA);
     let path = path_of(rt, alloc, line);
-    json_of(alloc, &schema, &path, &rows).expect(rt, "memory")
+    let json = json_of(alloc, &schema, &path, &rows).expect(rt, "memory");
+    drop(schema);
+    drop(path);
+    drop(rows);
+    json
 }
 
 /// Whether the rows at the path are written so.
@@ -244,7 +248,10 @@ fn is_leaf(rt: &impl Abort, alloc: Global, shape: &Shape, value: &Value, json: &
 /// A leaf of this shape with this value is written so.
 fn assert_leaf(rt: &impl Abort, alloc: Global, shape: Shape, sent: Sent, json: &str) {
     let value = value_of(rt, alloc, sent);
-    assert_of(rt, json, is_leaf(rt, alloc, &shape, &value, json));
+    let is_so = is_leaf(rt, alloc, &shape, &value, json);
+    drop(value);
+    drop(shape);
+    assert_of(rt, json, is_so);
 }
 
 /// The shape of a state.
