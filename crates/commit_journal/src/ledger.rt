@@ -18,6 +18,7 @@ use crate::faults::{CreateFault, LedgerFault};
 use base_kinds::{Bytes, Entry, Limits, NoMemory};
 use base_lists::Remembered;
 use disk_model::{Disk, put_synced};
+use edge_traits::Failed;
 use journal_format::{CLOSED_GATE, OPEN_GATE, put_entry, write_header};
 use std::alloc::Global;
 use std::marker::Model;
@@ -77,15 +78,28 @@ fn put_record(entry: &Entry, buffer: &mut Vec<u8>) -> Result<(), NoMemory>
     Ok(())
 }
 
+/// Puts the header and a closed gate behind what is there.
+fn put_first_octets(limits: &Limits, octets: &mut Bytes) -> Result<(), NoMemory>
+    requires { AreInRange limits.now }
+    ensures { OnOk result (octets.new ≡ octets.old ++ first_octets limits.now) }
+{
+    write_header(limits, octets)?;
+    octets.push(CLOSED_GATE)
+}
+
 /// The header and a closed gate.
 fn first_octets(alloc: Global, limits: &Limits) -> Result<Bytes, NoMemory>
     requires { AreInRange limits.now }
     ensures { IfOk result (λ octets. octets ≡ first_octets limits.now) }
 {
     let mut octets = Bytes::empty(alloc);
-    write_header(limits, &mut octets)?;
-    octets.push(CLOSED_GATE)?;
-    Ok(octets)
+    match put_first_octets(limits, &mut octets) {
+        Ok(()) => Ok(octets),
+        Err(NoMemory) => {
+            drop(octets);
+            Err(NoMemory)
+        }
+    }
 }
 
 impl<D: Disk> Ledger<D> {
@@ -124,9 +138,17 @@ impl<D: Disk> Ledger<D> {
         if disk.len()? != 0 {
             return Err(CreateFault::NotEmpty);
         }
-        let octets = first_octets(alloc, limits)?;
-        put_synced(disk, 0, octets.items())?;
-        Ok(())
+        match first_octets(alloc, limits) {
+            Ok(octets) => {
+                let put = put_synced(disk, 0, octets.items());
+                drop(octets);
+                match put {
+                    Ok(()) => Ok(()),
+                    Err(Failed) => Err(CreateFault::DiskFault),
+                }
+            }
+            Err(NoMemory) => Err(CreateFault::NoMemory),
+        }
     }
 
     /// The limits of its journal.
@@ -192,8 +214,12 @@ impl<D: Disk> Ledger<D> {
             → FailsAppending entry.now self.new.doubt (D.fuse self.old.disk)
             (D.fuse self.new.disk) }
     {
-        put_record(entry, &mut self.buffer)?;
-        put_synced(&mut self.disk, self.gate + 1, &self.buffer)?;
+        let Ok(()) = put_record(entry, &mut self.buffer) else {
+            return Err(LedgerFault::NoMemory);
+        };
+        let Ok(()) = put_synced(&mut self.disk, self.gate + 1, &self.buffer) else {
+            return Err(LedgerFault::DiskFault);
+        };
         let Ok(()) = put_synced(&mut self.disk, self.gate, &[OPEN_GATE]) else {
             self.attempt = Some(Snapshot::of(entry));
             return Err(LedgerFault::DiskFault);

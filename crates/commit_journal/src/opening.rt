@@ -78,7 +78,11 @@ fn sync_and_open<D: Disk>(alloc: Global, mut disk: D) -> Opening<D>
         return Opening::DiskFault(disk);
     };
     match read_whole(alloc, &mut disk) {
-        Ok(octets) => open(alloc, disk, octets.items()),
+        Ok(octets) => {
+            let opening = open(alloc, disk, octets.items());
+            drop(octets);
+            opening
+        }
         Err(ReadFault::Failed) => Opening::DiskFault(disk),
         Err(ReadFault::NoMemory) => Opening::NoMemory(disk),
     }
