@@ -66,12 +66,17 @@ fn make_calls<D: Disk>(disk: &mut D) -> usize {
 }
 
 fn has_octets(octets: &[u8], pattern: &[u8], filled: u8) -> bool {
-    let mut has_each = octets.len() == pattern.len();
-    for (octet, want) in octets.iter().zip(pattern) {
-        let expected = if *want == FILLED { filled } else { *want };
-        has_each = has_each && *octet == expected;
+    if octets.len() != pattern.len() {
+        return false;
     }
-    has_each
+    for place in 0..pattern.len() {
+        let want = pattern[place];
+        let expected = if want == FILLED { filled } else { want };
+        if octets[place] != expected {
+            return false;
+        }
+    }
+    true
 }
 
 /// Whether so many of the calls pass and the others fail, and the disk has stopped where that is not all of them.
