@@ -24,7 +24,8 @@ pub fn rises<T: Ranked>(items: &[T]) -> bool
     };
     let mut last = first;
     for item in others {
-        if !last.is_below(item) {
+        let goes_on = last.is_below(item);
+        if !goes_on {
             return false;
         }
         last = item;
