@@ -303,10 +303,6 @@ first-from_short w s n h =
       value_is = ap (λ k. w / 2 ^ k) places ∙ sym (shr-shr w 32 (8 - n)) ∙ h.value_is;
     }
 
-pub first_code_5 : first_code 5 ≡ 0
-unfolding first_code codes_with code_lengths
-first_code_5 = refl
-
 -- the codes of 10 bits begin above those of 8
 pub first_code_10 : first_code 10 ≡ 1016
 unfolding first_code codes_with code_lengths

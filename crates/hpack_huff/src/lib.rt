@@ -7,8 +7,6 @@ mod decode;
 mod laws;
 mod pending;
 mod table;
-#[cfg(test)]
-mod tests;
 
 pub use decode::{HuffFault, huff_decode};
 pub use laws::{codes_fill_the_tree, no_code_begins_another, one_text};

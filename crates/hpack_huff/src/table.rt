@@ -130,7 +130,7 @@ fn find_short(top: u64) -> Found
 }
 
 /// The same as `find` by length alone, where the code has at least that many bits.
-pub fn find_from(mut length: u32, window: u64) -> Found
+fn find_from(mut length: u32, window: u64) -> Found
     requires in_table { 5 ≤ length × length ≤ 30 }
     requires fits { window < 2 ^ 40 }
     requires long { first_code length * 2 ^ (40 - length) ≤ window }
