@@ -51,7 +51,10 @@ fn set_of(rt: &impl Abort, alloc: Global, schema: &str, word: &str, json: &str) 
     ensures { IsFit result }
 {
     let updates = update_of(rt, alloc, word, json);
-    set_by(rt, alloc, &schema_of(rt, alloc, schema), updates)
+    let schema = schema_of(rt, alloc, schema);
+    let ask = set_by(rt, alloc, &schema, updates);
+    drop(schema);
+    ask
 }
 
 /// An update of `/system/config/WORD` to the text of a JSON value.
@@ -165,17 +168,20 @@ fn assert_stamped(
     stamp: u64,
 ) {
     let ask = set_of(rt, alloc, SCHEMA, "motd", "\"m\"");
-    assert_eq!(rt; accept(rt, core, alloc, now, ask), stamp, "at {now}");
+    let taken = accept(rt, core, alloc, now, ask);
+    assert!(rt; taken == stamp, "at {now}");
     let first = first_text(rt, core, alloc, "m");
-    assert_eq!(rt; first, (1, true, stamp), "at {now}");
+    assert!(rt; first == (1, true, stamp), "at {now}");
 }
 
 /// The entries have their numbers, and are so many.
 fn assert_numbered(rt: &impl Abort, core: &Core<PlainTree>, count: usize) {
-    for (i, entry) in core.entries().iter().enumerate() {
-        assert_eq!(rt; marks_of(entry), (i as u64 + 1, 1, entry.stamp));
+    let mut number = 0u64;
+    for entry in core.entries() {
+        number = number.saturating_add(1);
+        assert!(rt; marks_of(entry) == (number, 1, entry.stamp));
     }
-    assert_eq!(rt; core.entries().len(), count);
+    assert!(rt; core.entries().len() == count);
 }
 
 /// Each Set at a reading has its stamp, and the entries have their numbers.
@@ -189,7 +195,9 @@ fn assert_readings(rt: &impl Abort, alloc: Global, core: &mut Core<PlainTree>) {
 #[test]
 fn stamps_follow_the_clock_and_rise(rt: HostRuntime) {
     let alloc = rt.alloc();
-    assert_readings(&rt, alloc, &mut core_of(&rt, alloc, ROOMY));
+    let mut core = core_of(&rt, alloc, ROOMY);
+    assert_readings(&rt, alloc, &mut core);
+    drop(core);
 }
 
 /// Leaves and values by the wider schema, with the refusal of each.
@@ -209,7 +217,7 @@ fn assert_refused(
 ) {
     let ask = set_of(rt, alloc, WIDE, word, json);
     let found = refused(rt, core, alloc, ask);
-    assert_eq!(rt; found, refusal, "{word} {json}");
+    assert!(rt; found == refusal, "{word} {json}");
 }
 
 /// A Set of the hostname is the first entry behind one that was let go.
@@ -217,13 +225,13 @@ fn accept_first(rt: &impl Abort, alloc: Global, core: &mut Core<PlainTree>) {
     core.forget();
     assert_refused(rt, alloc, core, ("mtu", "1", None));
     let first = set_of(rt, alloc, SCHEMA, "hostname", "\"r1\"");
-    assert_eq!(rt; accept(rt, core, alloc, 1000, first), 1000);
+    assert!(rt; accept(rt, core, alloc, 1000, first) == 1000);
 }
 
 /// The one entry there is has set the hostname.
 fn assert_first(rt: &impl Abort, alloc: Global, core: &Core<PlainTree>) {
-    assert_eq!(rt; first_text(rt, core, alloc, "r1"), (1, true, 1000));
-    assert_eq!(rt; core.entries().len(), 1);
+    assert!(rt; first_text(rt, core, alloc, "r1") == (1, true, 1000));
+    assert!(rt; core.entries().len() == 1);
 }
 
 /// Behind a Set of the hostname the others are refused, and only its entry stands.
@@ -238,7 +246,9 @@ fn assert_first_alone(rt: &impl Abort, alloc: Global, core: &mut Core<PlainTree>
 #[test]
 fn what_is_let_go_or_refused_leaves_nothing(rt: HostRuntime) {
     let alloc = rt.alloc();
-    assert_first_alone(&rt, alloc, &mut core_of(&rt, alloc, ROOMY));
+    let mut core = core_of(&rt, alloc, ROOMY);
+    assert_first_alone(&rt, alloc, &mut core);
+    drop(core);
 }
 
 /// A delete of all that the update doesn't set anew.
@@ -255,7 +265,7 @@ fn accept_old(rt: &impl Abort, alloc: Global, core: &mut Core<PlainTree>, word: 
 fn accept_deletes(rt: &impl Abort, alloc: Global, core: &mut Core<PlainTree>) {
     let ask = ask_of(rt, alloc, core.schema(), DELETED, Asked::Set).expect(rt, "an ask");
     accept(rt, core, alloc, 1000, ask);
-    assert_eq!(rt; first_text(rt, core, alloc, "new"), (1, true, 1002));
+    assert!(rt; first_text(rt, core, alloc, "new") == (1, true, 1002));
 }
 
 fn accept_old_and_deletes(rt: &impl Abort, alloc: Global, core: &mut Core<PlainTree>) {
@@ -267,7 +277,9 @@ fn accept_old_and_deletes(rt: &impl Abort, alloc: Global, core: &mut Core<PlainT
 #[test]
 fn deletes_come_before_updates(rt: HostRuntime) {
     let alloc = rt.alloc();
-    accept_old_and_deletes(&rt, alloc, &mut core_of(&rt, alloc, ROOMY));
+    let mut core = core_of(&rt, alloc, ROOMY);
+    accept_old_and_deletes(&rt, alloc, &mut core);
+    drop(core);
 }
 
 /// How many octets the hostname has under these limits, with the refusal of the Set.
@@ -282,14 +294,17 @@ const SIZES: &[(Limits, u32, Option<Refusal>)] = &[
 /// What a Set of a hostname of so many octets is refused for over a tree without rows, if it is.
 fn refusal_of_long(rt: &impl Abort, alloc: Global, limits: Limits, size: u32) -> Option<Refusal> {
     let ask = set_long(rt, alloc, size);
-    refused(rt, &mut core_of(rt, alloc, limits), alloc, ask)
+    let mut core = core_of(rt, alloc, limits);
+    let refusal = refused(rt, &mut core, alloc, ask);
+    drop(core);
+    refusal
 }
 
 #[test]
 fn trees_and_logs_have_limits(rt: HostRuntime) {
     for (limits, size, refusal) in SIZES {
         let found = refusal_of_long(&rt, rt.alloc(), *limits, *size);
-        assert_eq!(rt; found, *refusal, "{size} octets");
+        assert!(rt; found == *refusal, "{size} octets");
     }
 }
 
@@ -300,7 +315,7 @@ fn accept_nothing(rt: &impl Abort, alloc: Global, core: &mut Core<PlainTree>) {
 /// A log that has no room refuses a Set, unless the tree is invalid.
 fn assert_full(rt: &impl Abort, alloc: Global, core: &mut Core<PlainTree>) {
     let found = refused(rt, core, alloc, set_nothing(rt, alloc));
-    assert_eq!(rt; found, Some(Refusal::LogFull));
+    assert!(rt; found == Some(Refusal::LogFull));
     let invalid = ("contact", "\"x\"", Some(Refusal::TreeInvalid));
     assert_refused(rt, alloc, core, invalid);
 }
@@ -315,5 +330,7 @@ fn assert_full_behind_two(rt: &impl Abort, alloc: Global, core: &mut Core<PlainT
 #[test]
 fn a_log_of_two_entries_is_full(rt: HostRuntime) {
     let alloc = rt.alloc();
-    assert_full_behind_two(&rt, alloc, &mut core_of(&rt, alloc, NARROW));
+    let mut core = core_of(&rt, alloc, NARROW);
+    assert_full_behind_two(&rt, alloc, &mut core);
+    drop(core);
 }

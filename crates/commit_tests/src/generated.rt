@@ -1,6 +1,6 @@
 use crate::builders::{path_of, schema_of};
 use crate::requests::{Asked, Changed, NOTHING, ask_of, step};
-use base_kinds::{Entries, Entry, LONGEST_DURATION, Limits, Paths, Refusal, View};
+use base_kinds::{Ask, Entries, Entry, LONGEST_DURATION, Limits, Paths, Refusal, View};
 use commit_core::Core;
 use plain_tree::PlainTree;
 use reference_model::{duration_of, stamp_of, step_of, world_of};
@@ -94,13 +94,33 @@ fn expected(
     asked: (Asked, Changed),
 ) -> Result<u64, Refusal> {
     let schema = schema_of(rt, alloc, SCHEMA);
-    let ask = ask_of(rt, alloc, &schema, asked.1, asked.0)?;
+    let ask = ask_of(rt, alloc, &schema, asked.1, asked.0);
+    drop(schema);
+    match ask {
+        Ok(ask) => model_step(rt, alloc, limits, model, now, ask),
+        Err(refusal) => Err(refusal),
+    }
+}
+
+/// What the ask becomes in the model, whose entries go on.
+fn model_step(
+    rt: &impl Abort,
+    alloc: Global,
+    limits: &Limits,
+    model: &mut Entries,
+    now: u64,
+    ask: Ask,
+) -> Result<u64, Refusal> {
     assert!(rt; stamp_of(model.items()) < 1 << 62, "an early stamp");
     assert!(rt; duration_of(&ask) <= LONGEST_DURATION, "a short trial");
-    let entry = step_of(alloc, limits, model, now, 1, ask)?;
-    let stamp = entry.stamp;
-    model.push(entry).expect(rt, "memory");
-    Ok(stamp)
+    match step_of(alloc, limits, model, now, 1, ask) {
+        Ok(entry) => {
+            let stamp = entry.stamp;
+            model.push(entry).expect(rt, "memory");
+            Ok(stamp)
+        }
+        Err(refusal) => Err(refusal),
+    }
 }
 
 /// Compares the answers to an ask.
@@ -145,7 +165,9 @@ fn compare_events(
 /// Whether the rows of a view are those behind these entries.
 fn has_tree(rt: &impl Abort, alloc: Global, view: &View, model: &Entries) -> bool {
     let world = world_of(alloc, model.items()).expect(rt, "memory");
-    view.rows == world.tree
+    let is_same = view.rows == world.tree;
+    drop(world);
+    is_same
 }
 
 /// All rows.
@@ -158,13 +180,21 @@ fn view_of(rt: &impl Abort, alloc: Global, core: &Core<PlainTree>) -> View {
 /// The entries and the tree behind them are those of the model.
 fn assert_same(rt: &impl Abort, alloc: Global, core: &Core<PlainTree>, model: &Entries) {
     let view = view_of(rt, alloc, core);
-    assert!(rt; has_tree(rt, alloc, &view, model), "the tree");
+    let is_same = has_tree(rt, alloc, &view, model);
+    drop(view);
+    assert!(rt; is_same, "the tree");
     assert!(rt; core.entries() == model.items(), "the entries");
 }
 
 /// How many entries are those of expired trials.
 fn expired(entries: &[Entry]) -> usize {
-    entries.iter().filter(|entry| entry.author == 0).count()
+    let mut count = 0usize;
+    for entry in entries {
+        if entry.author == 0 {
+            count = count.saturating_add(1);
+        }
+    }
+    count
 }
 
 /// Compares the answers to so many generated events, and the entries and the tree behind them. The number of trials that
@@ -181,7 +211,10 @@ fn compare(
     let mut model = Entries::empty(alloc);
     compare_events(rt, alloc, generator, &limits, &mut core, &mut model, rounds);
     assert_same(rt, alloc, &core, &model);
-    expired(model.items())
+    drop(core);
+    let count = expired(model.items());
+    drop(model);
+    count
 }
 
 #[test]

@@ -75,7 +75,9 @@ pub fn resolved(
         action,
         unsupported: false,
     };
-    resolve(alloc, schema, &request)
+    let resolved = resolve(alloc, schema, &request);
+    drop(request);
+    resolved
 }
 
 fn paths_of(rt: &impl Abort, alloc: Global, texts: &[&str]) -> Paths {
@@ -137,10 +139,14 @@ pub fn step(
         author > 0 && !core.due(now),
         "nothing is due behind the event of the clock"
     );
-    let entry = core.judge(alloc, now, author, ask)?;
-    let stamp = entry.stamp;
-    core.take(entry);
-    Ok(stamp)
+    match core.judge(alloc, now, author, ask) {
+        Ok(entry) => {
+            let stamp = entry.stamp;
+            core.take(entry);
+            Ok(stamp)
+        }
+        Err(refusal) => Err(refusal),
+    }
 }
 
 /// The number, the author and the stamp of an entry.

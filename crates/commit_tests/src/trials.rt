@@ -50,7 +50,8 @@ fn answer(
 
 fn walk(rt: &impl Abort, alloc: Global, core: &mut Core<PlainTree>, lines: &[Line]) {
     for (at, line) in lines.iter().enumerate() {
-        assert_eq!(rt; answer(rt, alloc, core, *line), line.answer, "line {at}");
+        let found = answer(rt, alloc, core, *line);
+        assert!(rt; found == line.answer, "line {at}");
     }
 }
 
@@ -102,6 +103,13 @@ fn rows_of(rt: &impl Abort, alloc: Global, core: &Core<PlainTree>) -> View {
     core.look(alloc, &patterns).expect(rt, "memory")
 }
 
+fn row_count(rt: &impl Abort, alloc: Global, core: &Core<PlainTree>) -> usize {
+    let view = rows_of(rt, alloc, core);
+    let count = view.rows.len();
+    drop(view);
+    count
+}
+
 /// No trial is open behind this last entry, and there are so many rows.
 fn assert_closed(
     rt: &impl Abort,
@@ -110,8 +118,8 @@ fn assert_closed(
     last: (u64, u32, u64),
     rows: usize,
 ) {
-    assert_eq!(rt; core.entries().last().map(marks_of), Some(last));
-    assert_eq!(rt; rows_of(rt, alloc, core).rows.len(), rows);
+    assert!(rt; core.entries().last().map(marks_of) == Some(last));
+    assert!(rt; row_count(rt, alloc, core) == rows);
     assert!(rt; !core.is_trial_open());
 }
 
@@ -132,47 +140,43 @@ fn assert_closed_behind(
 fn a_trial_ends_at_its_deadline(rt: HostRuntime) {
     let alloc = rt.alloc();
     for (lines, last, rows) in DEADLINES {
-        assert_closed_behind(
-            &rt,
-            alloc,
-            &mut new_core(&rt, alloc, LIMITS),
-            lines,
-            *last,
-            *rows,
-        );
+        let mut core = new_core(&rt, alloc, LIMITS);
+        assert_closed_behind(&rt, alloc, &mut core, lines, *last, *rows);
+        drop(core);
     }
 }
 
-/// A Set, a trial over it with other values and a delete, and its cancel.
-const CANCELLED: &[Line] = &[
-    Line {
-        now: 1000,
-        changed: Changed {
-            deletes: &[],
-            updates: &[
-                ("/system/config", "{\"hostname\":\"a\",\"motd\":\"m\"}"),
-                ("/lab/big", "\"5\""),
-            ],
-        },
-        asked: Asked::Set,
-        answer: Ok(1000),
+const SET: &[Line] = &[Line {
+    now: 1000,
+    changed: Changed {
+        deletes: &[],
+        updates: &[
+            ("/system/config", "{\"hostname\":\"a\",\"motd\":\"m\"}"),
+            ("/lab/big", "\"5\""),
+        ],
     },
-    Line {
-        now: 1000,
-        changed: Changed {
-            deletes: &["/lab"],
-            updates: &[("/system/config", "{\"hostname\":\"b\",\"motd\":\"n\"}")],
-        },
-        asked: Asked::Trial("t", 60),
-        answer: Ok(1001),
+    asked: Asked::Set,
+    answer: Ok(1000),
+}];
+
+/// A trial over it with other values and a delete.
+const TRIED: &[Line] = &[Line {
+    now: 1000,
+    changed: Changed {
+        deletes: &["/lab"],
+        updates: &[("/system/config", "{\"hostname\":\"b\",\"motd\":\"n\"}")],
     },
-    Line {
-        now: 1000,
-        changed: NOTHING,
-        asked: Asked::Cancel("t"),
-        answer: Ok(1002),
-    },
-];
+    asked: Asked::Trial("t", 60),
+    answer: Ok(1001),
+}];
+
+/// The cancel of the trial.
+const CANCELLED: &[Line] = &[Line {
+    now: 1000,
+    changed: NOTHING,
+    asked: Asked::Cancel("t"),
+    answer: Ok(1002),
+}];
 
 const CANCELLED_AGAIN: &[Line] = &[Line {
     now: 1000,
@@ -183,31 +187,36 @@ const CANCELLED_AGAIN: &[Line] = &[Line {
 
 /// The rows are the three of this view again, behind an entry with this stamp.
 fn assert_back(rt: &impl Abort, before: &View, after: &View, stamp: u64) {
-    assert_eq!(rt; after.stamp, stamp);
-    assert_eq!(rt; before.rows.len(), 3);
+    assert!(rt; after.stamp == stamp);
+    assert!(rt; before.rows.len() == 3);
     assert!(rt; after.rows == before.rows);
 }
 
-/// Of the three lines the trial leaves two rows, and its cancel those of before.
+/// The trial leaves two rows, and its cancel those of before.
 fn assert_cancelled(rt: &impl Abort, alloc: Global, core: &mut Core<PlainTree>, before: &View) {
-    walk(rt, alloc, core, &CANCELLED[1..2]);
-    assert_eq!(rt; rows_of(rt, alloc, core).rows.len(), 2);
-    walk(rt, alloc, core, &CANCELLED[2..]);
-    assert_back(rt, before, &rows_of(rt, alloc, core), 1002);
+    walk(rt, alloc, core, TRIED);
+    assert!(rt; row_count(rt, alloc, core) == 2);
+    walk(rt, alloc, core, CANCELLED);
+    let after = rows_of(rt, alloc, core);
+    assert_back(rt, before, &after, 1002);
+    drop(after);
 }
 
 /// A trial over a Set is cancelled once.
 fn assert_cancelled_once(rt: &impl Abort, alloc: Global, core: &mut Core<PlainTree>) {
-    walk(rt, alloc, core, &CANCELLED[..1]);
+    walk(rt, alloc, core, SET);
     let before = rows_of(rt, alloc, core);
     assert_cancelled(rt, alloc, core, &before);
+    drop(before);
     walk(rt, alloc, core, CANCELLED_AGAIN);
 }
 
 #[test]
 fn a_cancel_brings_the_tree_back(rt: HostRuntime) {
     let alloc = rt.alloc();
-    assert_cancelled_once(&rt, alloc, &mut new_core(&rt, alloc, LIMITS));
+    let mut core = new_core(&rt, alloc, LIMITS);
+    assert_cancelled_once(&rt, alloc, &mut core);
+    drop(core);
 }
 
 /// What is refused while a trial is open, and before.
@@ -283,13 +292,15 @@ fn assert_walked(
     count: usize,
 ) {
     walk(rt, alloc, core, lines);
-    assert_eq!(rt; core.entries().len(), count);
+    assert!(rt; core.entries().len() == count);
 }
 
 #[test]
 fn trials_are_refused_for_their_causes(rt: HostRuntime) {
     let alloc = rt.alloc();
-    assert_walked(&rt, alloc, &mut new_core(&rt, alloc, LIMITS), REFUSED, 1);
+    let mut core = new_core(&rt, alloc, LIMITS);
+    assert_walked(&rt, alloc, &mut core, REFUSED, 1);
+    drop(core);
 }
 
 /// The clock goes back, and an extend counts from its own stamp.
@@ -323,7 +334,9 @@ const EXTENDED: &[Line] = &[
 #[test]
 fn an_extend_counts_from_its_own_stamp(rt: HostRuntime) {
     let alloc = rt.alloc();
-    assert_walked(&rt, alloc, &mut new_core(&rt, alloc, LIMITS), EXTENDED, 4);
+    let mut core = new_core(&rt, alloc, LIMITS);
+    assert_walked(&rt, alloc, &mut core, EXTENDED, 4);
+    drop(core);
 }
 
 /// The entries of a trial that has begun.
@@ -338,12 +351,12 @@ fn begun(rt: &impl Abort, alloc: Global) -> Entries
 /// The restart of an open trial is its second entry, and leaves no row.
 fn assert_restarted(rt: &impl Abort, alloc: Global, core: &mut Core<PlainTree>) {
     assert!(rt; core.is_trial_open());
-    assert_eq!(rt; rows_of(rt, alloc, core).rows.len(), 1);
+    assert!(rt; row_count(rt, alloc, core) == 1);
     core.take(core.restart(1000));
-    assert_eq!(rt; core.entries().last().map(marks_of), Some((2, 0, 1001)));
-    assert!(rt; rows_of(rt, alloc, core).rows.is_empty());
+    assert!(rt; core.entries().last().map(marks_of) == Some((2, 0, 1001)));
+    assert!(rt; row_count(rt, alloc, core) == 0);
     pass(core, u64::MAX);
-    assert_eq!(rt; core.entries().len(), 2);
+    assert!(rt; core.entries().len() == 2);
 }
 
 /// A core without entries has replayed these, and is restarted.
@@ -359,5 +372,7 @@ fn assert_replayed(rt: &impl Abort, alloc: Global, core: &mut Core<PlainTree>, e
 fn a_restart_ends_a_trial_that_was_replayed(rt: HostRuntime) {
     let alloc = rt.alloc();
     let entries = begun(&rt, alloc);
-    assert_replayed(&rt, alloc, &mut new_core(&rt, alloc, LIMITS), entries);
+    let mut core = new_core(&rt, alloc, LIMITS);
+    assert_replayed(&rt, alloc, &mut core, entries);
+    drop(core);
 }
