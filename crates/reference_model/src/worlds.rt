@@ -60,7 +60,7 @@ pub fn world_after(alloc: Global, kind: &Kind, world: PlainWorld) -> Result<Plai
         }
         Kind::Trial(id, ops, deadline) => {
             drop(trial);
-            tried(alloc, id, ops, *deadline, tree)
+            world_with_trial(alloc, id, ops, *deadline, tree)
         }
         Kind::Confirm => {
             drop(trial);
@@ -78,7 +78,7 @@ pub fn world_after(alloc: Global, kind: &Kind, world: PlainWorld) -> Result<Plai
 }
 
 /// The tree and the trial that these operations begin, with this tree before it.
-fn tried(
+fn world_with_trial(
     alloc: Global,
     id: &Text,
     ops: &Ops,
