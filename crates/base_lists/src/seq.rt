@@ -114,6 +114,19 @@ impl<T: Copy> Seq<T> {
     }
 }
 
+impl<T: Copied + Drop> Seq<T> {
+    /// Adds a copy of the item at the end.
+    pub fn push_copy(&mut self, alloc: Global, item: &T) -> Result<(), NoMemory>
+        ensures ok { OnOk result (self.new ≡ self.old ++ item.now ∷ []) }
+        ensures err { OnErr result (self.new ≡ self.old) }
+    {
+        match item.copy(alloc) {
+            Ok(copy) => self.push(copy),
+            Err(NoMemory) => Err(NoMemory),
+        }
+    }
+}
+
 impl Copied for u8 {
     fn copy(&self, _alloc: Global) -> Result<u8, NoMemory> {
         Ok(*self)

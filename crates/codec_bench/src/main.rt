@@ -21,7 +21,7 @@ use std::io;
 enum Asked {
     Each,
     One(Codec, u32),
-    Neither,
+    BadWords,
 }
 
 fn main(rt: HostRuntime) -> io::Result<()> {
@@ -31,7 +31,7 @@ fn main(rt: HostRuntime) -> io::Result<()> {
     match asked {
         Asked::Each => run_each(rt.alloc(), &rt),
         Asked::One(codec, rounds) => run(rt.alloc(), &rt, codec, rounds),
-        Asked::Neither => {
+        Asked::BadWords => {
             eprintln!(rt; "usage: codec_bench [CODEC ROUNDS]")?;
             Err(io::Error::from(io::ErrorKind::InvalidInput))
         }
@@ -48,7 +48,7 @@ fn asked_in(words: &mut Args<Global>) -> Asked {
     drop(name);
     match (codec, rounds_in(words)) {
         (Some(codec), Some(rounds)) => Asked::One(codec, rounds),
-        _ => Asked::Neither,
+        _ => Asked::BadWords,
     }
 }
 

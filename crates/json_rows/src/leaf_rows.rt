@@ -63,18 +63,9 @@ fn put_copies(alloc: Global, above: &Path, elems: &mut Path) -> Result<(), NoMem
     ensures { OnOk result (elems.new ≡ elems.old ++ above.now) }
 {
     for elem in above.items() {
-        put_copy(alloc, elem, elems)?;
+        elems.push_copy(alloc, elem)?;
     }
     Ok(())
-}
-
-fn put_copy(alloc: Global, elem: &Elem, elems: &mut Path) -> Result<(), NoMemory>
-    ensures { OnOk result (elems.new ≡ elems.old ++ elem.now ∷ []) }
-{
-    match elem.copy(alloc) {
-        Ok(copy) => elems.push(copy),
-        Err(NoMemory) => Err(NoMemory),
-    }
 }
 
 fn put_elem(alloc: Global, name: &str, keys: Keys, elems: &mut Path) -> Result<(), NoMemory>

@@ -1,5 +1,5 @@
 // A path behind a prefix (gNMI 2.4.1).
-ghost use Rattle.std.specs.Prelude.{◌≡◌, ◌+◌, ◌<◌, ◌++◌, ◌∷◌, [], ◌↔◌, length, IfOk, OnOk, IsErrOf};
+ghost use Rattle.std.specs.Prelude.{◌≡◌, ◌+◌, ◌<◌, ◌++◌, ◌↔◌, length, IfOk, OnOk, IsErrOf};
 
 use crate::fault::PathFault;
 use base_kinds::{Copied, Elem, NoMemory, Path};
@@ -12,18 +12,9 @@ fn push_copies(alloc: Global, elems: &[Elem], path: &mut Path) -> Result<(), NoM
     ensures { OnOk result (path.new ≡ path.old ++ elems.now) }
 {
     for elem in elems {
-        push_copy(alloc, elem, path)?;
+        path.push_copy(alloc, elem)?;
     }
     Ok(())
-}
-
-fn push_copy(alloc: Global, elem: &Elem, path: &mut Path) -> Result<(), NoMemory>
-    ensures { OnOk result (path.new ≡ path.old ++ elem.now ∷ []) }
-{
-    match elem.copy(alloc) {
-        Ok(copy) => path.push(copy),
-        Err(NoMemory) => Err(NoMemory),
-    }
 }
 
 /// The prefix's elements and then the path's, at most 32 together.

@@ -5,11 +5,10 @@ ghost use Rattle.schema_text.specs.Grammar.{module_line, container_line, path_an
 
 use crate::line::{Declared, Line};
 use crate::numbers::number_up_to;
-use crate::octets::is_word;
 use crate::shapes::read_shape;
 use crate::texts::{read_keys, read_path};
 use base_kinds::{MOST_MAXIMUM, NoMemory, Shape, Texts};
-use plain_texts::{Parts, name_text};
+use plain_texts::{Parts, is_word, name_text};
 use std::alloc::Global;
 
 /// `NAME` of a module.

@@ -1,17 +1,9 @@
 // Tests of octets.
 ghost use Rattle.std.specs.Prelude.{◌≡◌, ◌++◌, List, ℕ, MatchOption};
 ghost use Rattle.std.specs.List.{list_all};
-ghost use Rattle.std.specs.Str.{bytes_eq};
 ghost use Rattle.schema_core.specs.Shapes.{is_in_enum, is_enum_text};
 
 use plain_texts::is_in_name;
-
-/// Whether the octets are this word.
-pub(crate) fn is_word(octets: &[u8], word: &[u8]) -> bool
-    ensures { result ≡ bytes_eq octets.now word.now }
-{
-    octets == word
-}
 
 fn is_in_enum(octet: u8) -> bool
     ensures { result ≡ is_in_enum octet }

@@ -3,9 +3,10 @@ ghost use Rattle.std.specs.Prelude.{◌≡◌, IfOk};
 ghost use Rattle.schema_text.specs.Words.{word_shape, integer_shape, decimal_shape, enum_shape, shape_of};
 
 use crate::numbers::number_up_to;
-use crate::octets::{after, before, is_word};
+use crate::octets::{after, before};
 use crate::texts::read_enum_texts;
 use base_kinds::{NoMemory, Shape};
+use plain_texts::is_word;
 use schema_core::MOST_PLACES;
 use std::alloc::Global;
 

@@ -2,7 +2,8 @@
 ghost use Rattle.script_text.specs.Words.{IsKeyword};
 
 use crate::line::LineFault;
-use crate::words::{Word, is_word};
+use crate::words::Word;
+use plain_texts::is_word;
 use std::alloc::Global;
 
 /// The first word of a line.

@@ -1,21 +1,13 @@
 // The words of a line: what each kind says.
 ghost use Rattle.std.specs.Prelude.{◌≡◌, IfOk, IsErrOf, List, ℕ};
-ghost use Rattle.std.specs.Str.{bytes_eq};
 ghost use Rattle.path_core.specs.PathText.{IsPathText, IsValueText};
 ghost use Rattle.script_text.specs.Words.{IsNumber, IsAuthor, IsName, IsSpan, IsSubMode, IsListMode, IsFlag, IsFill};
 
 use crate::line::LineFault;
 use base_kinds::{Fill, ListMode, Path, Span, SubMode, Text};
 use path_core::{PathFault, read_path_text, read_value_text};
-use plain_texts::{name_text, natural_of};
+use plain_texts::{is_word, name_text, natural_of};
 use std::alloc::Global;
-
-/// Whether the octets are this word.
-pub(crate) fn is_word(octets: &[u8], word: &[u8]) -> bool
-    ensures { result ≡ bytes_eq octets.now word.now }
-{
-    octets == word
-}
 
 /// A kind of word.
 pub(crate) trait Word {

@@ -33,16 +33,6 @@ pub(crate) fn key_leaves_of(alloc: Global, schema: &Schema, path: &Path) -> Resu
     }
 }
 
-/// Adds a copy of the element.
-fn put_copy(alloc: Global, elem: &Elem, path: &mut Path) -> Result<(), NoMemory>
-    ensures { OnOk result (path.new ≡ path.old ++ elem.now ∷ []) }
-{
-    match elem.copy(alloc) {
-        Ok(copy) => path.push(copy),
-        Err(NoMemory) => Err(NoMemory),
-    }
-}
-
 /// Adds the key leaves of the elements behind the entry, which grows by them.
 #[tactic(auto, using(crate::proofs::Traversals::none_behind))]
 fn push_elems(
@@ -58,7 +48,7 @@ fn push_elems(
         → key_leaves_from schema.now entry.old elems.now ≡ Err refusal) }
 {
     for elem in elems {
-        put_copy(alloc, elem, entry)?;
+        entry.push_copy(alloc, elem)?;
         match push_elem(alloc, schema, entry, elem, rows) {
             Ok(()) => {}
             Err(refusal) => return Err(refusal),

@@ -53,7 +53,7 @@ fn few_values(rows: &[Row], names: &[Text], most: u32) -> bool
     ensures { result ≡ few_values most rows.now names.now }
 {
     for row in rows {
-        if !is_few(row, names, most) {
+        if !row_in_maximum(row, names, most) {
             return false;
         }
     }
@@ -61,7 +61,7 @@ fn few_values(rows: &[Row], names: &[Text], most: u32) -> bool
 }
 
 /// Whether the row has so many values at most, where it is of the leaf-list with these names.
-fn is_few(row: &Row, names: &[Text], most: u32) -> bool
+fn row_in_maximum(row: &Row, names: &[Text], most: u32) -> bool
     ensures { result ≡ (not (same_names (names_of row.now.path) names.now)
         || nat_le (length (values_in row.now.value)) most) }
 {

@@ -65,18 +65,9 @@ fn put_scaled(alloc: Global, number: u64, places: u8, out: &mut Bytes) -> Result
 {
     let mut digits = vec![in alloc; b'0'; places as usize]?;
     let whole = split_digits(number, digits.as_mut_slice());
-    let outcome = put_parts(alloc, whole, fraction_of(digits.as_slice()), out);
-    drop(digits);
-    outcome
-}
-
-/// Adds the number, a point, and the fraction.
-fn put_parts(alloc: Global, whole: u64, fraction: &[u8], out: &mut Bytes) -> Result<(), NoMemory>
-    ensures { OnOk result (out.new ≡ out.old ++ (decimal whole ++ (46 ∷ fraction.now))) }
-{
     put_natural(alloc, whole, out)?;
     out.push(b'.')?;
-    out.extend_from_slice(fraction)
+    out.extend_from_slice(fraction_of(digits.as_slice()))
 }
 
 /// Writes the last digits of the number over these, and gives what stands before them.

@@ -65,12 +65,12 @@ fn few_values(most: u32, rows: &[Row], names: &[Text]) -> bool
 {
     match rows.split_first() {
         None => true,
-        Some((row, others)) => is_few(most, row, names) && few_values(most, others, names),
+        Some((row, others)) => row_in_maximum(most, row, names) && few_values(most, others, names),
     }
 }
 
 /// Whether a row of the leaf-list with these names has so many values at most.
-fn is_few(most: u32, row: &Row, names: &[Text]) -> bool
+fn row_in_maximum(most: u32, row: &Row, names: &[Text]) -> bool
     ensures { result ≡ (not (same_names (names_of row.now.path) names.now)
         || nat_le (length (values_in row.now.value)) most) }
 {
@@ -91,12 +91,14 @@ fn few_beside_each(most: u32, all: &[Path], paths: &[Path]) -> bool
 {
     match paths.split_first() {
         None => true,
-        Some((path, others)) => { few_with(most, all, path) && few_beside_each(most, all, others) }
+        Some((path, others)) => {
+            few_beside_path(most, all, path) && few_beside_each(most, all, others)
+        }
     }
 }
 
 /// Whether so many of the paths at most have the same path above them as this one.
-fn few_with(most: u32, paths: &[Path], path: &Path) -> bool
+fn few_beside_path(most: u32, paths: &[Path], path: &Path) -> bool
     ensures { let beside = filter
         (λ other. same_path (parent_of other) (parent_of path.now)) paths.now in
         result ≡ nat_le (length beside) most }

@@ -12,7 +12,7 @@ loop-elem-preserved c =
     let schema = c.args.schema.now in
     let rest = drop (at + 1) elems in
     let here : drop at elems ≡ elem ∷ rest = drop_more elems at elem (omega arith) ∙ ap (λ first. first ∷ rest) (sym c.elem-item.is) in
-    way_more schema c.loop-elem.entry c.put_copy.new.path c.loop-elem.rows c.push_elem.new.rows elem elem rest (drop at elems) here c.in_ok-put_copy.ensures refl c.in-Ok.ensures.ok
+    way_more schema c.loop-elem.entry c.push_copy.new.self c.loop-elem.rows c.push_elem.new.rows elem elem rest (drop at elems) here c.in_ok-push_copy.ensures.ok refl c.in-Ok.ensures.ok
     ∙ c.loop-elem.invariant
 
 pub returns-in-Err-clause-refused : goal.returns-in-Err-clause-refused
@@ -25,4 +25,4 @@ returns-in-Err-clause-refused c known =
     let here : drop at elems ≡ elem ∷ rest = drop_more elems at elem (omega arith) ∙ ap (λ first. first ∷ rest) (sym c.elem-item.is) in
     refused_so c.args.rows.now (key_leaves_from schema c.args.entry.now elems) c.in-Err.refusal
     (sym c.loop-elem.invariant
-    ∙ way_refused schema c.loop-elem.entry c.put_copy.new.path c.loop-elem.rows elem elem rest (drop at elems) c.in-Err.refusal here c.in_ok-put_copy.ensures refl (c.in-Err.ensures.refused known))
+    ∙ way_refused schema c.loop-elem.entry c.push_copy.new.self c.loop-elem.rows elem elem rest (drop at elems) c.in-Err.refusal here c.in_ok-push_copy.ensures.ok refl (c.in-Err.ensures.refused known))
