@@ -45,7 +45,8 @@ fn get_requests_of_clients(rt: HostRuntime) -> Result<(), Fail> {
 #[test]
 fn what_is_no_get_request(rt: HostRuntime) -> Result<(), Fail> {
     for octets in &BAD_GETS {
-        assert!(rt; read_get(rt.alloc(), octets).err() == Some(MsgFault::BadMessage));
+        let fault = read_get(rt.alloc(), octets).err();
+        assert!(rt; fault == Some(MsgFault::BadMessage), "{octets:?}");
     }
     Ok(())
 }

@@ -56,10 +56,14 @@ fn replies_echo_prefix_and_paths(rt: HostRuntime) -> Result<(), Fail> {
 #[test]
 fn what_is_no_set_request(rt: HostRuntime) -> Result<(), Fail> {
     for octets in &BAD_SETS {
-        assert!(rt; read_set(rt.alloc(), octets).err() == Some(MsgFault::BadMessage));
+        let fault = read_set(rt.alloc(), octets).err();
+        assert!(rt; fault == Some(MsgFault::BadMessage), "{octets:?}");
         let mut out = Bytes::empty(rt.alloc());
         let replied = write_set_reply(rt.alloc(), octets, 1000, &mut out);
-        assert!(rt; replied == Err(MsgFault::BadMessage) && out.is_empty());
+        assert!(rt;
+            replied == Err(MsgFault::BadMessage) && out.is_empty(),
+            "{octets:?}"
+        );
     }
     Ok(())
 }
@@ -100,6 +104,11 @@ fn parts_of_a_request(rt: HostRuntime) -> Result<(), Fail> {
     let update = Update::read(rt.alloc(), b"")?;
     assert!(rt; matches!(update.given, Given::Missing));
     assert!(rt; update.path.path.is_empty() && !update.path.old_element);
-    assert!(rt; matches!(read_extension(rt.alloc(), b"\x0a\x00"), Ok(Extension::Other)));
+    assert!(rt;
+        matches!(
+            read_extension(rt.alloc(), b"\x0a\x00"),
+            Ok(Extension::Other)
+        )
+    );
     Ok(())
 }

@@ -55,7 +55,8 @@ fn subscribe_requests_of_clients(rt: HostRuntime) -> Result<(), Fail> {
 #[test]
 fn what_is_no_subscribe_request(rt: HostRuntime) -> Result<(), Fail> {
     for octets in &BAD_SUBS {
-        assert!(rt; read_sub(rt.alloc(), octets).err() == Some(MsgFault::BadMessage));
+        let fault = read_sub(rt.alloc(), octets).err();
+        assert!(rt; fault == Some(MsgFault::BadMessage), "{octets:?}");
     }
     Ok(())
 }

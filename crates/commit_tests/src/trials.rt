@@ -118,9 +118,15 @@ fn assert_closed(
     last: (u64, u32, u64),
     rows: usize,
 ) {
-    assert!(rt; core.entries().last().map(marks_of) == Some(last));
-    assert!(rt; row_count(rt, alloc, core) == rows);
-    assert!(rt; !core.is_trial_open());
+    assert!(rt;
+        core.entries().last().map(marks_of) == Some(last),
+        "{last:?}"
+    );
+    assert!(rt;
+        row_count(rt, alloc, core) == rows,
+        "{rows} rows behind {last:?}"
+    );
+    assert!(rt; !core.is_trial_open(), "{last:?}");
 }
 
 /// Behind these lines no trial is open, this entry is the last, and there are so many rows.
@@ -146,6 +152,7 @@ fn a_trial_ends_at_its_deadline(rt: HostRuntime) {
     }
 }
 
+/// A Set of three leaves.
 const SET: &[Line] = &[Line {
     now: 1000,
     changed: Changed {
@@ -159,7 +166,7 @@ const SET: &[Line] = &[Line {
     answer: Ok(1000),
 }];
 
-/// A trial over it with other values and a delete.
+/// A trial over that Set, with other values and a delete.
 const TRIED: &[Line] = &[Line {
     now: 1000,
     changed: Changed {
