@@ -2,7 +2,7 @@
 //! tests hold faster programs against. It shares no body with them, and so no mistake.
 //!
 //! Start at `effect` (trees.rt), `step_of` (steps.rt) and `is_valid` (validity.rt), each beside its definition in
-//! base_kinds/specs: Tree, Step, Valid. Called by tree_tests alone.
+//! base_kinds/specs: Tree, Step, Valid. Called by tree_tests and commit_tests alone.
 #![tactic(auto)]
 
 mod key_texts;

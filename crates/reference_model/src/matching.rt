@@ -81,16 +81,17 @@ fn has_key(keys: &[(Text, Text)], key: &(Text, Text)) -> bool
 {
     match keys.split_first() {
         None => false,
-        Some((other, others)) => is_pair(key, other) || has_key(others, key),
+        Some((other, others)) => is_same_key(key, other) || has_key(others, key),
     }
 }
 
-fn is_pair(key: &(Text, Text), other: &(Text, Text)) -> bool
+fn is_same_key(key: &(Text, Text), other: &(Text, Text)) -> bool
     ensures { result ≡ (bytes_eq key.now.0 other.now.0 && bytes_eq key.now.1 other.now.1) }
 {
     is_text(&key.0, other.0.octets()) && is_text(&key.1, other.1.octets())
 }
 
+/// Whether the text has these octets.
 pub(crate) fn is_text(text: &Text, octets: &[u8]) -> bool
     ensures { result ≡ bytes_eq text.now octets.now }
 {

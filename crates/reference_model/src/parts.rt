@@ -3,7 +3,6 @@ ghost use Rattle.std.specs.Prelude.{◌≡◌, ◌++◌, IfOk, OnOk};
 ghost use Rattle.base_kinds.specs.Parts.{is_covered, part};
 
 use crate::matching::covers;
-use crate::trees::put_copy;
 use base_kinds::{NoMemory, Path, Paths, Row, Rows, Seq};
 use std::alloc::Global;
 
@@ -44,7 +43,7 @@ fn put_part(alloc: Global, patterns: &Paths, rows: &[Row], found: &mut Rows) -> 
         return Ok(());
     };
     if is_covered(patterns, &row.path) {
-        put_copy(alloc, row, found)?;
+        found.push_copy(alloc, row)?;
     }
     put_part(alloc, patterns, others, found)
 }

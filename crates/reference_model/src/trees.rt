@@ -1,5 +1,5 @@
 // What the operations of a Set do to a tree.
-ghost use Rattle.std.specs.Prelude.{◌≡◌, ◌++◌, ◌∷◌, [], IfOk, OnOk};
+ghost use Rattle.std.specs.Prelude.{◌≡◌, ◌++◌, IfOk, OnOk};
 ghost use Rattle.base_kinds.specs.Tree.{set_row, set_rows, uncovered, op_effect, with_act, in_turn, effect};
 
 use crate::matching::covers;
@@ -37,10 +37,7 @@ fn in_turn(alloc: Global, act: Act, ops: &[Op], tree: Rows) -> Result<Rows, NoMe
     }
     let next = op_effect(alloc, op, &tree);
     drop(tree);
-    match next {
-        Ok(next) => in_turn(alloc, act, others, next),
-        Err(NoMemory) => Err(NoMemory),
-    }
+    in_turn(alloc, act, others, next?)
 }
 
 fn op_effect(alloc: Global, op: &Op, tree: &Rows) -> Result<Rows, NoMemory>
@@ -73,7 +70,7 @@ fn put_uncovered(
         return Ok(());
     };
     if !covers(pattern, &row.path) {
-        put_copy(alloc, row, rest)?;
+        rest.push_copy(alloc, row)?;
     }
     put_uncovered(alloc, pattern, others, rest)
 }
@@ -86,39 +83,26 @@ fn set_rows(alloc: Global, rows: &[Row], tree: Rows) -> Result<Rows, NoMemory>
     };
     let next = set_row(alloc, row, &tree);
     drop(tree);
-    match next {
-        Ok(next) => set_rows(alloc, others, next),
-        Err(NoMemory) => Err(NoMemory),
-    }
-}
-
-/// Adds a copy of the row.
-pub(crate) fn put_copy(alloc: Global, row: &Row, rows: &mut Rows) -> Result<(), NoMemory>
-    ensures { OnOk result (rows.new ≡ rows.old ++ row.now ∷ []) }
-{
-    match row.copy(alloc) {
-        Ok(copy) => rows.push(copy),
-        Err(NoMemory) => Err(NoMemory),
-    }
+    set_rows(alloc, others, next?)
 }
 
 fn put_set(alloc: Global, row: &Row, rows: &[Row], set: &mut Rows) -> Result<(), NoMemory>
     ensures { OnOk result (set.new ≡ set.old ++ set_row row.now rows.now) }
 {
     let Some((first, others)) = rows.split_first() else {
-        return put_copy(alloc, row, set);
+        return set.push_copy(alloc, row);
     };
     match first.path.cmp(&row.path) {
         Ordering::Less => {
-            put_copy(alloc, first, set)?;
+            set.push_copy(alloc, first)?;
             put_set(alloc, row, others, set)
         }
         Ordering::Equal => {
-            put_copy(alloc, row, set)?;
+            set.push_copy(alloc, row)?;
             put_all(alloc, others, set)
         }
         Ordering::Greater => {
-            put_copy(alloc, row, set)?;
+            set.push_copy(alloc, row)?;
             put_all(alloc, rows, set)
         }
     }
@@ -130,6 +114,6 @@ fn put_all(alloc: Global, rows: &[Row], set: &mut Rows) -> Result<(), NoMemory>
     let Some((row, others)) = rows.split_first() else {
         return Ok(());
     };
-    put_copy(alloc, row, set)?;
+    set.push_copy(alloc, row)?;
     put_all(alloc, others, set)
 }

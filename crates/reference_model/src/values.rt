@@ -4,6 +4,7 @@ ghost use Rattle.std.specs.List.{list_any};
 ghost use Rattle.std.specs.Str.{bytes_eq};
 ghost use Rattle.base_kinds.specs.Values.{has_shape, is_list, values_in, same_scalar, all_differ, fits_signed};
 
+use crate::matching::is_text;
 use base_kinds::{Shape, Text, Value};
 
 /// Whether the value is one of a leaf of this shape.
@@ -50,14 +51,14 @@ pub(crate) fn same_scalar(a: &Value, b: &Value) -> bool
         (Value::Int(a), Value::Int(b)) => *a == *b,
         (Value::Uint(a), Value::Uint(b)) => *a == *b,
         (Value::Dec(a, places), Value::Dec(b, others)) => *a == *b && *places == *others,
-        (Value::Text(a), Value::Text(b)) => are_same(a.octets(), b.octets()),
-        (Value::Bin(a), Value::Bin(b)) => are_same(a.items(), b.items()),
-        (Value::Enum(a), Value::Enum(b)) => are_same(a.octets(), b.octets()),
+        (Value::Text(a), Value::Text(b)) => same_octets(a.octets(), b.octets()),
+        (Value::Bin(a), Value::Bin(b)) => same_octets(a.items(), b.items()),
+        (Value::Enum(a), Value::Enum(b)) => same_octets(a.octets(), b.octets()),
         _ => false,
     }
 }
 
-fn are_same(a: &[u8], b: &[u8]) -> bool
+fn same_octets(a: &[u8], b: &[u8]) -> bool
     ensures { result ≡ bytes_eq a.now b.now }
 {
     a == b
@@ -87,9 +88,7 @@ fn is_one_of(text: &Text, texts: &[Text]) -> bool
 {
     match texts.split_first() {
         None => false,
-        Some((other, others)) => {
-            are_same(text.octets(), other.octets()) || is_one_of(text, others)
-        }
+        Some((other, others)) => { is_text(text, other.octets()) || is_one_of(text, others) }
     }
 }
 

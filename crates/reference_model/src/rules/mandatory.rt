@@ -29,18 +29,18 @@ fn stands_below_each(rows: &[Row], names: &[Text]) -> bool
     ensures { result ≡ list_all
         (λ row. list_all (stands_below rows.now names.now) (ancestors row.path)) rows.now }
 {
-    stands_for_each(rows, names, rows)
+    stands_below_each_of(rows, names, rows)
 }
 
 /// The same of the instances that these rows stand below, among all rows.
-fn stands_for_each(all: &[Row], names: &[Text], rows: &[Row]) -> bool
+fn stands_below_each_of(all: &[Row], names: &[Text], rows: &[Row]) -> bool
     ensures { result ≡ list_all
         (λ row. list_all (stands_below all.now names.now) (ancestors row.path)) rows.now }
 {
     match rows.split_first() {
         None => true,
         Some((row, others)) => {
-            stands_on(all, names, row.path.items(), 0) && stands_for_each(all, names, others)
+            stands_on(all, names, row.path.items(), 0) && stands_below_each_of(all, names, others)
         }
     }
 }

@@ -84,7 +84,7 @@ fn few_beside(most: u32, paths: &[Path]) -> bool
     few_beside_each(most, paths, paths)
 }
 
-/// The same of all paths that stand beside one of these.
+/// Whether that holds beside each of these paths, among all.
 fn few_beside_each(most: u32, all: &[Path], paths: &[Path]) -> bool
     ensures { result ≡ list_all (λ path. nat_le (length (filter
         (λ other. same_path (parent_of other) (parent_of path)) all.now)) most) paths.now }
@@ -203,32 +203,12 @@ fn longer_path(alloc: Global, path: &Path, elem: &Elem) -> Result<Path, NoMemory
     ensures { IfOk result (λ longer. longer ≡ path.now ++ elem.now ∷ []) }
 {
     let mut longer = path.copy(alloc)?;
-    match put_elem(alloc, elem, &mut longer) {
+    match longer.push_copy(alloc, elem) {
         Ok(()) => Ok(longer),
         Err(NoMemory) => {
             drop(longer);
             Err(NoMemory)
         }
-    }
-}
-
-/// Adds a copy of the element.
-fn put_elem(alloc: Global, elem: &Elem, path: &mut Path) -> Result<(), NoMemory>
-    ensures { OnOk result (path.new ≡ path.old ++ elem.now ∷ []) }
-{
-    match elem.copy(alloc) {
-        Ok(copy) => path.push(copy),
-        Err(NoMemory) => Err(NoMemory),
-    }
-}
-
-/// Adds a copy of the path.
-fn put_copy(alloc: Global, path: &Path, found: &mut Paths) -> Result<(), NoMemory>
-    ensures { OnOk result (found.new ≡ found.old ++ path.now ∷ []) }
-{
-    match path.copy(alloc) {
-        Ok(copy) => found.push(copy),
-        Err(NoMemory) => Err(NoMemory),
     }
 }
 
@@ -246,7 +226,7 @@ fn put_named(
         return Ok(());
     };
     if has_names(instance.items(), names) {
-        put_copy(alloc, instance, found)?;
+        found.push_copy(alloc, instance)?;
     }
     put_named(alloc, names, others, found)
 }
@@ -259,7 +239,7 @@ fn put_once(alloc: Global, paths: &[Path], found: &mut Paths) -> Result<(), NoMe
         return Ok(());
     };
     if !is_among(path, others) {
-        put_copy(alloc, path, found)?;
+        found.push_copy(alloc, path)?;
     }
     put_once(alloc, others, found)
 }
