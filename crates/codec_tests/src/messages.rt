@@ -343,7 +343,10 @@ fn count_in(alloc: Global, members: &[(u32, u8)]) -> Option<usize> {
 #[test]
 fn a_oneof_holds_the_run_of_its_last_member(rt: HostRuntime) {
     for (members, count) in MEMBERS {
-        assert!(rt; count_in(rt.alloc(), members) == Some(*count));
+        assert!(rt;
+            count_in(rt.alloc(), members) == Some(*count),
+            "{members:?}"
+        );
     }
 }
 
@@ -389,9 +392,9 @@ fn end_from(place: usize) -> Option<usize> {
 #[test]
 fn fields_are_read_one_at_a_time(rt: HostRuntime) {
     for (place, end) in PLACES {
-        assert!(rt; end_from(*place) == Some(*end));
+        assert!(rt; end_from(*place) == Some(*end), "from {place}");
     }
     for place in NO_PLACES {
-        assert!(rt; end_from(*place) == Some(0));
+        assert!(rt; end_from(*place) == Some(0), "from {place}");
     }
 }

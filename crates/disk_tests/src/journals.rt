@@ -235,7 +235,7 @@ fn long(rt: &impl Abort, alloc: Global, length: usize) -> Ops {
 }
 
 /// A kind as it stands in a table.
-#[derive(Clone, Copy)]
+#[derive(Clone, Copy, Debug)]
 enum Case {
     Apply,
     /// A plain Set whose record is so many octets longer.
@@ -340,7 +340,7 @@ fn each_rule_of_an_entry_is_kept(rt: HostRuntime) {
             *stamp,
             *case,
         );
-        assert!(rt; found == *expected, "{author} {stamp} {expected}: {found}");
+        assert!(rt; found == *expected, "{author} {stamp} {case:?}: {found}");
     }
 }
 
@@ -369,7 +369,7 @@ const BEHIND_A_TRIAL: &[(u32, Case, u64)] = &[
 fn each_rule_of_an_open_trial_is_kept(rt: HostRuntime) {
     for (author, case, expected) in BEHIND_A_TRIAL {
         let found = behind(&rt, rt.alloc(), &GREATEST, OPEN_TRIAL, *author, 1001, *case);
-        assert!(rt; found == *expected, "{author} {expected}: {found}");
+        assert!(rt; found == *expected, "{author} {case:?}: {found}");
     }
 }
 
@@ -388,7 +388,7 @@ const COUNTS: &[(Case, u64)] = &[(Case::Apply, 1_000_002), (OPEN_TRIAL, 34)];
 fn the_limit_of_octets_is_kept(rt: HostRuntime) {
     for (case, expected) in LENGTHS {
         let found = alone(&rt, rt.alloc(), *case);
-        assert!(rt; found == *expected, "{expected}: {found}");
+        assert!(rt; found == *expected, "{case:?}: {found}");
     }
 }
 
@@ -401,6 +401,6 @@ fn behind_a_set(rt: &impl Abort, alloc: Global, case: Case) -> u64 {
 fn the_limit_of_entries_is_kept(rt: HostRuntime) {
     for (case, expected) in COUNTS {
         let found = behind_a_set(&rt, rt.alloc(), *case);
-        assert!(rt; found == *expected, "{expected}: {found}");
+        assert!(rt; found == *expected, "{case:?}: {found}");
     }
 }

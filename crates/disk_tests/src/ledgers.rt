@@ -128,8 +128,8 @@ fn count_of(alloc: Global, disk: FuseDisk) -> Option<(usize, usize)> {
     None
 }
 
-/// For a stop in the call of an append of this number, with a fill that isn't the octet of the open
-/// gate, and with one that is: how many entries the journal then has, and how many stops came in
+/// For a stop in the call of an append of this number, with a fill that leaves the gate closed, and
+/// with one that opens it: how many entries the journal then has, and how many stops came in
 /// its opening.
 const STOPPED_APPENDS: &[(u64, (usize, usize), (usize, usize))] = &[
     (0, (0, 0), (0, 0)),

@@ -39,7 +39,8 @@ const BAD: [&[u8]; 4] = [
 #[test]
 fn what_is_no_commit(rt: HostRuntime) -> Result<(), Fail> {
     for octets in &BAD {
-        assert!(rt; read_commit(rt.alloc(), octets).err() == Some(MsgFault::BadMessage));
+        let fault = read_commit(rt.alloc(), octets).err();
+        assert!(rt; fault == Some(MsgFault::BadMessage), "{octets:?}");
     }
     Ok(())
 }

@@ -181,8 +181,8 @@ fn is_copied(rt: &impl Abort, alloc: Global, value: &Value) -> bool {
 }
 
 fn assert_copied(rt: &impl Abort, alloc: Global, values: &[Value]) {
-    for value in values {
-        assert!(rt; is_copied(rt, alloc, value));
+    for place in 0..values.len() {
+        assert!(rt; is_copied(rt, alloc, &values[place]), "value {place}");
     }
 }
 
