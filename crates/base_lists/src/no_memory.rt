@@ -1,9 +1,7 @@
 use std::alloc::{AllocError, AllocFailed};
-use thiserror::Error;
 
 /// Memory ran out. A call that answers it leaves its value as before, unless it says otherwise.
-#[derive(Clone, Copy, Debug, PartialEq, Eq, Error)]
-#[error("no memory")]
+#[derive(Clone, Copy, Debug, PartialEq, Eq)]
 pub struct NoMemory;
 
 impl From<AllocError> for NoMemory {

@@ -4,7 +4,6 @@ use crate::no_memory::NoMemory;
 use crate::seq::{Copied, Same};
 use std::alloc::Global;
 use std::marker::Model;
-use thiserror::Error;
 
 /// A text in UTF-8 (RFC 3629). Contracts see its octets.
 #[derive(Debug, Drop)]
@@ -20,11 +19,9 @@ impl Model for Text {
     ghost view = { λ t. string_bytes t.stored };
 }
 
-#[derive(Clone, Copy, Debug, PartialEq, Eq, Error)]
+#[derive(Clone, Copy, Debug, PartialEq, Eq)]
 pub enum TextOfFault {
-    #[error("not utf-8")]
     NotUtf8,
-    #[error("no memory")]
     NoMemory,
 }
 

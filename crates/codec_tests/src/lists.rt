@@ -1,6 +1,6 @@
-//! Lists and texts: what prints, UTF-8 at its bounds, orders, copies, groups of seven bits.
+//! Lists and texts: UTF-8 at its bounds, orders, copies, groups of seven bits.
 use base_lists::{
-    Bytes, Copied, NoMemory, Remembered, Same, Seq, Text, TextOfFault, Texts, put_groups, rises,
+    Bytes, Copied, Remembered, Same, Seq, Text, TextOfFault, Texts, put_groups, rises,
 };
 use std::alloc::Global;
 use std::cmp::Ordering;
@@ -22,21 +22,6 @@ fn texts_of(rt: &impl Abort, alloc: Global, words: &[&str]) -> Texts {
         texts.push(text_of(rt, alloc, word)).expect(rt, "memory");
     }
     texts
-}
-
-fn prints(alloc: Global, fault: TextOfFault, text: &str) -> bool {
-    format!(in alloc; "{fault}").is_ok_and(|printed| printed.as_str() == text)
-}
-
-fn want_prints(alloc: Global, text: &str) -> bool {
-    format!(in alloc; "{}", NoMemory).is_ok_and(|printed| printed.as_str() == text)
-}
-
-#[test]
-fn faults_print_as_they_are_called(rt: HostRuntime) {
-    assert!(rt; want_prints(rt.alloc(), "no memory"));
-    assert!(rt; prints(rt.alloc(), TextOfFault::NotUtf8, "not utf-8"));
-    assert!(rt; prints(rt.alloc(), TextOfFault::NoMemory, "no memory"));
 }
 
 // RFC 3629 3 and 4: each form at its bounds.

@@ -1,5 +1,4 @@
 //! Disks in memory: what a stop leaves, in which calls a disk fails and stops, what is read.
-use crate::shown::is_shown_as;
 use base_kinds::Fill;
 use base_lists::NoMemory;
 use disk_model::{Armed, Disk, put_synced, read_part, read_whole};
@@ -424,14 +423,4 @@ fn a_part_is_read_up_to_the_end(rt: HostRuntime) -> Result<(), NoMemory> {
         assert!(rt; reads_part(rt.alloc(), *place, *size, part)?, "at {place}");
     }
     Ok(())
-}
-
-#[test]
-fn failures_print_as_they_are_called(rt: HostRuntime) {
-    let alloc = rt.alloc();
-    assert!(rt;
-        is_shown_as(alloc, &Failed, "fault")
-            && is_shown_as(alloc, &ReadFault::Failed, "read fault")
-            && is_shown_as(alloc, &ReadFault::NoMemory, "no memory")
-    );
 }

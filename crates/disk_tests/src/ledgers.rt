@@ -3,7 +3,6 @@ ghost use Rattle.std.specs.Prelude.{◌≡◌, [], None, IsSome, IfSome, OnOk, O
 ghost use Rattle.base_kinds.specs.Limits.{AreInRange};
 
 use crate::disks::FILLS;
-use crate::shown::is_shown_as;
 use base_kinds::{Entry, Fill, Kind, Limits, NoMemory, Seq};
 use commit_journal::{CreateFault, Ledger, LedgerFault, Opening};
 use disk_model::{Armed, Disk};
@@ -685,16 +684,4 @@ fn damage_is_told_with_its_place(rt: HostRuntime) -> Result<(), NoMemory> {
         assert!(rt; found == Some(*place), "at {length}: {found:?}");
     }
     Ok(())
-}
-
-#[test]
-fn faults_print_as_they_are_called(rt: HostRuntime) {
-    let alloc = rt.alloc();
-    assert!(rt;
-        is_shown_as(alloc, &CreateFault::NotEmpty, "not empty")
-            && is_shown_as(alloc, &CreateFault::DiskFault, "disk fault")
-            && is_shown_as(alloc, &CreateFault::NoMemory, "no memory")
-            && is_shown_as(alloc, &LedgerFault::DiskFault, "disk fault")
-            && is_shown_as(alloc, &LedgerFault::NoMemory, "no memory")
-    );
 }

@@ -17,5 +17,3 @@ mod ledgers;
 mod lists;
 #[cfg(test)]
 mod records;
-#[cfg(test)]
-mod shown;

@@ -4,14 +4,11 @@ ghost use Rattle.edge_traits.specs.Input.{ReadsToLimit, FailedToLimit, StoppedTo
 use crate::streams::{Failed, Source};
 use base_lists::{Bytes, NoMemory};
 use std::alloc::Global;
-use thiserror::Error;
 
 /// Why a source could not be read.
-#[derive(Clone, Copy, Debug, PartialEq, Eq, Error)]
+#[derive(Clone, Copy, Debug, PartialEq, Eq)]
 pub enum ReadFault {
-    #[error("read fault")]
     Failed,
-    #[error("no memory")]
     NoMemory,
 }
 

@@ -1,11 +1,8 @@
 ghost use Rattle.edge_traits.specs.Input.{Input, ReadGives};
 ghost use Rattle.edge_traits.specs.Output.{Output, WriteTakes};
 
-use thiserror::Error;
-
 /// An object of the environment failed in this call, and has counted it.
-#[derive(Clone, Copy, Debug, PartialEq, Eq, Error)]
-#[error("fault")]
+#[derive(Clone, Copy, Debug, PartialEq, Eq)]
 pub struct Failed;
 
 /// Octets that come in, as from a file, a socket or a terminal.

@@ -1,14 +1,11 @@
 use base_lists::NoMemory;
-use thiserror::Error;
 
 /// Why no message was read.
-#[derive(Clone, Copy, Debug, PartialEq, Eq, Error)]
+#[derive(Clone, Copy, Debug, PartialEq, Eq)]
 pub enum MsgFault {
     /// The octets aren't fields, here or in a message inside this one that is read, or a string isn't UTF-8. What is skipped
     /// isn't looked at: unknown fields, fields with another wire type, and messages of a oneof that others come after.
-    #[error("bad message")]
     BadMessage,
-    #[error("no memory")]
     NoMemory,
 }
 

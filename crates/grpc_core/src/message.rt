@@ -3,21 +3,17 @@ ghost use Rattle.base_lists.specs.Fronts.{AppendsFront};
 ghost use Rattle.grpc_core.specs.Messages.{standing, framed};
 
 use base_lists::{Bytes, NoMemory};
-use thiserror::Error;
 
 /// How many octets a message may have.
 const LARGEST_MESSAGE: usize = 4_194_304;
 
 /// Why no further message is read of a stream.
-#[derive(Clone, Copy, Debug, PartialEq, Eq, Error)]
+#[derive(Clone, Copy, Debug, PartialEq, Eq)]
 pub enum SplitFault {
     /// The flag before a message isn't 0.
-    #[error("compressed message")]
     Compressed,
     /// The length before a message is above 4,194,304.
-    #[error("too large")]
     TooLarge,
-    #[error("no memory")]
     NoMemory,
 }
 

@@ -2,19 +2,15 @@ ghost use Rattle.std.specs.Prelude.{◌≡◌};
 
 use base_lists::NoMemory;
 use edge_traits::Failed;
-use thiserror::Error;
 
 /// Why a call on the wire ended.
-#[derive(Clone, Copy, Debug, PartialEq, Eq, Error)]
+#[derive(Clone, Copy, Debug, PartialEq, Eq)]
 pub enum WireFaultOut {
     /// The peer would make a window larger than it may be. Nothing was done, and the wire goes on.
-    #[error("a window is too large")]
     Overflow,
     /// The sink failed, and nothing more is written.
-    #[error("write fault")]
     WriteFault,
     /// Memory ran out, and nothing more is written.
-    #[error("no memory")]
     NoMemory,
 }
 

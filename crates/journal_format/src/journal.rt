@@ -1,7 +1,4 @@
-ghost use Rattle.std.specs.Prelude.{◌≡◌};
-ghost use Rattle.journal_format.specs.declared.journal.JournalFault.TheVariants.{NoMemory as OutOfMemory};
-
-use base_kinds::{Entries, Limits, NoMemory};
+use base_kinds::{Entries, Limits};
 
 /// What a journal holds.
 #[derive(Drop)]
@@ -17,12 +14,4 @@ pub enum JournalFault {
     /// The octets are no journal from this place on.
     Damaged(u64),
     NoMemory,
-}
-
-impl From<NoMemory> for JournalFault {
-    ghost from_gives = { λ _ e. e ≡ OutOfMemory };
-
-    fn from(_e: NoMemory) -> JournalFault {
-        JournalFault::NoMemory
-    }
 }

@@ -1,14 +1,10 @@
 use base_kinds::NoMemory;
-use thiserror::Error;
 
 /// Why a JSON text gives no rows.
-#[derive(Clone, Copy, Debug, PartialEq, Eq, Error)]
+#[derive(Clone, Copy, Debug, PartialEq, Eq)]
 pub enum RowsFault {
-    #[error("not in schema")]
     NotInSchema,
-    #[error("bad value")]
     BadValue,
-    #[error("no memory")]
     NoMemory,
 }
 

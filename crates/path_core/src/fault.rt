@@ -1,11 +1,8 @@
 use base_kinds::NoMemory;
-use thiserror::Error;
 
-#[derive(Clone, Copy, Debug, PartialEq, Eq, Error)]
+#[derive(Clone, Copy, Debug, PartialEq, Eq)]
 pub enum PathFault {
-    #[error("bad path")]
     BadPath,
-    #[error("no memory")]
     NoMemory,
 }
 

@@ -67,9 +67,12 @@ fn lines_of(rt: &impl Abort, alloc: Global, rows: &Rows) -> Bytes {
 }
 
 /// What the fault is called.
-fn name_of(rt: &impl Abort, alloc: Global, fault: RowsFault) -> Bytes {
-    let name = format!(in alloc; "{fault}").expect(rt, "memory");
-    Seq::from_vec(name.into_bytes())
+fn name_of(fault: RowsFault) -> &'static str {
+    match fault {
+        RowsFault::NotInSchema => "not in schema",
+        RowsFault::BadValue => "bad value",
+        RowsFault::NoMemory => "no memory",
+    }
 }
 
 /// The rows at the path that the JSON says.
@@ -82,20 +85,17 @@ fn read(rt: &impl Abort, alloc: Global, path: &str, json: &[u8]) -> Result<Rows,
     rows
 }
 
-/// The rows' lines, or what the fault is called.
-fn meant(rt: &impl Abort, alloc: Global, path: &str, json: &[u8]) -> Bytes {
-    match read(rt, alloc, path, json) {
-        Ok(rows) => lines_of(rt, alloc, &rows),
-        Err(fault) => {
-            assert!(rt; fault != RowsFault::NoMemory, "memory");
-            name_of(rt, alloc, fault)
-        }
-    }
+/// Whether these are the rows' lines.
+fn has_lines(rt: &impl Abort, alloc: Global, rows: &Rows, lines: &str) -> bool {
+    lines_of(rt, alloc, rows).items() == lines.as_bytes()
 }
 
 /// Whether the JSON at the path means these lines, or the fault that is called so.
 fn means(rt: &impl Abort, alloc: Global, path: &str, json: &[u8], lines: &str) -> bool {
-    meant(rt, alloc, path, json).items() == lines.as_bytes()
+    match read(rt, alloc, path, json) {
+        Ok(rows) => has_lines(rt, alloc, &rows, lines),
+        Err(fault) => name_of(fault) == lines,
+    }
 }
 
 fn check(rt: &impl Abort, alloc: Global, table: &[(&str, &str, &str)]) {
@@ -477,16 +477,4 @@ fn octets_that_are_no_text_are_no_json(rt: HostRuntime) {
             "{json:?}"
         );
     }
-}
-
-fn is_called(rt: &impl Abort, alloc: Global, fault: RowsFault, name: &str) -> bool {
-    name_of(rt, alloc, fault).items() == name.as_bytes()
-}
-
-#[test]
-fn faults_print_as_they_are_called(rt: HostRuntime) {
-    let alloc = rt.alloc();
-    assert!(rt; is_called(&rt, alloc, RowsFault::NotInSchema, "not in schema"));
-    assert!(rt; is_called(&rt, alloc, RowsFault::BadValue, "bad value"));
-    assert!(rt; is_called(&rt, alloc, RowsFault::NoMemory, "no memory"));
 }

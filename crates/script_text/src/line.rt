@@ -1,5 +1,4 @@
 use base_kinds::{Act, Bytes, Fill, ListMode, NoMemory, Path, Span, SubLine, Text};
-use thiserror::Error;
 
 /// An event of a script. `A` stands for an author.
 #[derive(PartialEq, Drop)]
@@ -39,11 +38,9 @@ pub enum Line {
     Fail(u64),
 }
 
-#[derive(Clone, Copy, Debug, PartialEq, Eq, Error)]
+#[derive(Clone, Copy, Debug, PartialEq, Eq)]
 pub enum LineFault {
-    #[error("no script line")]
     NoLine,
-    #[error("no memory")]
     NoMemory,
 }
 

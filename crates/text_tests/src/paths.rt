@@ -1,5 +1,5 @@
 // Paths: texts, patterns, order, prefixes.
-use crate::builders::{assert_of, prints, text_of};
+use crate::builders::{assert_of, text_of};
 use base_kinds::{Bytes, Elem, Keys, Path, Same, Text};
 use path_core::{
     PathFault, cmp_paths, covers, join_prefix, matches, read_path_text, read_value_text,
@@ -383,10 +383,4 @@ fn a_prefix_and_a_path_have_32_elements_at_most(rt: HostRuntime) {
         let told = join_fault(&rt, alloc, *before, *after);
         assert!(rt; told == *fault, "{before} and {after}");
     }
-}
-
-#[test]
-fn faults_print_as_they_are_called(rt: HostRuntime) {
-    assert!(rt; prints(rt.alloc(), PathFault::BadPath, "bad path"));
-    assert!(rt; prints(rt.alloc(), PathFault::NoMemory, "no memory"));
 }

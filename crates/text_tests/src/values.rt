@@ -1,4 +1,4 @@
-use crate::builders::{assert_of, prints, text_of};
+use crate::builders::{assert_of, text_of};
 use base_kinds::{Same, Seq, Shape, Text, Texts, Value};
 use plain_texts::natural_of;
 use std::alloc::Global;
@@ -42,12 +42,6 @@ fn has_text(rt: &impl Abort, alloc: Global, value: Value, text: &str) -> bool {
     let is_so = out.items() == text.as_bytes();
     drop(out);
     is_so
-}
-
-#[test]
-fn faults_print_as_they_are_called(rt: HostRuntime) {
-    assert!(rt; prints(rt.alloc(), ValueFault::BadValue, "bad value"));
-    assert!(rt; prints(rt.alloc(), ValueFault::NoMemory, "no memory"));
 }
 
 /// RFC 7950 9.2: the extreme integers of each width, the numbers behind them, and other spellings

@@ -1,14 +1,10 @@
 use base_kinds::NoMemory;
-use thiserror::Error;
 
 /// Why a tree isn't taken.
-#[derive(Clone, Copy, Debug, PartialEq, Eq, Error)]
+#[derive(Clone, Copy, Debug, PartialEq, Eq)]
 pub enum CheckFault {
-    #[error("tree invalid")]
     TreeInvalid,
-    #[error("tree full")]
     TreeFull,
-    #[error("no memory")]
     NoMemory,
 }
 

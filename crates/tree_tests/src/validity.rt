@@ -312,22 +312,3 @@ fn rows_rise_one_above_the_other(rt: HostRuntime) {
         assert!(rt; found == *is_rising, "{lines}");
     }
 }
-
-/// What each fault prints.
-const PRINTED: &[(CheckFault, &str)] = &[
-    (CheckFault::TreeInvalid, "tree invalid"),
-    (CheckFault::TreeFull, "tree full"),
-    (CheckFault::NoMemory, "no memory"),
-];
-
-fn prints(rt: &impl Abort, alloc: Global, fault: CheckFault, text: &str) -> bool {
-    let printed = format!(in alloc; "{fault}").expect(rt, "memory");
-    printed.as_str() == text
-}
-
-#[test]
-fn faults_print_as_they_are_called(rt: HostRuntime) {
-    for (fault, text) in PRINTED {
-        assert!(rt; prints(&rt, rt.alloc(), *fault, text), "{text}");
-    }
-}

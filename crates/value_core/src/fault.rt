@@ -1,12 +1,9 @@
 use base_kinds::NoMemory;
-use thiserror::Error;
 
 /// Why a text gives no value.
-#[derive(Clone, Copy, Debug, PartialEq, Eq, Error)]
+#[derive(Clone, Copy, Debug, PartialEq, Eq)]
 pub enum ValueFault {
-    #[error("bad value")]
     BadValue,
-    #[error("no memory")]
     NoMemory,
 }
 
