@@ -125,6 +125,16 @@ impl<T: Copied + Drop> Seq<T> {
             Err(NoMemory) => Err(NoMemory),
         }
     }
+
+    /// Adds copies of these items at the end. After an `Err` some of them may stand there.
+    pub fn push_copies(&mut self, alloc: Global, items: &[T]) -> Result<(), NoMemory>
+        ensures { OnOk result (self.new ≡ self.old ++ items.now) }
+    {
+        for item in items {
+            self.push_copy(alloc, item)?;
+        }
+        Ok(())
+    }
 }
 
 impl Copied for u8 {

@@ -7,7 +7,7 @@ ghost use Rattle.gnmi_get_msg.specs.Numbers.{supported_models};
 ghost use Rattle.gnmi_get_msg.specs.Replies.{get_reply, with_name, modules_of, model_message, encodings, capabilities};
 
 use crate::numbers::{GNMI_VERSION, REPLY_NOTIFICATION, SUPPORTED_ENCODINGS, SUPPORTED_MODELS};
-use base_lists::{Bytes, Copied, NoMemory, Text, Texts};
+use base_lists::{Bytes, NoMemory, Text, Texts};
 use gnmi_data_msg::{put_message, put_text};
 use gnmi_request_parts::{ENCODING_JSON, ENCODING_JSON_IETF, ENCODING_PROTO, MODEL_NAME};
 use schema_core::{NodeId, Schema};
@@ -40,7 +40,7 @@ fn add_name(alloc: Global, name: &Text, names: &mut Texts) -> Result<(), NoMemor
     if has_name(names.items(), name) {
         return Ok(());
     }
-    names.push(name.copy(alloc)?)
+    names.push_copy(alloc, name)
 }
 
 /// The modules of the schema, in the order of first appearance.

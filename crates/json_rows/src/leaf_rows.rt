@@ -13,7 +13,7 @@ use crate::fault::RowsFault;
 use crate::leaves::leaf_at;
 use crate::seen_keys::SeenKeys;
 use crate::texts::text_of;
-use base_kinds::{Copied, Elem, Keys, NoMemory, Path, Row, Rows, Seq, Shape, Text, Value, Values};
+use base_kinds::{Elem, Keys, NoMemory, Path, Row, Rows, Seq, Shape, Text, Value, Values};
 use scalar_order::all_differ;
 use schema_core::{NodeId, Schema};
 use serde_json::Value as Json;
@@ -49,23 +49,13 @@ fn put_below(
 ) -> Result<(), NoMemory>
     ensures { OnOk result (elems.new ≡ elems.old ++ below above.now name.now keys) }
 {
-    match put_copies(alloc, above, elems) {
+    match elems.push_copies(alloc, above.items()) {
         Ok(()) => put_elem(alloc, name, keys, elems),
         Err(NoMemory) => {
             drop(keys);
             Err(NoMemory)
         }
     }
-}
-
-/// Adds copies of the elements of the path.
-fn put_copies(alloc: Global, above: &Path, elems: &mut Path) -> Result<(), NoMemory>
-    ensures { OnOk result (elems.new ≡ elems.old ++ above.now) }
-{
-    for elem in above.items() {
-        elems.push_copy(alloc, elem)?;
-    }
-    Ok(())
 }
 
 fn put_elem(alloc: Global, name: &str, keys: Keys, elems: &mut Path) -> Result<(), NoMemory>

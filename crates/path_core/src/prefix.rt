@@ -1,21 +1,12 @@
 // A path behind a prefix (gNMI 2.4.1).
-ghost use Rattle.std.specs.Prelude.{◌≡◌, ◌+◌, ◌<◌, ◌++◌, ◌↔◌, length, IfOk, OnOk, IsErrOf};
+ghost use Rattle.std.specs.Prelude.{◌≡◌, ◌+◌, ◌<◌, ◌++◌, ◌↔◌, length, IfOk, IsErrOf};
 
 use crate::fault::PathFault;
-use base_kinds::{Copied, Elem, NoMemory, Path};
+use base_kinds::{Copied, NoMemory, Path};
 use std::alloc::Global;
 
 /// So many elements at most has a path behind a prefix.
 pub const MOST_PATH_ELEMENTS: usize = 32;
-
-fn push_copies(alloc: Global, elems: &[Elem], path: &mut Path) -> Result<(), NoMemory>
-    ensures { OnOk result (path.new ≡ path.old ++ elems.now) }
-{
-    for elem in elems {
-        path.push_copy(alloc, elem)?;
-    }
-    Ok(())
-}
 
 /// The prefix's elements and then the path's, at most 32 together.
 pub fn join_prefix(alloc: Global, prefix: &Path, path: &Path) -> Result<Path, PathFault>
@@ -27,7 +18,7 @@ pub fn join_prefix(alloc: Global, prefix: &Path, path: &Path) -> Result<Path, Pa
         return Err(PathFault::BadPath);
     }
     let mut joined = prefix.copy(alloc)?;
-    match push_copies(alloc, path.items(), &mut joined) {
+    match joined.push_copies(alloc, path.items()) {
         Ok(()) => Ok(joined),
         Err(NoMemory) => {
             drop(joined);

@@ -99,21 +99,11 @@ fn put_set(alloc: Global, row: &Row, rows: &[Row], set: &mut Rows) -> Result<(),
         }
         Ordering::Equal => {
             set.push_copy(alloc, row)?;
-            put_all(alloc, others, set)
+            set.push_copies(alloc, others)
         }
         Ordering::Greater => {
             set.push_copy(alloc, row)?;
-            put_all(alloc, rows, set)
+            set.push_copies(alloc, rows)
         }
     }
-}
-
-fn put_all(alloc: Global, rows: &[Row], set: &mut Rows) -> Result<(), NoMemory>
-    ensures { OnOk result (set.new ≡ set.old ++ rows.now) }
-{
-    let Some((row, others)) = rows.split_first() else {
-        return Ok(());
-    };
-    set.push_copy(alloc, row)?;
-    put_all(alloc, others, set)
 }

@@ -4,7 +4,7 @@ ghost use Rattle.base_kinds.specs.Parts.{is_covered, part};
 ghost use Rattle.rpc_desk.specs.Notes.{is_json, whole_note, row_note, path_note, note_of_path};
 
 use crate::whole::is_of_one;
-use base_kinds::{Copied, Note, Path, Paths, Row, Rows, View};
+use base_kinds::{Note, Path, Paths, Row, Rows, View};
 use base_lists::{Bytes, NoMemory};
 use gnmi_kinds::{Encoding, GetAsk};
 use gnmi_note_msg::{write_note, write_whole};
@@ -40,7 +40,7 @@ fn rows_under(alloc: Global, path: &Path, rows: &[Row]) -> Result<Rows, NoMemory
     let mut found = Rows::empty(alloc);
     for row in rows {
         if is_covered(path, row) {
-            found.push(row.copy(alloc)?)?;
+            found.push_copy(alloc, row)?;
         }
     }
     Ok(found)

@@ -78,7 +78,7 @@ pub fn deletes_of(
     let mut found = Seq::empty(alloc);
     for row in sent {
         if is_deleted(lines, beats, rows, row) {
-            found.push(row.path.copy(alloc)?)?;
+            found.push_copy(alloc, &row.path)?;
         }
     }
     Ok(found)
@@ -97,7 +97,7 @@ pub fn updates_of(
     let mut found = Seq::empty(alloc);
     for row in rows {
         if is_sent(lines, beats, sent, row) {
-            found.push(row.copy(alloc)?)?;
+            found.push_copy(alloc, row)?;
         }
     }
     Ok(found)

@@ -27,7 +27,7 @@ pub fn patterns(alloc: Global, plan: &Plan) -> Result<Paths, NoMemory>
 {
     let mut patterns = Seq::empty(alloc);
     for line in plan.lines.items() {
-        patterns.push(line.pattern.copy(alloc)?)?;
+        patterns.push_copy(alloc, &line.pattern)?;
     }
     Ok(patterns)
 }
@@ -286,9 +286,7 @@ fn line_of(alloc: Global, prefix: &Path, group: u32, line: &SubLine) -> Result<L
     ensures { IfOk result (λ made. made ≡ line_of prefix.now group line.now) }
 {
     let mut pattern = prefix.copy(alloc)?;
-    for elem in line.path.items() {
-        pattern.push(elem.copy(alloc)?)?;
-    }
+    pattern.push_copies(alloc, line.path.items())?;
     Ok(Line { pattern, group })
 }
 
