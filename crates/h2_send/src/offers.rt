@@ -7,18 +7,12 @@ ghost use Rattle.h2_windows.specs.Streams.{is_stream};
 
 use base_lists::Bytes;
 use h2_events::Ready;
-use h2_windows::{Pending, Stream, place_of};
+use h2_windows::{Pending, Stream, is_open, place_of};
 
 fn waits_on(id: u32, streams: &[Stream]) -> bool
     ensures { result ≡ list_any (λ s. is_stream id s && waits s) streams.now }
 {
     streams.iter().any(|s| s.id == id && 0 < s.pending.len())
-}
-
-fn is_open(id: u32, streams: &[Stream]) -> bool
-    ensures { result ≡ list_any (is_stream id) streams.now }
-{
-    streams.iter().any(|s| s.id == id)
 }
 
 /// Whether something can be said on the stream that has the number.

@@ -24,5 +24,5 @@ pub use laws::{
 pub use pending::Pending;
 pub use sending::send_allowed;
 pub use stream::Stream;
-pub use streams::{close, grant, initial_passes, open, place_of, stream_passes};
+pub use streams::{close, grant, initial_passes, is_open, open, place_of, stream_passes};
 pub use window::Window;

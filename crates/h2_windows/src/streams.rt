@@ -50,7 +50,8 @@ pub fn grant(initial_window: u32, id: u32, increment: u32, streams: &mut [Stream
     }
 }
 
-fn is_open(id: u32, streams: &[Stream]) -> bool
+/// Whether one of the streams has the number.
+pub fn is_open(id: u32, streams: &[Stream]) -> bool
     ensures { result ≡ list_any (is_stream id) streams.now }
 {
     streams.iter().any(|s| s.id == id)

@@ -61,7 +61,7 @@ impl Copied for Header {
 }
 
 /// The header of copies of these.
-pub(crate) fn header_of(alloc: Global, name: &[u8], value: &[u8]) -> Result<Header, NoMemory>
+pub fn header_of(alloc: Global, name: &[u8], value: &[u8]) -> Result<Header, NoMemory>
     ensures { IfOk result (λ header. header ≡ pair name.now value.now) }
 {
     let name = Bytes::of(alloc, name)?;

@@ -17,7 +17,7 @@ mod string;
 
 pub use decoder::Decoder;
 pub use encoder::encode_block;
-pub use header::{BlockFault, Ended, Header, Headers};
+pub use header::{BlockFault, Ended, Header, Headers, header_of};
 pub use laws::{
     after_an_update, answered_exactly, kept_entries, one_reading, read_back, worked_blocks,
     worked_tables,

@@ -1,13 +1,12 @@
 // The children that the members of an object name.
 ghost use Rattle.std.specs.Prelude.{◌≡◌, ◌<◌, ◌++◌, ◌∷◌, [], Ok, Err, Some, length, slice_get, IfOk, IfErr, IfSome, not};
 ghost use Rattle.std.specs.Option.{option_copied, option_map, option_and_then, ForSome};
-ghost use Rattle.std.specs.List.{list_any};
-ghost use Rattle.std.specs.Str.{bytes_eq};
 ghost use Rattle.schema_core.specs.Nodes.{names_at, names_above};
 ghost use Rattle.json_rows.specs.Members.{module_in, name_in, is_of_module, child_named, fresh_child};
 
 use crate::fault::RowsFault;
-use base_kinds::{Text, Texts};
+use base_kinds::Texts;
+use plain_texts::has_text;
 use schema_core::{Node, NodeId, Schema};
 
 /// A member's name: perhaps that of a module, and the child's own.
@@ -61,12 +60,6 @@ fn child_named(schema: &Schema, parent: Option<NodeId>, text: &str) -> Option<No
     }
 }
 
-fn is_among(name: &str, seen: &[Text]) -> bool
-    ensures { result ≡ list_any (bytes_eq name.now) seen.now }
-{
-    seen.iter().any(|other| name.as_bytes() == other.octets())
-}
-
 /// The child that a member names, where no member before it in the object named the same.
 pub(crate) fn fresh_child(
     schema: &Schema,
@@ -87,7 +80,7 @@ pub(crate) fn fresh_child(
     let Some(id) = child_named(schema, parent, text) else {
         return Err(RowsFault::NotInSchema);
     };
-    if is_among(spelling_of(text).name, seen.items()) {
+    if has_text(spelling_of(text).name.as_bytes(), seen.items()) {
         return Err(RowsFault::BadValue);
     }
     Ok(id)

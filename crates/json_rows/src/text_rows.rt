@@ -130,7 +130,7 @@ fn rows_at_last_elem(
     }
     match above_last(alloc, path) {
         Ok(above) => {
-            let rows = rows_of_node(alloc, schema, id, &above, str_of(&last.name), json);
+            let rows = rows_at_node(alloc, schema, id, &above, str_of(&last.name), json);
             drop(above);
             rows
         }
@@ -139,7 +139,7 @@ fn rows_at_last_elem(
 }
 
 /// The rows of a value at a node: its name, and the path above it.
-fn rows_of_node(
+fn rows_at_node(
     alloc: Global,
     schema: &Schema,
     id: NodeId,

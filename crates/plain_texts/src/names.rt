@@ -1,6 +1,7 @@
 // Names, and the texts that they are.
 ghost use Rattle.std.specs.Prelude.{◌≡◌, IfOk, IsUtf8};
-ghost use Rattle.std.specs.List.{list_all};
+ghost use Rattle.std.specs.List.{list_all, list_any};
+ghost use Rattle.std.specs.Str.{bytes_eq};
 ghost use Rattle.plain_texts.specs.Names.{begins_name, is_in_name, is_name, name_of};
 
 use base_lists::{NoMemory, Text, TextOfFault};
@@ -56,4 +57,11 @@ pub fn text_of(alloc: Global, octets: &[u8]) -> Result<Text, NoMemory>
         Err(TextOfFault::NotUtf8) => unreachable!(),
         Err(TextOfFault::NoMemory) => Err(NoMemory),
     }
+}
+
+/// Whether these octets are one of the texts.
+pub fn has_text(octets: &[u8], texts: &[Text]) -> bool
+    ensures { result ≡ list_any (bytes_eq octets.now) texts.now }
+{
+    texts.iter().any(|text| octets == text.octets())
 }

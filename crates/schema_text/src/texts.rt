@@ -1,15 +1,13 @@
 // Lists of texts: the names of a path, the names of keys, the texts of an enum.
 ghost use Rattle.std.specs.Prelude.{◌≡◌, [], Some, None, if◌then◌else◌, IfOk};
-ghost use Rattle.std.specs.List.{list_any};
 ghost use Rattle.std.specs.Option.{option_and_then};
-ghost use Rattle.std.specs.Str.{bytes_eq};
 ghost use Rattle.schema_core.specs.Shapes.{texts_differ};
 ghost use Rattle.schema_text.specs.Words.{some_parts, distinct, path_of, keys_of, enum_texts};
 ghost use Rattle.schema_text.specs.inner.Kinds.{passes};
 
 use crate::octets::is_enum_text;
 use base_kinds::{NoMemory, Seq, Text, Texts};
-use plain_texts::{Parts, is_name, text_of};
+use plain_texts::{Parts, has_text, is_name, text_of};
 use schema_core::{MOST_ENUM_TEXTS, MOST_KEYS, MOST_NAMES};
 use std::alloc::Global;
 
@@ -77,18 +75,12 @@ fn read_texts(
     }
 }
 
-fn has_text(text: &Text, others: &[Text]) -> bool
-    ensures { result ≡ list_any (bytes_eq text.now) others.now }
-{
-    others.iter().any(|other| text.octets() == other.octets())
-}
-
 fn all_differ(texts: &[Text]) -> bool
     ensures { result ≡ texts_differ texts.now }
 {
     match texts.split_first() {
         None => true,
-        Some((text, others)) => !has_text(text, others) && all_differ(others),
+        Some((text, others)) => !has_text(text.octets(), others) && all_differ(others),
     }
 }
 

@@ -1,5 +1,5 @@
 // The words of a line: what each kind says.
-ghost use Rattle.std.specs.Prelude.{◌≡◌, IfOk, IsErrOf, List, ℕ};
+ghost use Rattle.std.specs.Prelude.{IfOk, IsErrOf, List, ℕ};
 ghost use Rattle.path_core.specs.PathText.{IsPathText, IsValueText};
 ghost use Rattle.script_text.specs.Words.{IsNumber, IsAuthor, IsName, IsSpan, IsSubMode, IsListMode, IsFlag, IsFill};
 

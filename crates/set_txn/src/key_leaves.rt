@@ -1,5 +1,5 @@
 // The way of a path through a schema, and the key leaves that it names.
-ghost use Rattle.std.specs.Prelude.{◌≡◌, ◌≢◌, ◌++◌, ◌∷◌, [], Ok, Err, Some, None, IfOk, IfErr, OnOk};
+ghost use Rattle.std.specs.Prelude.{◌≡◌, ◌≢◌, ◌++◌, Ok, Err, Some, None, IfOk, IfErr, OnOk};
 ghost use Rattle.std.specs.Option.{option_copied, option_and_then};
 ghost use Rattle.value_core.specs.KeyValues.{key_value};
 ghost use Rattle.base_lists.specs.Results.{IsUnlessMemory, and_then, traverse};

@@ -11,8 +11,9 @@ ghost use Rattle.set_txn.specs.Scalars.{decimal_with, value_in_shape, values_in_
 
 use crate::numbers::{digits_with, natural};
 use base_kinds::{Copied, NoMemory, Seq, Shape, Text, Value, Values};
+use plain_texts::has_text;
 use std::alloc::Global;
-use value_core::{check_value, is_listed, with_sign};
+use value_core::{check_value, with_sign};
 
 /// The value of a leaf of this shape that the scalar stands for.
 pub(crate) fn value_in_shape(
@@ -94,7 +95,7 @@ fn listed_in(alloc: Global, texts: &[Text], text: &Text) -> Result<Option<Value>
     ensures { IfOk result (λ found. found
         ≡ (if list_any (bytes_eq text.now) texts.now then Some (values.Enum text.now) else None)) }
 {
-    if is_listed(text, texts) {
+    if has_text(text.octets(), texts) {
         Ok(Some(Value::Enum(text.copy(alloc)?)))
     } else {
         Ok(None)

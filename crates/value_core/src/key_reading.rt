@@ -12,9 +12,9 @@ use crate::base64_texts::read_base64;
 use crate::decimals::read_decimal_key;
 use crate::fault::ValueFault;
 use crate::numbers::read_integer;
-use crate::shapes::{fits_signed, is_below_power, is_listed};
+use crate::shapes::{fits_signed, is_below_power};
 use base_kinds::{Copied, NoMemory, Shape, Text, Value};
-use plain_texts::natural_of;
+use plain_texts::{has_text, natural_of};
 use std::alloc::Global;
 
 /// The value of this shape whose key text this is. There is one at most.
@@ -97,7 +97,7 @@ fn read_enum(alloc: Global, texts: &[Text], text: &Text) -> Result<Text, ValueFa
     ensures bad_value { IsErrOf result ValueFault.BadValue
         → IsTrue (list_any (bytes_eq text.now) texts.now) → ⊥ }
 {
-    if !is_listed(text, texts) {
+    if !has_text(text.octets(), texts) {
         return Err(ValueFault::BadValue);
     }
     Ok(text.copy(alloc)?)

@@ -5,7 +5,8 @@ ghost use Rattle.base_kinds.specs.Values.{is_list};
 
 use crate::base64_texts::put_base64;
 use crate::written::{bool_word, put_decimal, put_integer, put_natural};
-use base_kinds::{Bytes, NoMemory, Seq, Text, TextOfFault, Value};
+use base_kinds::{Bytes, NoMemory, Seq, Text, Value};
+use plain_texts::text_of;
 use std::alloc::Global;
 
 /// The text of the value where it is the key of a list's entry.
@@ -41,16 +42,5 @@ fn put_key(alloc: Global, value: &Value, out: &mut Bytes) -> Result<(), NoMemory
         Value::Bin(octets) => put_base64(alloc, octets.items(), out),
         Value::Enum(text) => out.extend_from_slice(text.octets()),
         Value::List(_) => Ok(()),
-    }
-}
-
-fn text_of(alloc: Global, octets: &[u8]) -> Result<Text, NoMemory>
-    requires { IsUtf8 octets.now }
-    ensures { IfOk result (λ text. text ≡ octets.now) }
-{
-    match Text::of(alloc, octets) {
-        Ok(text) => Ok(text),
-        Err(TextOfFault::NoMemory) => Err(NoMemory),
-        Err(TextOfFault::NotUtf8) => unreachable!(),
     }
 }

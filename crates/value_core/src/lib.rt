@@ -24,5 +24,5 @@ pub use key_reading::read_key;
 pub use key_texts::key_text;
 pub use laws::{decimals_read_back, functions_give_what_is_spelled, one_decimal, one_value_a_key};
 pub use numbers::{read_integer, with_sign, with_zeros};
-pub use shapes::{check_value, is_listed};
+pub use shapes::check_value;
 pub use value_texts::value_text;

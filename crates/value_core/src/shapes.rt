@@ -1,10 +1,9 @@
 // Whether a value has a shape.
 ghost use Rattle.std.specs.Prelude.{◌≡◌, ◌-◌, ◌^◌, nat_lt};
-ghost use Rattle.std.specs.List.{list_any};
-ghost use Rattle.std.specs.Str.{bytes_eq};
 ghost use Rattle.base_kinds.specs.Values.{fits_signed, has_shape};
 
-use base_kinds::{Shape, Text, Value};
+use base_kinds::{Shape, Value};
+use plain_texts::has_text;
 
 /// Whether the value is one of a leaf of this shape: of the same kind, in its range, with its digits behind the point,
 /// or listed. The values of a leaf-list are looked at one by one; a list itself has no shape. Takes no memory.
@@ -18,7 +17,7 @@ pub fn check_value(shape: &Shape, value: &Value) -> bool
         (Shape::Dec(places), Value::Dec(_, others)) => places == others,
         (Shape::Text, Value::Text(_)) => true,
         (Shape::Bin, Value::Bin(_)) => true,
-        (Shape::Enum(texts), Value::Enum(text)) => is_listed(text, texts.items()),
+        (Shape::Enum(texts), Value::Enum(text)) => has_text(text.octets(), texts.items()),
         _ => false,
     }
 }
@@ -40,11 +39,4 @@ pub(crate) fn is_below_power(number: u64, places: u8) -> bool
     ensures { result ≡ nat_lt number (2 ^ places) }
 {
     places >= 64 || number < 1 << places
-}
-
-/// Whether the text is one of these. Takes no memory.
-pub fn is_listed(text: &Text, texts: &[Text]) -> bool
-    ensures { result ≡ list_any (bytes_eq text.now) texts.now }
-{
-    texts.iter().any(|other| text.octets() == other.octets())
 }

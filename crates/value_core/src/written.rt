@@ -1,5 +1,5 @@
 // How truth values and numbers are written.
-ghost use Rattle.std.specs.Prelude.{◌≡◌, ◌+◌, ◌∷◌, ◌++◌, ◌/◌, ◌^◌, ◌≤◌, length, string_bytes, take, IsUtf8, OnOk};
+ghost use Rattle.std.specs.Prelude.{◌≡◌, ◌+◌, ◌++◌, ◌/◌, ◌^◌, ◌≤◌, length, string_bytes, take, IsUtf8, OnOk};
 ghost use Rattle.std.specs.Fmt.{decimal, signed_decimal};
 ghost use Rattle.base_kinds.specs.Texts.{bool_text, dec_text, scaled_text, last_digits, fraction, without_last_zeros};
 
