@@ -110,7 +110,7 @@ fn what_a_list_holds(rt: HostRuntime) -> Result<(), Fail> {
 #[test]
 fn parts_of_a_subscribe_request(rt: HostRuntime) -> Result<(), Fail> {
     let request: SubRequest = read_request(rt.alloc(), b"\x2a\x00\x1a\x00")?;
-    assert!(rt; request.member == SubMember::Poll && request.extensions.len() == 1);
+    assert!(rt; matches!(request.member, SubMember::Poll) && request.extensions.len() == 1);
     let list = read_list(rt.alloc(), b"\x12\x00\x3a\x00")?;
     assert!(rt; list.subscriptions.len() == 1 && list.models.len() == 1);
     let subscription = Subscription::read(rt.alloc(), b"\x20\x02")?;

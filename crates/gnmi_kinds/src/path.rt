@@ -1,7 +1,7 @@
 use base_kinds::{Path, Text};
 
 /// A path as a message has it (gNMI 2.2.2).
-#[derive(PartialEq, Drop)]
+#[derive(Drop)]
 pub struct GnmiPath {
     /// The elements, in order.
     pub path: Path,

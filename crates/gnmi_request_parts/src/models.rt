@@ -7,7 +7,7 @@ use std::alloc::Global;
 pub const MODEL_NAME: u32 = 1;
 
 /// A model that a request names (gNMI 2.6.1). Its organization and its version are skipped.
-#[derive(PartialEq, Drop)]
+#[derive(Drop)]
 pub struct ModelData {
     pub name: Text,
 }

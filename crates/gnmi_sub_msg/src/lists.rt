@@ -18,7 +18,7 @@ use pb_message::is_message;
 use std::alloc::Global;
 
 /// One subscription of a list, with its path as the message has it. Intervals are in nanoseconds.
-#[derive(PartialEq, Drop)]
+#[derive(Drop)]
 pub struct Subscription {
     pub path: GnmiPath,
     pub mode: SubMode,
@@ -28,7 +28,7 @@ pub struct Subscription {
 }
 
 /// A SubscriptionList as the message has it (gNMI 3.5.1.2).
-#[derive(PartialEq, Drop)]
+#[derive(Drop)]
 pub struct SubscriptionList {
     pub prefix: GnmiPath,
     pub subscriptions: Seq<Subscription>,

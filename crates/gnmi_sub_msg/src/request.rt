@@ -15,7 +15,7 @@ use pb_message::{is_message, member_under};
 use std::alloc::Global;
 
 /// The member of a SubscribeRequest's oneof.
-#[derive(PartialEq, Drop)]
+#[derive(Drop)]
 pub enum SubMember {
     Subscribe(SubscriptionList),
     Poll,
