@@ -64,7 +64,7 @@ impl HeaderList {
         }
     }
 
-    // The list is too long.
+    // What follows a list that is too long: its headers are let go.
     fn give_up(&mut self)
         ensures { self.new ≡ None }
     {

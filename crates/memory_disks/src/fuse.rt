@@ -123,7 +123,7 @@ impl FuseDisk {
         }
     }
 
-    /// Its allocator, that image, the lines that wait, and whether memory was wanting.
+    /// Its allocator, the image that it leaves, the lines that wait, and whether memory was wanting.
     fn into_left(self) -> (Global, Vec<u8>, Lines, bool)
         ensures octets { result.1.items ≡ image_left self }
         ensures arming { result.2 ≡ self.arming }

@@ -3,7 +3,7 @@
 //!
 //! Start at `check` (validity.rt). What it answers is `valid` and `fits` of base_kinds/specs/Valid.antt, whose rules have
 //! the numbers that stand at the head of each file: 1 data_nodes.rt, 2 types.rt, 3 to 5 in the crate tree_constraints,
-//! 6 max_elements.rt. Called by commit_core.
+//! 6 max_elements.rt. Called by commit_core and book_core.
 #![tactic(auto)]
 
 mod data_nodes;
