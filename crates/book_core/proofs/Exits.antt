@@ -8,7 +8,7 @@ use Rattle.disk_model.specs.Calls.{Fuse, CallsPassed}
 use Rattle.disk_model.specs.Content.{Content}
 use Rattle.disk_model.specs.Moments.{LeavesNow, LeavesOnly}
 use Rattle.disk_model.proofs.Moving.{leaves_weaker, leaves_same}
-use Rattle.edge_traits.specs.Faults.{Rose}
+use Rattle.environment.specs.Faults.{Rose}
 use Rattle.commit_journal.specs.Images.{IsJournalOr, IsJournalOfAny}
 use Rattle.commit_journal.specs.Ledgers.{LedgerView, FailsAppending}
 use Rattle.journal_format.specs.Histories.{MayFollow, IsJournalHistory}

@@ -4,7 +4,7 @@ use Rattle.base_kinds.specs.declared.entry.Entry.{Entry}
 use Rattle.base_kinds.specs.Bases.{IsSound}
 use Rattle.base_kinds.specs.History.{world_of}
 use Rattle.base_kinds.specs.Schema.{SchemaNode}
-use Rattle.edge_traits.specs.Faults.{Rose}
+use Rattle.environment.specs.Faults.{Rose}
 use Rattle.disk_model.specs.Arming.{Arming}
 use Rattle.disk_model.specs.Calls.{Fuse, CallsPassed, FailsWithin, PassesWithin, WhereArmed}
 use Rattle.book_core.specs.Calls.{FailsBehind, append_calls}

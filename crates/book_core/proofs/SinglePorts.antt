@@ -3,7 +3,7 @@ use Rattle.std.proofs.Common.{◌≡◌, ℕ, ◌+◌, ◌-◌, ◌≤◌, [], �
 use Rattle.std.proofs.lemmas.List.{drop-append-le, map-append}
 use Rattle.base_kinds.specs.declared.refusal.Refusal.{Refusal}
 use Rattle.base_kinds.specs.declared.refusal.Refusal.TheVariants as refusals
-use Rattle.edge_traits.specs.Faults.{Rose}
+use Rattle.environment.specs.Faults.{Rose}
 use Rattle.book_port.specs.Chronicles.{history_of, marks_of, entered, mark_after, entries_by, Adds}
 use Rattle.book_port.specs.Ports.{TakesTurn, marks_after, HasFaultCause}
 use Rattle.book_port.specs.Follows.{Turn}

@@ -6,7 +6,7 @@ use Rattle.base_kinds.specs.Bases.{IsSound}
 use Rattle.base_kinds.specs.History.{world_of}
 use Rattle.base_kinds.specs.Schema.{SchemaNode}
 use Rattle.base_kinds.specs.Step.{is_open}
-use Rattle.edge_traits.specs.Faults.{Rose}
+use Rattle.environment.specs.Faults.{Rose}
 use Rattle.disk_model.specs.Calls.{Fuse, CallsPassed, FailsWithin, PassesWithin, WhereArmed}
 use Rattle.disk_model.specs.Content.{Content, WhereTold, Tells}
 use Rattle.disk_model.specs.Moments.{Leaves, LeavesNow, HoldsThroughout}

@@ -2,7 +2,7 @@ ghost use Rattle.std.specs.Prelude.{◌≡◌, ◌⊎◌, ◌<◌, ◌≤◌, �
 ghost use Rattle.base_kinds.specs.Legal.{IsFit};
 ghost use Rattle.base_kinds.specs.Records.{record_octets};
 ghost use Rattle.base_kinds.specs.Step.{after_expiry, is_due, step};
-ghost use Rattle.edge_traits.specs.Faults.{Rose};
+ghost use Rattle.environment.specs.Faults.{Rose};
 ghost use Rattle.disk_model.specs.Calls.{CallsEnd, CallsPassed};
 ghost use Rattle.disk_model.specs.Moments.{LeavesNow, LeavesOnly};
 ghost use Rattle.journal_format.specs.Histories.{MayFollow};

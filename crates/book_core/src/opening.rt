@@ -2,7 +2,7 @@ ghost use Rattle.std.specs.Prelude.{◌≡◌, ◌↔◌, ◌≤◌, ◌+◌, []
 ghost use Rattle.base_kinds.specs.Bases.{IsSound};
 ghost use Rattle.base_kinds.specs.History.{world_of};
 ghost use Rattle.base_kinds.specs.Records.{record_octets};
-ghost use Rattle.edge_traits.specs.Faults.{Rose};
+ghost use Rattle.environment.specs.Faults.{Rose};
 ghost use Rattle.disk_model.specs.Calls.{CallsPassed, WhereArmed};
 ghost use Rattle.disk_model.specs.Moments.{LeavesNow, LeavesOnly};
 ghost use Rattle.journal_format.specs.Histories.{MayFollow};

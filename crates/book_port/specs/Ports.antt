@@ -7,7 +7,7 @@ use Rattle.base_kinds.specs.declared.entry.Entry.{Entry}
 use Rattle.base_kinds.specs.declared.entry.View.{View}
 use Rattle.base_kinds.specs.declared.refusal.Refusal.{Refusal}
 use Rattle.base_kinds.specs.declared.refusal.Refusal.TheVariants as refusals
-use Rattle.edge_traits.specs.Faults.{Rose}
+use Rattle.environment.specs.Faults.{Rose}
 use Rattle.book_port.specs.Answers.{AnswersSet, AnswersLook}
 use Rattle.book_port.specs.Chronicles.{entries_by}
 use Rattle.book_port.specs.Follows.{Turn, OthersWentOn}

@@ -14,7 +14,7 @@ use path_core::read_path_text;
 use plain_tree::PlainTree;
 use schema_core::Schema;
 use schema_text::read_schema;
-use set_txn::resolve;
+use set_request::resolve;
 use std::alloc::Global;
 use std::process::Abort;
 

@@ -1,7 +1,7 @@
 -- How many calls of the disk an opening makes.
 use Rattle.std.proofs.Common.{◌≡◌, ℕ, ◌+◌, ◌≤◌, List, length, Option, Some, None, IfSome, option_map, Result, Ok, Err, refl, sym, subst, arith}
-use Rattle.edge_traits.specs.declared.reading.ReadFault.{ReadFault}
-use Rattle.edge_traits.specs.declared.reading.ReadFault.TheVariants as faults
+use Rattle.environment.specs.declared.reading.ReadFault.{ReadFault}
+use Rattle.environment.specs.declared.reading.ReadFault.TheVariants as faults
 use Rattle.disk_model.specs.Arming.{Arming, arming_after_calls}
 use Rattle.disk_model.specs.Calls.{Fuse, CallsPassed, FailsWithin, PassesWithin, WhereArmed}
 use Rattle.disk_model.specs.Content.{Content, WhereTold, Tells}

@@ -2,7 +2,7 @@
 use Rattle.std.specs.Prelude.{◌≡◌, ◌⊎◌, ℕ, ◌+◌, List, Option, Some, None}
 use Rattle.base_kinds.specs.declared.entry.Entry.{Entry}
 use Rattle.base_kinds.specs.declared.entry.Limits.{Limits}
-use Rattle.edge_traits.specs.Faults.{Rose}
+use Rattle.environment.specs.Faults.{Rose}
 use Rattle.disk_model.specs.Calls.{Fuse, CallsPassed, FailsWithin, PassesWithin}
 use Rattle.disk_model.specs.Content.{Content, WhereTold, Tells, Changes}
 use Rattle.disk_model.specs.Images.{mask_after_sync}

@@ -1,6 +1,6 @@
 ghost use Rattle.std.specs.Prelude.{◌≡◌};
 
-use edge_traits::Failed;
+use environment::Failed;
 
 /// Why no journal was made.
 #[derive(Clone, Copy, Debug, PartialEq, Eq)]

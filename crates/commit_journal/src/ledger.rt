@@ -1,5 +1,5 @@
 ghost use Rattle.std.specs.Prelude.{◌≡◌, ◌≢◌, ◌⊎◌, ◌+◌, ◌^◌, ◌<◌, ◌≤◌, [], ◌∷◌, ◌++◌, length, IsOk, IsSome, IsErrOf, IfOk, OnOk, OnErr, is_some, None, Some, vec_capacity};
-ghost use Rattle.edge_traits.specs.Faults.{Rose};
+ghost use Rattle.environment.specs.Faults.{Rose};
 ghost use Rattle.disk_model.specs.Calls.{CallsPassed, FailsWithin, CallsEnd};
 ghost use Rattle.disk_model.specs.Content.{WhereTold, Tells};
 ghost use Rattle.disk_model.specs.Moments.{LeavesNow, LeavesOnly};
@@ -18,7 +18,7 @@ use crate::faults::{CreateFault, LedgerFault};
 use base_kinds::{Bytes, Entry, Limits, NoMemory};
 use base_lists::Remembered;
 use disk_model::{Disk, put_synced};
-use edge_traits::Failed;
+use environment::Failed;
 use journal_format::{CLOSED_GATE, OPEN_GATE, put_entry, write_header};
 use std::alloc::Global;
 use std::marker::Model;

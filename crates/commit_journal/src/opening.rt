@@ -10,7 +10,7 @@ use crate::ledger::Ledger;
 use base_kinds::{Entries, Entry};
 use base_lists::Remembered;
 use disk_model::{Disk, read_whole};
-use edge_traits::ReadFault;
+use environment::ReadFault;
 use journal_format::{Journal, JournalFault, read_journal};
 use std::alloc::Global;
 

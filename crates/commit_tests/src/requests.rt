@@ -9,7 +9,7 @@ use base_kinds::{
 use commit_core::Core;
 use plain_tree::PlainTree;
 use schema_core::Schema;
-use set_txn::resolve;
+use set_request::resolve;
 use std::alloc::Global;
 use std::process::Abort;
 

@@ -2,9 +2,9 @@
 use Rattle.std.proofs.Common.{◌≡◌, ℕ, ◌+◌, List, [], ◌∷◌, ◌++◌, map, length, Option, Some, None, refl, sym, ap, ◌∙◌, subst, arith, append_assoc, append-nil, add-zero}
 use Rattle.std.proofs.lemmas.List.{map-append}
 use Rattle.std.specs.List.{AllByRecursion}
-use Rattle.edge_traits.specs.Input.{Input}
-use Rattle.edge_traits.specs.Output.{Output}
-use Rattle.thread_traits.specs.Doors.{DoorView, IsFresh, LeavesBehind}
+use Rattle.environment.specs.Input.{Input}
+use Rattle.environment.specs.Output.{Output}
+use Rattle.environment.specs.Doors.{DoorView, IsFresh, LeavesBehind}
 use Rattle.book_port.specs.Ports.{PortView}
 use Rattle.connection_server.specs.declared.job.LinkJob.{LinkJob}
 use Rattle.connection_server.specs.declared.link.Link.{Link}

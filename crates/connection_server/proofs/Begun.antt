@@ -1,9 +1,9 @@
 -- Ports that were made can be met, whatever came of them.
 use Rattle.std.proofs.Common.{◌≡◌, ℕ, ◌≤◌, List, [], ◌∷◌, ◌++◌, map, sym, ap, ◌∙◌, subst, arith}
 use Rattle.std.specs.List.{AllByRecursion}
-use Rattle.edge_traits.specs.Input.{Input}
-use Rattle.edge_traits.specs.Output.{Output}
-use Rattle.thread_traits.specs.Doors.{DoorView}
+use Rattle.environment.specs.Input.{Input}
+use Rattle.environment.specs.Output.{Output}
+use Rattle.environment.specs.Doors.{DoorView}
 use Rattle.book_port.specs.Ports.{PortView, IsTwin, CanMeet}
 use Rattle.connection_server.specs.declared.accepting.Ending.{Ending}
 use Rattle.connection_server.specs.declared.accepting.Ending.TheVariants as ending

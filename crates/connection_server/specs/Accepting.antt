@@ -1,10 +1,10 @@
 -- What comes of accepting connections, one after the other.
 use Rattle.std.specs.Prelude.{◌≡◌, ℕ, ◌+◌, ◌<◌, ◌≤◌, List, [], ◌∷◌, ◌++◌, map, Option, Some, None, Result, Ok, Err}
 use Rattle.std.specs.List.{AllByRecursion}
-use Rattle.edge_traits.specs.Faults.{Rose}
-use Rattle.edge_traits.specs.Input.{Input}
-use Rattle.edge_traits.specs.Output.{Output}
-use Rattle.thread_traits.specs.Doors.{DoorView, IsFresh, IsAtEnd}
+use Rattle.environment.specs.Faults.{Rose}
+use Rattle.environment.specs.Input.{Input}
+use Rattle.environment.specs.Output.{Output}
+use Rattle.environment.specs.Doors.{DoorView, IsFresh, IsAtEnd}
 use Rattle.book_port.specs.Ports.{PortView}
 use Rattle.connection_server.specs.declared.accepting.Ending.{Ending}
 use Rattle.connection_server.specs.declared.accepting.Ending.TheVariants as ending

@@ -1,8 +1,8 @@
 -- What comes of serving connections.
 use Rattle.std.specs.Prelude.{◌≡◌, ℕ, List, ◌++◌, length, map}
-use Rattle.edge_traits.specs.Input.{Input}
-use Rattle.edge_traits.specs.Output.{Output}
-use Rattle.thread_traits.specs.Doors.{DoorView}
+use Rattle.environment.specs.Input.{Input}
+use Rattle.environment.specs.Output.{Output}
+use Rattle.environment.specs.Doors.{DoorView}
 use Rattle.book_port.specs.Ports.{PortView, knows_all}
 use Rattle.connection_server.specs.declared.accepting.Ending.{Ending}
 use Rattle.connection_server.specs.declared.accepting.Ending.TheVariants as ending

@@ -8,11 +8,11 @@ use crate::job::LinkJob;
 use crate::link::Link;
 use crate::session::{Session, Sessions};
 use book_port::Twin;
-use real_edges::ThreadStarter;
+use environment::{Door, Next, Running};
 use std::alloc::Global;
 use std::collections::VecDeque;
 use std::thread::Threads;
-use thread_traits::{Door, Next, Running};
+use std_environment::ThreadStarter;
 
 /// How it ended that connections were accepted.
 #[derive(Clone, Copy, Debug, PartialEq, Eq)]

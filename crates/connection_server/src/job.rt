@@ -5,8 +5,8 @@ ghost use Rattle.connection_server.specs.Jobs.{IsDone, IsEndOf, IsSamePort, IsSe
 use crate::link::{Link, LinkEnd, LinkLeft};
 use crate::session::Session;
 use book_port::Twin;
+use environment::Job;
 use std::snapshot::Snapshot;
-use thread_traits::Job;
 
 /// A connection that is to be served. Where memory was wanting for its session it is closed at once.
 #[derive(Drop)]

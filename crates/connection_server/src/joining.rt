@@ -11,9 +11,9 @@ use crate::job::LinkJob;
 use crate::link::LinkEnd;
 use crate::session::Session;
 use book_port::Twin;
+use environment::Running;
 use std::collections::VecDeque;
 use std::thread::Threads;
-use thread_traits::Running;
 
 /// Waits for the end of each session, in order, and meets its port. Takes no memory for the list.
 pub(crate) fn join<R, I, O, P, S>(

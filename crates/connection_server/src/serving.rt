@@ -16,11 +16,11 @@ use crate::session::{Session, Sessions};
 use crate::twins::make_twins;
 use base_lists::NoMemory;
 use book_port::{PassFault, Twin};
-use real_edges::ThreadStarter;
+use environment::{Door, Running};
 use std::alloc::Global;
 use std::collections::VecDeque;
 use std::thread::Threads;
-use thread_traits::{Door, Running};
+use std_environment::ThreadStarter;
 
 /// What comes of serving connections.
 #[derive(Drop)]

@@ -8,7 +8,7 @@ use commit_journal::Ledger;
 use grpc_core::Method;
 use memory_disks::{Fill, FuseDisk, MemDisk, NO_STOP};
 use plain_tree::PlainTree;
-use rpc_desk::Desk;
+use request_desk::Desk;
 use schema_core::Schema;
 use schema_text::read_schema;
 use std::alloc::Global;

@@ -5,8 +5,8 @@ use Rattle.std.proofs.lemmas.Grind.{div_ceil_times}
 use Rattle.disk_model.specs.Arming.{Arming, arming_after_calls}
 use Rattle.disk_model.specs.Calls.{Fuse, CallsPassed, FailsWithin, PassesWithin, WhereArmed}
 use Rattle.disk_model.specs.Content.{Content, Tells}
-use Rattle.edge_traits.specs.declared.reading.ReadFault.{ReadFault}
-use Rattle.edge_traits.specs.declared.reading.ReadFault.TheVariants.{Failed, NoMemory}
+use Rattle.environment.specs.declared.reading.ReadFault.{ReadFault}
+use Rattle.environment.specs.declared.reading.ReadFault.TheVariants.{Failed, NoMemory}
 use Rattle.disk_model.specs.Reading.{ReadingEnds, reads_of}
 use Rattle.disk_model.specs.inner.Progress.{HasRead}
 use Rattle.disk_model.proofs.Calls.{passed_none, passed_then, fails_within_then, fails_within_more, passes_within_then, passes_within}

@@ -1,8 +1,8 @@
 -- How many calls of a disk a reading makes.
 use Rattle.std.specs.Prelude.{ℕ, Result, Ok, Err}
 use Rattle.std.specs.Int.{div_ceil}
-use Rattle.edge_traits.specs.declared.reading.ReadFault.{ReadFault}
-use Rattle.edge_traits.specs.declared.reading.ReadFault.TheVariants.{Failed, NoMemory}
+use Rattle.environment.specs.declared.reading.ReadFault.{ReadFault}
+use Rattle.environment.specs.declared.reading.ReadFault.TheVariants.{Failed, NoMemory}
 use Rattle.disk_model.specs.Calls.{Fuse, CallsPassed, FailsWithin, PassesWithin}
 
 -- how many octets one read asks for

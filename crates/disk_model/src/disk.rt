@@ -1,11 +1,11 @@
 ghost use Rattle.std.specs.Prelude.{◌≡◌, ◌≤◌, ℕ, List, Option, length, take, IfOk, OnOk, OnErr};
-ghost use Rattle.edge_traits.specs.Faults.{HasCause};
+ghost use Rattle.environment.specs.Faults.{HasCause};
 ghost use Rattle.disk_model.specs.Calls.{Fuse, CallEnds, FillsBuffer};
 ghost use Rattle.disk_model.specs.Content.{Content, WhereTold, Tells, SeesImage};
 ghost use Rattle.disk_model.specs.Content.{ReadsAt, Changes, Wrote};
 ghost use Rattle.disk_model.specs.Images.{mask_after_sync, mask_after_write};
 
-use edge_traits::Failed;
+use environment::Failed;
 
 /// Octets that outlive a stop of the machine, as far as they were synced.
 pub trait Disk {

@@ -1,13 +1,13 @@
 ghost use Rattle.std.specs.Prelude.{◌≡◌, ◌≤◌, ◌<◌, ◌+◌, ◌-◌, ◌^◌, ◌++◌, ℕ, List, [], Option};
 ghost use Rattle.std.specs.Prelude.{length, take, drop, min, IfOk, OnOk, OnErr, IsErrOf};
-ghost use Rattle.edge_traits.specs.Faults.{HasCause, Rose};
+ghost use Rattle.environment.specs.Faults.{HasCause, Rose};
 ghost use Rattle.disk_model.specs.Calls.{CallEnds, WhereArmed};
 ghost use Rattle.disk_model.specs.Content.{Content, Tells, ReadsAt};
 ghost use Rattle.disk_model.specs.Reading.{ReadingEnds, piece_octets, reads_of};
 
 use crate::disk::Disk;
 use base_lists::{Bytes, NoMemory};
-use edge_traits::ReadFault;
+use environment::ReadFault;
 use std::alloc::Global;
 
 /// How many octets one read asks for.

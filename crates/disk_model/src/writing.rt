@@ -1,12 +1,12 @@
 ghost use Rattle.std.specs.Prelude.{◌≡◌, ℕ, List, Option, length, OnOk, OnErr};
-ghost use Rattle.edge_traits.specs.Faults.{HasCause};
+ghost use Rattle.environment.specs.Faults.{HasCause};
 ghost use Rattle.disk_model.specs.Calls.{CallsEnd};
 ghost use Rattle.disk_model.specs.Content.{Content, WhereTold, Changes};
 ghost use Rattle.disk_model.specs.Images.{mask_after_write};
 ghost use Rattle.disk_model.specs.Moments.{PutSynced};
 
 use crate::disk::Disk;
-use edge_traits::Failed;
+use environment::Failed;
 
 /// Writes a piece and syncs. After an `Err` the write counts as made for what a stop may leave.
 pub fn put_synced<D: Disk>(disk: &mut D, place: u64, piece: &[u8]) -> Result<(), Failed>

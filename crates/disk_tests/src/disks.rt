@@ -2,7 +2,7 @@
 use base_kinds::Fill;
 use base_lists::NoMemory;
 use disk_model::{Armed, Disk, put_synced, read_part, read_whole};
-use edge_traits::{Failed, ReadFault};
+use environment::{Failed, ReadFault};
 use memory_disks::{FuseDisk, MemDisk, NO_STOP};
 use std::alloc::Global;
 

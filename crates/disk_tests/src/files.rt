@@ -1,10 +1,10 @@
 //! A file as a disk, which tells nothing of its content.
 ghost use Rattle.std.specs.Prelude.{None, false};
-ghost use Rattle.edge_traits.specs.Faults.{Rose};
+ghost use Rattle.environment.specs.Faults.{Rose};
 
 use base_lists::Tally;
 use disk_model::{Disk, put_synced, read_part, read_whole};
-use edge_traits::Failed;
+use environment::Failed;
 use std::alloc::Global;
 use std::fs::{self, File, OpenOptions};
 use std::io;

@@ -2,18 +2,17 @@
 use crate::books::{Port, port, schema, set};
 use base_kinds::{Copied, Seq};
 use base_lists::{Text, Texts};
-use edge_traits::MemSink;
+use environment::{IdlePacer, MemSink, StepClock};
 use h2_events::RecvEvent;
 use h2_send::Wire;
 use hpack_block::Headers;
-use rpc_desk::{Desk, SubscribeStep};
+use request_desk::{Desk, SubscribeStep};
 use schema_core::Schema;
 use std::alloc::Global;
 use std::process::Abort;
 use std::sync::Wait;
-use stream_feed::{FeedDone, FeedEnd, FeedJob};
+use stream_worker::{FeedDone, FeedEnd, FeedJob};
 use sub_plan::Plan;
-use time_traits::{IdlePacer, StepClock};
 
 /// Calls of `write` that fail, and how many octets of DATA are written before: each message goes out in one call.
 const FAILS: &[(&str, usize)] = &[("3", 0), ("4", 33), ("5", 49), ("6", 82), ("7", 115)];

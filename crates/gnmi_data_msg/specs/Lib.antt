@@ -5,3 +5,7 @@ pub mod TypedValues
 pub mod Writing
 pub mod ReadBack
 pub mod worked
+pub mod Singles
+pub mod Encodings
+pub mod Models
+pub mod Profile

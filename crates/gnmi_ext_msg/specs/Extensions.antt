@@ -1,5 +1,5 @@
 -- gnmi_ext.proto's Extension, of which the commit alone is read.
-use Rattle.std.specs.Prelude.{ℕ, List, Option, Some, None, ◌==◌, if◌then◌else◌}
+use Rattle.std.specs.Prelude.{ℕ, List, Bool, true, false, Option, Some, None, ◌==◌, if◌then◌else◌}
 use Rattle.base_lists.specs.Options.{◌>>=◌}
 use Rattle.pb_message.specs.Fields.{is_message}
 use Rattle.pb_message.specs.Values.{member_under}
@@ -21,3 +21,8 @@ extension_given (Some member) =
 unfoldable pub extension_of : List ℕ → Option Extension
 extension_of octets =
     if is_message octets then extension_given (member_under extension_members octets) else None
+
+-- an extension other than a commit
+abbrev pub is_other : Extension → Bool
+is_other extensions.Other = true
+is_other (extensions.Commit action) = false

@@ -5,12 +5,14 @@
 #![tactic(auto)]
 
 mod extension;
+mod extensions;
 mod laws;
 mod numbers;
 mod reading;
 mod writing;
 
 pub use extension::{Extension, read_extension};
+pub use extensions::are_other;
 pub use laws::commits_read_back;
 pub use reading::read_commit;
 pub use writing::write_commit;

@@ -15,7 +15,7 @@ use Rattle.gnmi_data_msg.specs.Parts.{each}
 use Rattle.gnmi_data_msg.specs.Writing.{message_fields}
 use Rattle.gnmi_data_msg.proofs.FieldsIn.{is_read}
 use Rattle.gnmi_data_msg.proofs.ReadBack.{appended, one_field, text_there, messages_there, items_short, text_short, text_read}
-use Rattle.gnmi_request_parts.specs.Models.{model_name, model_of}
+use Rattle.gnmi_data_msg.specs.Models.{model_name, model_of}
 use Rattle.gnmi_get_msg.specs.Numbers.{reply_notification, supported_models, supported_encodings, gnmi_version}
 use Rattle.gnmi_get_msg.specs.Replies.{get_reply, modules_of, model_message, encodings, protocol_version, capabilities}
 use Rattle.gnmi_get_msg.specs.ReadBack.{notes_in, capabilities_in, model_named, AreTextNames, AreShort}

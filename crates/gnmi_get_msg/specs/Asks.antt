@@ -6,10 +6,11 @@ use Rattle.gnmi_kinds.specs.declared.ask.GetAsk.{GetAsk}
 use Rattle.gnmi_data_msg.specs.Parts.{fields_in, messages_in}
 use Rattle.gnmi_data_msg.specs.Paths.{path_of}
 use Rattle.gnmi_ext_msg.specs.Extensions.{extension_of}
-use Rattle.gnmi_request_parts.specs.Encodings.{encoding_of}
-use Rattle.gnmi_request_parts.specs.Models.{model_of}
-use Rattle.gnmi_request_parts.specs.Profile.{is_foreign, is_other, path_in}
-use Rattle.gnmi_request_parts.specs.Singles.{single_message, enum_under}
+use Rattle.gnmi_data_msg.specs.Encodings.{encoding_of}
+use Rattle.gnmi_data_msg.specs.Models.{model_of}
+use Rattle.gnmi_data_msg.specs.Profile.{is_foreign, path_in}
+use Rattle.gnmi_ext_msg.specs.Extensions.{is_other}
+use Rattle.gnmi_data_msg.specs.Singles.{single_message, enum_under}
 use Rattle.gnmi_get_msg.specs.Numbers.{get_prefix, get_path, get_type, get_encoding, get_use_models, get_extension, type_state, type_operational}
 
 -- data that isn't configuration alone: STATE and OPERATIONAL

@@ -6,8 +6,8 @@ use Rattle.base_lists.specs.Options.{◌>>=◌}
 use Rattle.pb_message.specs.Fields.{is_message}
 use Rattle.pb_message.specs.Values.{pieces_under, text_under}
 use Rattle.gnmi_data_msg.specs.Parts.{each}
-use Rattle.gnmi_request_parts.specs.declared.models.ModelData.{ModelData}
-use Rattle.gnmi_request_parts.specs.Models.{model_of}
+use Rattle.gnmi_data_msg.specs.declared.models.ModelData.{ModelData}
+use Rattle.gnmi_data_msg.specs.Models.{model_of}
 use Rattle.gnmi_get_msg.specs.Numbers.{reply_notification, supported_models, supported_encodings, gnmi_version}
 
 -- the octets of the Notifications of a GetResponse

@@ -5,8 +5,8 @@ use Rattle.std.specs.Str.{bytes_eq}
 use Rattle.base_kinds.specs.Schema.{SchemaNode}
 use Rattle.pb_wire.specs.Writing.{octets_field}
 use Rattle.gnmi_data_msg.specs.Writing.{text_field, message_fields}
-use Rattle.gnmi_request_parts.specs.Encodings.{encoding_json, encoding_json_ietf, encoding_proto}
-use Rattle.gnmi_request_parts.specs.Models.{model_name}
+use Rattle.gnmi_data_msg.specs.Encodings.{encoding_json, encoding_json_ietf, encoding_proto}
+use Rattle.gnmi_data_msg.specs.Models.{model_name}
 use Rattle.gnmi_get_msg.specs.Numbers.{reply_notification, supported_models, supported_encodings, gnmi_version}
 
 -- a GetResponse of these Notifications, each given by its octets (gNMI 3.3.2)

@@ -8,12 +8,12 @@ use crate::numbers::{
     TYPE_STATE,
 };
 use base_kinds::Seq;
-use gnmi_data_msg::{MsgFault, fields_in, messages_in, read_path};
-use gnmi_ext_msg::Extension;
-use gnmi_kinds::{GetAsk, GnmiPath};
-use gnmi_request_parts::{
-    ModelData, are_foreign, are_other, encoding_of, enum_under, paths_of, single_message,
+use gnmi_data_msg::{
+    ModelData, MsgFault, are_foreign, encoding_of, enum_under, fields_in, messages_in, paths_of,
+    read_path, single_message,
 };
+use gnmi_ext_msg::{Extension, are_other};
+use gnmi_kinds::{GetAsk, GnmiPath};
 use std::alloc::Global;
 
 fn is_state(number: u32) -> bool

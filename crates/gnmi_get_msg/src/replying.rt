@@ -8,8 +8,9 @@ ghost use Rattle.gnmi_get_msg.specs.Replies.{get_reply, with_name, modules_of, m
 
 use crate::numbers::{GNMI_VERSION, REPLY_NOTIFICATION, SUPPORTED_ENCODINGS, SUPPORTED_MODELS};
 use base_lists::{Bytes, NoMemory, Text, Texts};
-use gnmi_data_msg::{put_message, put_text};
-use gnmi_request_parts::{ENCODING_JSON, ENCODING_JSON_IETF, ENCODING_PROTO, MODEL_NAME};
+use gnmi_data_msg::{
+    ENCODING_JSON, ENCODING_JSON_IETF, ENCODING_PROTO, MODEL_NAME, put_message, put_text,
+};
 use schema_core::{NodeId, Schema};
 use std::alloc::Global;
 

@@ -4,13 +4,13 @@ use denote.Param.Send.{IsSend, sendable}
 use Rattle.std.proofs.Crossing.{crosses}
 use Rattle.base_kinds.specs.contracts.path.Elem as Elem
 use Rattle.base_lists.specs.contracts.seq.Seq as Seq
-use Rattle.edge_traits.specs.declared.streams.Sink as sinks
+use Rattle.environment.specs.declared.streams.Sink as sinks
 use Rattle.h2_send.specs.contracts.wire.Wire as Wire
 use Rattle.shared_book.proofs.Sending.{schema_send, text_send}
 use Rattle.shared_wire.specs.contracts.held.HeldWire as HeldWire
 use Rattle.shared_wire.specs.contracts.visit.WireVisit as WireVisit
-use Rattle.stream_feed.specs.contracts.job.FeedDone as FeedDone
-use Rattle.stream_feed.specs.contracts.job.FeedJob as FeedJob
+use Rattle.stream_worker.specs.contracts.job.FeedDone as FeedDone
+use Rattle.stream_worker.specs.contracts.job.FeedJob as FeedJob
 use Rattle.sub_plan.specs.contracts.plan.Line as Line
 use Rattle.sub_plan.specs.contracts.plan.Plan as Plan
 use Rattle.turn_lock.proofs.lock.Pass.TheSendSync as passes

@@ -3,8 +3,8 @@ use Rattle.std.proofs.Common.{◌≡◌, List, [], ◌∷◌, false, inl, inr, s
 use Rattle.base_kinds.specs.Schema.{SchemaNode}
 use Rattle.book_port.specs.Follows.{Turn}
 use Rattle.book_port.specs.Ports.{PortView, TakesOne, TakesTurns}
-use Rattle.session_feeders.specs.Feeders.{Feeder, MeetsEach}
-use Rattle.session_feeders.specs.Ports.{own_port}
+use Rattle.stream_workers.specs.Feeders.{Feeder, MeetsEach}
+use Rattle.stream_workers.specs.Ports.{own_port}
 use Rattle.session_core.specs.declared.how.How.{How}
 use Rattle.session_core.specs.Deeds.{turns_in}
 use Rattle.session_core.specs.FeederRuns.{SessionRunBeside}

@@ -2,16 +2,16 @@
 use Rattle.std.proofs.Common.{◌≡◌, ℕ, List, [], ◌∷◌, ◌++◌, length, drop, map, sym, ap, ◌∙◌, subst, append_assoc}
 use Rattle.std.specs.List.{AllByRecursion}
 use Rattle.base_kinds.specs.declared.entry.Entry.{Entry}
-use Rattle.edge_traits.specs.Input.{Input}
-use Rattle.edge_traits.specs.Output.{Output}
+use Rattle.environment.specs.Input.{Input}
+use Rattle.environment.specs.Output.{Output}
 use Rattle.book_port.specs.Chronicles.{entries_by}
 use Rattle.book_port.specs.Follows.{Turn, Follows, OthersWentOn, made_by}
 use Rattle.book_port.specs.Ports.{PortView, PortEnd, HasJustMade, Meets, TakesTurns, end_of}
 use Rattle.book_port.proofs.Following.{others_again, others_follow, follows_goes_on}
 use Rattle.book_port.proofs.Taking.{taken_follow, taken_go_on, taken_are_made}
 use Rattle.shared_book.proofs.Ending.{met_went_on}
-use Rattle.session_feeders.specs.Feeders.{Feeder, MeetsEach}
-use Rattle.session_feeders.specs.Ports.{own_port}
+use Rattle.stream_workers.specs.Feeders.{Feeder, MeetsEach}
+use Rattle.stream_workers.specs.Ports.{own_port}
 use Rattle.session_core.specs.Deeds.{turns_in}
 use Rattle.session_core.specs.Runs.{outside_of}
 use Rattle.session_core.specs.Serving.{deeds_in}

@@ -1,7 +1,7 @@
 -- One connection that a session serves beside feeders.
 use Rattle.std.specs.Prelude.{ℕ, List, []}
-use Rattle.edge_traits.specs.Input.{Input}
-use Rattle.edge_traits.specs.Output.{Output}
+use Rattle.environment.specs.Input.{Input}
+use Rattle.environment.specs.Output.{Output}
 use Rattle.book_port.specs.Ports.{PortView}
 use Rattle.session_core.specs.declared.how.How.{How}
 use Rattle.session_core.specs.FeederRuns.{SessionRunBeside}

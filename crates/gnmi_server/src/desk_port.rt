@@ -7,7 +7,7 @@ ghost use Rattle.book_port.specs.Ports.{SetsOnce, LooksOnce, IsTwin, Meets, CanM
 use base_kinds::{Ask, Paths, Refusal, TreeLike, View};
 use book_port::{BookPort, PassFault, Twin};
 use disk_model::Disk;
-use rpc_desk::Desk;
+use request_desk::Desk;
 use shared_book::Visit;
 use std::alloc::Global;
 use std::marker::Model;

@@ -1,15 +1,13 @@
 //! The feeders of sessions.
-ghost use Rattle.real_edges.specs.HeldStarters.{StartsJob};
+ghost use Rattle.std_environment.specs.HeldStarters.{StartsJob};
 
 use crate::desk_port::Numbered;
-use edge_traits::Sink;
-use real_edges::ThreadStarter;
+use environment::{Clock, Pacer, Running, Sink};
 use shared_wire::WireVisit;
 use std::sync::Wait;
 use std::thread::Threads;
-use stream_feed::FeedJob;
-use thread_traits::Running;
-use time_traits::{Clock, Pacer};
+use std_environment::ThreadStarter;
+use stream_worker::FeedJob;
 
 /// The job of a feeder of a session.
 pub type Feeding<P, O, R, C, Q> = FeedJob<P, WireVisit<O, R>, C, Q, R>;

@@ -10,13 +10,12 @@ use crate::desk_port::{DeskPort, Numbered};
 use crate::feeding::Feeding;
 use crate::session::{GnmiSession, GnmiSessions, twin_tools};
 use connection_server::{Ending, ServedLinks, serve_links};
-use real_edges::ThreadStarter;
+use environment::{Clock, Door, Pacer, Starter};
 use session_core::How;
 use std::alloc::Global;
 use std::sync::Wait;
 use std::thread::Threads;
-use thread_traits::{Door, Starter};
-use time_traits::{Clock, Pacer};
+use std_environment::ThreadStarter;
 
 /// Accepts so many connections at an address, or fewer where the door is at its end or fails, and serves each as a gNMI session,
 /// beside the others, with a port of the book of its own. The one starter starts the sessions, and twins of the other their

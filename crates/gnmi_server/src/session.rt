@@ -8,13 +8,11 @@ use crate::feeding::Feeding;
 use base_lists::NoMemory;
 use book_port::BookPort;
 use connection_server::{Link, LinkLeft, Session, Sessions};
-use edge_traits::{Sink, Source};
+use environment::{Clock, Job, Pacer, Sink, Source, Starter};
 use session_core::{How, SessionEnd, serve_session};
 use std::alloc::Global;
 use std::sync::Wait;
 use std::thread::Threads;
-use thread_traits::{Job, Starter};
-use time_traits::{Clock, Pacer};
 
 /// What a session needs beside its connection. The starter starts its feeders.
 #[derive(Drop)]

@@ -1,9 +1,9 @@
 //! The environment of connections whose peers wait for what others are answered.
 ghost use Rattle.std.specs.Prelude.{◌≡◌};
-ghost use Rattle.edge_traits.specs.Memory.{input_of};
+ghost use Rattle.environment.specs.Memory.{input_of};
 
 use base_lists::{NoMemory, Remembered};
-use edge_traits::{Failed, MemSink, MemSource, Sink, Source};
+use environment::{Door, Failed, MemSink, MemSource, Next, Pacer, Sink, Source};
 use memory_disks::MemDisk;
 use plain_tree::PlainTree;
 use shared_book::Visit;
@@ -13,8 +13,6 @@ use std::marker::Model;
 use std::sync::Arc;
 use std::sync::atomic::{AtomicU64, Ordering};
 use std::thread;
-use thread_traits::{Door, Next};
-use time_traits::Pacer;
 
 /// The first port of a book that others reach too.
 pub(crate) type TestBook<R> = Visit<MemDisk, PlainTree, R>;
@@ -170,8 +168,8 @@ pub(crate) struct TestDoor {
 impl Model for TestDoor {
     ghost use Rattle.std.specs.Prelude.{Some};
     ghost use Rattle.std.specs.List.{AllByRecursion};
-    ghost use Rattle.edge_traits.specs.Memory.{input_of};
-    ghost use Rattle.thread_traits.specs.Doors.{DoorView, IsFresh};
+    ghost use Rattle.environment.specs.Memory.{input_of};
+    ghost use Rattle.environment.specs.Doors.{DoorView, IsFresh};
     ghost use Rattle.gnmi_server_tests.specs.declared.edges.HeldSource.{HeldSource};
     ghost use Rattle.gnmi_server_tests.specs.declared.edges.CountingSink.{CountingSink};
 

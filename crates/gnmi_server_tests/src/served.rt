@@ -1,8 +1,8 @@
 //! A server over connections in memory.
 ghost use Rattle.std.specs.Prelude.{◌≡◌};
-ghost use Rattle.edge_traits.specs.Memory.{input_of};
+ghost use Rattle.environment.specs.Memory.{input_of};
 ghost use Rattle.std.specs.Thread.{IsSend};
-ghost use Rattle.real_edges.specs.HeldStarters.{StartsJob};
+ghost use Rattle.std_environment.specs.HeldStarters.{StartsJob};
 
 use crate::edges::{
     Count, Counter, CountingSink, HeldSource, Hold, Holds, TestBook, TestDoor, YieldingPacer,
@@ -13,12 +13,11 @@ use base_lists::{Copied, Seq, Text, Texts};
 use book_core::{Book, BookOpening};
 use commit_journal::Ledger;
 use connection_server::{Ending, LinkEnd, ServedLinks};
-use edge_traits::{MemSink, MemSource};
+use environment::{MemSink, MemSource, Running, StepClock};
 use gnmi_server::{DeskPort, Feeding, serve_book, start_feeder};
 use memory_disks::MemDisk;
 use plain_tree::PlainTree;
-use real_edges::{HeldStarter, ReadyStarter, Starting, ThreadStarter};
-use rpc_desk::Desk;
+use request_desk::Desk;
 use schema_core::Schema;
 use schema_text::read_schema;
 use session_core::How;
@@ -29,8 +28,7 @@ use std::process::Abort;
 use std::sync::atomic::{AtomicU64, Ordering};
 use std::sync::{Arc, Wait};
 use std::thread::Threads;
-use thread_traits::Running;
-use time_traits::StepClock;
+use std_environment::{HeldStarter, ReadyStarter, Starting, ThreadStarter};
 
 /// The job of a feeder of these tests.
 type TestFeeding<R> = Feeding<TestBook<R>, CountingSink, R, StepClock, YieldingPacer>;

@@ -31,7 +31,7 @@ use Rattle.gnmi_data_msg.proofs.ReadBack.{appended, text_there, text_pieces, tex
 use Rattle.gnmi_data_msg.proofs.Single.{number_list, number_passes, number_there, last_number}
 use Rattle.gnmi_ext_msg.specs.declared.extension.Extension.{Extension}
 use Rattle.gnmi_ext_msg.specs.Extensions.{extension_of}
-use Rattle.gnmi_request_parts.specs.Singles.{single_message, enum_under}
+use Rattle.gnmi_data_msg.specs.Singles.{single_message, enum_under}
 use Rattle.gnmi_set_msg.specs.declared.request.Update.{Update}
 use Rattle.gnmi_set_msg.specs.declared.request.SetRequest.{SetRequest}
 use Rattle.gnmi_set_msg.specs.Numbers.{set_prefix, set_delete, set_replace, set_update, set_extension, reply_prefix, reply_response, reply_timestamp, result_path, result_op, op_of}

@@ -8,7 +8,8 @@ use Rattle.base_kinds.specs.declared.request.Change.{Change}
 use Rattle.base_kinds.specs.declared.request.UnresolvedSet.{UnresolvedSet}
 use Rattle.gnmi_ext_msg.specs.declared.extension.Extension.{Extension}
 use Rattle.gnmi_ext_msg.specs.declared.extension.Extension.TheVariants as extensions
-use Rattle.gnmi_request_parts.specs.Profile.{is_foreign, is_other, path_in}
+use Rattle.gnmi_data_msg.specs.Profile.{is_foreign, path_in}
+use Rattle.gnmi_ext_msg.specs.Extensions.{is_other}
 use Rattle.gnmi_set_msg.specs.declared.request.Update.{Update}
 use Rattle.gnmi_set_msg.specs.declared.request.SetRequest.{SetRequest}
 use Rattle.gnmi_set_msg.specs.Requests.{request_of}

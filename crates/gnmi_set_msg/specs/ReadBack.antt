@@ -11,7 +11,7 @@ use Rattle.pb_message.specs.Fields.{is_message}
 use Rattle.pb_message.specs.Values.{message_under, pieces_under}
 use Rattle.gnmi_data_msg.specs.Parts.{each}
 use Rattle.gnmi_data_msg.specs.Paths.{path_of}
-use Rattle.gnmi_request_parts.specs.Singles.{single_message, count_under, enum_under}
+use Rattle.gnmi_data_msg.specs.Singles.{single_message, count_under, enum_under}
 use Rattle.gnmi_set_msg.specs.declared.request.Update.{Update}
 use Rattle.gnmi_set_msg.specs.declared.request.SetRequest.{SetRequest}
 use Rattle.gnmi_set_msg.specs.Numbers.{reply_prefix, reply_response, reply_timestamp, result_path, result_op, op_of}

@@ -9,7 +9,7 @@ use Rattle.gnmi_data_msg.specs.Parts.{fields_in, messages_in}
 use Rattle.gnmi_data_msg.specs.Paths.{path_of}
 use Rattle.gnmi_data_msg.specs.TypedValues.{typed_of}
 use Rattle.gnmi_ext_msg.specs.Extensions.{extension_of}
-use Rattle.gnmi_request_parts.specs.Singles.{single_message}
+use Rattle.gnmi_data_msg.specs.Singles.{single_message}
 use Rattle.gnmi_set_msg.specs.declared.request.Update.{Update}
 use Rattle.gnmi_set_msg.specs.declared.request.SetRequest.{SetRequest}
 use Rattle.gnmi_set_msg.specs.Numbers.{set_prefix, set_delete, set_replace, set_update, set_extension}

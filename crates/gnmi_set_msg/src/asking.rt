@@ -2,16 +2,15 @@
 ghost use Rattle.std.specs.Prelude.{◌≡◌, map, IfOk};
 ghost use Rattle.std.specs.List.{list_any};
 ghost use Rattle.gnmi_data_msg.specs.Parts.{IsReadAs};
-ghost use Rattle.gnmi_request_parts.specs.Profile.{is_foreign};
+ghost use Rattle.gnmi_data_msg.specs.Profile.{is_foreign};
 ghost use Rattle.gnmi_set_msg.specs.Asks.{is_unsupported, action_of, change_of, ask_of, set_of};
 ghost use Rattle.gnmi_set_msg.specs.inner.Actions.{with_commit};
 
 use crate::request::{SetRequest, Update, Updates, read_request};
 use base_kinds::{Action, Change, Changes, Seq, UnresolvedSet};
 use base_lists::NoMemory;
-use gnmi_data_msg::MsgFault;
-use gnmi_ext_msg::Extension;
-use gnmi_request_parts::{are_foreign, are_other, is_foreign, paths_of};
+use gnmi_data_msg::{MsgFault, are_foreign, is_foreign, paths_of};
+use gnmi_ext_msg::{Extension, are_other};
 use std::alloc::Global;
 
 fn have_foreign(updates: &[Update]) -> bool

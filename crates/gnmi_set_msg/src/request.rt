@@ -6,10 +6,11 @@ use crate::numbers::{
     SET_DELETE, SET_EXTENSION, SET_PREFIX, SET_REPLACE, SET_UPDATE, UPDATE_PATH, UPDATE_VAL,
 };
 use base_kinds::{Given, Seq};
-use gnmi_data_msg::{Message, MsgFault, fields_in, messages_in, read_path, read_typed};
+use gnmi_data_msg::{
+    Message, MsgFault, fields_in, messages_in, or_empty, read_path, read_typed, single_message,
+};
 use gnmi_ext_msg::Extension;
 use gnmi_kinds::GnmiPath;
-use gnmi_request_parts::{or_empty, single_message};
 use pb_message::{has_number_above, is_message, message_under};
 use std::alloc::Global;
 

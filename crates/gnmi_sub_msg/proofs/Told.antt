@@ -6,7 +6,8 @@ use Rattle.std.specs.Option.{option_map}
 use Rattle.base_kinds.specs.declared.path.Elem.{Elem}
 use Rattle.gnmi_kinds.specs.declared.path.GnmiPath.{GnmiPath}
 use Rattle.sub_plan.specs.Profile.{is_unsupported_path}
-use Rattle.gnmi_request_parts.specs.Profile.{is_foreign, is_other}
+use Rattle.gnmi_data_msg.specs.Profile.{is_foreign}
+use Rattle.gnmi_ext_msg.specs.Extensions.{is_other}
 use Rattle.gnmi_sub_msg.specs.declared.lists.Subscription.{Subscription}
 use Rattle.gnmi_sub_msg.specs.declared.request.SubMember.{SubMember}
 use Rattle.gnmi_sub_msg.specs.declared.request.SubMember.TheVariants as members

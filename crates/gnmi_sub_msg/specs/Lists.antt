@@ -9,9 +9,9 @@ use Rattle.base_kinds.specs.declared.request.SubMode.TheVariants as modes
 use Rattle.pb_message.specs.Fields.{is_message}
 use Rattle.gnmi_data_msg.specs.Parts.{fields_in, messages_in}
 use Rattle.gnmi_data_msg.specs.Paths.{path_of}
-use Rattle.gnmi_request_parts.specs.Encodings.{encoding_of}
-use Rattle.gnmi_request_parts.specs.Models.{model_of}
-use Rattle.gnmi_request_parts.specs.Singles.{single_message, count_under, flag_under, enum_under}
+use Rattle.gnmi_data_msg.specs.Encodings.{encoding_of}
+use Rattle.gnmi_data_msg.specs.Models.{model_of}
+use Rattle.gnmi_data_msg.specs.Singles.{single_message, count_under, flag_under, enum_under}
 use Rattle.gnmi_sub_msg.specs.declared.lists.Subscription.{Subscription}
 use Rattle.gnmi_sub_msg.specs.declared.lists.SubscriptionList.{SubscriptionList}
 use Rattle.gnmi_sub_msg.specs.Numbers.{list_prefix, list_subscription, list_mode, list_use_models, list_encoding, list_updates_only, line_path, line_mode, line_sample_interval, line_suppress_redundant, line_heartbeat_interval, target_defined, on_change, sample, stream, once, poll}

@@ -3,7 +3,7 @@ use Rattle.std.specs.Prelude.{ℕ, List, Bool, ◌&&◌, Option, None, if◌then
 use Rattle.pb_wire.specs.Writing.{varint_field, octets_field}
 use Rattle.pb_message.specs.Fields.{is_message}
 use Rattle.pb_message.specs.Values.{message_under}
-use Rattle.gnmi_request_parts.specs.Singles.{flag_under}
+use Rattle.gnmi_data_msg.specs.Singles.{flag_under}
 use Rattle.gnmi_sub_msg.specs.Numbers.{reply_update, reply_sync_response}
 
 -- with these octets of a Notification

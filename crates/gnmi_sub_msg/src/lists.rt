@@ -9,11 +9,11 @@ use crate::numbers::{
     ON_CHANGE, ONCE, POLL, SAMPLE, STREAM, TARGET_DEFINED,
 };
 use base_kinds::{ListMode, Seq, SubMode};
-use gnmi_data_msg::{Message, MsgFault, fields_in, messages_in, read_path};
-use gnmi_kinds::{Encoding, GnmiPath};
-use gnmi_request_parts::{
-    ModelData, count_under, encoding_of, enum_under, flag_under, single_message,
+use gnmi_data_msg::{
+    Message, ModelData, MsgFault, count_under, encoding_of, enum_under, fields_in, flag_under,
+    messages_in, read_path, single_message,
 };
+use gnmi_kinds::{Encoding, GnmiPath};
 use pb_message::is_message;
 use std::alloc::Global;
 

@@ -2,16 +2,15 @@
 ghost use Rattle.std.specs.Prelude.{◌≡◌, map, IfOk};
 ghost use Rattle.std.specs.List.{list_any};
 ghost use Rattle.gnmi_data_msg.specs.Parts.{IsReadAs};
-ghost use Rattle.gnmi_request_parts.specs.Profile.{is_foreign};
+ghost use Rattle.gnmi_data_msg.specs.Profile.{is_foreign};
 ghost use Rattle.gnmi_sub_msg.specs.Turns.{line_of, ask_of, member_turn, turn_asked, turn_of, IsTold};
 
 use crate::lists::{Subscription, SubscriptionList};
 use crate::request::{SubMember, SubRequest, read_request};
 use base_kinds::{Seq, SubLine, SubLines};
 use base_lists::NoMemory;
-use gnmi_data_msg::MsgFault;
+use gnmi_data_msg::{MsgFault, is_foreign};
 use gnmi_kinds::SubAsk;
-use gnmi_request_parts::{are_other, is_foreign};
 use std::alloc::Global;
 
 /// What one message of a Subscribe call asks for (gNMI 3.5.1.1).

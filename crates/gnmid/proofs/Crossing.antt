@@ -8,7 +8,7 @@ use Rattle.plain_tree.specs.contracts.plain_tree.PlainTreeTreeLike.TheImpl as tr
 use Rattle.shared_book.specs.contracts.visit.Visit as Visit
 use Rattle.shared_book.proofs.Crossing.{visit_send}
 use Rattle.shared_book.proofs.Sending.{remembered_send}
-use Rattle.target_top.proofs.Crossing.{tree_send}
+use Rattle.program.proofs.Crossing.{tree_send}
 use Rattle.gnmid.specs.contracts.disks.FileDisk as FileDisk
 use Rattle.gnmid.specs.contracts.disks.FileDiskDisk.TheImpl as disks
 

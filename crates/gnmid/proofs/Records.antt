@@ -1,6 +1,6 @@
 -- What is recorded of a read.
 use Rattle.std.proofs.Common.{◌≡◌, ℕ, ◌≤◌, ◌<◌, ◌==◌, if◌then◌else◌, Bool, true, List, length, None, refl, arith}
-use Rattle.edge_traits.specs.Input.{Input, ReadsFront, input_after}
+use Rattle.environment.specs.Input.{Input, ReadsFront, input_after}
 
 found_at : (before : Bool) (n room : ℕ) → 0 < room → n ≡ 0 → (if room == 0 then before else n == 0) ≡ true
 found_at before n room some none = grind (arith, some, none)

@@ -1,9 +1,9 @@
 ghost use Rattle.std.specs.Prelude.{◌≡◌, []};
 
 use base_lists::{NoMemory, Remembered};
+use environment::Clock;
 use std::alloc::Global;
 use std::time::{SystemTime, UNIX_EPOCH};
-use time_traits::Clock;
 
 /// The clock of the system. What it has given is recorded.
 #[derive(Drop)]

@@ -2,7 +2,7 @@ ghost use Rattle.std.specs.Prelude.{◌≡◌, ◌≤◌, None, false, length, I
 
 use base_lists::Tally;
 use disk_model::Disk;
-use edge_traits::Failed;
+use environment::Failed;
 use std::fs::{File, OpenOptions};
 use std::io::{self, ErrorKind};
 use std::os::unix::fs::{FileExt, OpenOptionsExt};

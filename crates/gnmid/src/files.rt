@@ -2,11 +2,11 @@ ghost use Rattle.std.specs.Prelude.{None};
 
 use crate::disks::FileDisk;
 use base_lists::Bytes;
-use edge_traits::{Failed, ReadFault};
+use environment::{Failed, ReadFault};
+use program::{Files, FilesRecord};
 use std::alloc::Global;
 use std::fs;
 use std::io::ErrorKind;
-use target_top::{Files, FilesRecord};
 
 /// The files of the process, by their paths. What they were asked for and have given is recorded; which texts and disks there
 /// are they can't tell.

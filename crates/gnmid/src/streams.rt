@@ -1,6 +1,6 @@
 ghost use Rattle.std.specs.Prelude.{◌≤◌, None, length, IfOk};
 
-use edge_traits::{Failed, InputRecord, OutputRecord, Sink, Source};
+use environment::{Failed, InputRecord, OutputRecord, Sink, Source};
 use std::io::{ErrorKind, Read, Stdin, Stdout, Write};
 
 /// The process's standard input. What it has given is recorded; what is left it can't tell.

@@ -6,13 +6,13 @@ use Rattle.h2_frame.proofs.Reading.{states_least}
 use Rattle.h2_frame.proofs.Spelling.{alike, not_part}
 use Rattle.h2_events.specs.declared.event.RecvEvent.{RecvEvent}
 use Rattle.h2_events.specs.Events.{largest_frame}
-use Rattle.h2_calls.specs.declared.peer.Peer.{Peer}
-use Rattle.h2_calls.specs.Outcomes.{EventAndPeer}
-use Rattle.h2_calls.specs.States.{this_side_ends}
-use Rattle.h2_calls.specs.Meanings.{Means}
-use Rattle.h2_calls.specs.Calls.{Moment, read, ended, Calls, AreRead, IsFault, frames_of, causes_of}
-use Rattle.h2_calls.proofs.CallLemmas.{one_chain}
-use Rattle.h2_calls.proofs.OutcomeLemmas.{one_outcome}
+use Rattle.h2_streams.specs.declared.peer.Peer.{Peer}
+use Rattle.h2_streams.specs.Outcomes.{EventAndPeer}
+use Rattle.h2_streams.specs.States.{this_side_ends}
+use Rattle.h2_streams.specs.Meanings.{Means}
+use Rattle.h2_streams.specs.Calls.{Moment, read, ended, Calls, AreRead, IsFault, frames_of, causes_of}
+use Rattle.h2_streams.proofs.CallLemmas.{one_chain}
+use Rattle.h2_streams.proofs.OutcomeLemmas.{one_outcome}
 use Rattle.h2_recv.specs.declared.reader.Reader.{Reader}
 use Rattle.h2_recv.specs.Receiving.{Opens, Reaches, Reads, FaultStands, Faults, Astray, ReachesWithEnds, ReadsWithEnds, FaultsWithEnds, EndAt, ends_from, ends_of}
 use Rattle.h2_recv.proofs.PieceLemmas.{spelled_length}

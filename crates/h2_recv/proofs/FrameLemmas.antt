@@ -7,10 +7,10 @@ use Rattle.h2_frame.specs.Frames.{Spells, StandsFirst, IsPart, frame_of, stated_
 use Rattle.h2_frame.proofs.Reading.{IsOctets, states_least, frame_no_part, stands}
 use Rattle.h2_events.specs.declared.event.RecvFault.{RecvFault}
 use Rattle.h2_events.specs.declared.event.RecvFault.TheVariants as fault
-use Rattle.h2_calls.specs.declared.peer.Peer.{Peer}
+use Rattle.h2_streams.specs.declared.peer.Peer.{Peer}
 use Rattle.h2_events.specs.Events.{largest_frame}
-use Rattle.h2_calls.specs.Outcomes.{Outcome}
-use Rattle.h2_calls.specs.Meanings.{Means}
+use Rattle.h2_streams.specs.Outcomes.{Outcome}
+use Rattle.h2_streams.specs.Meanings.{Means}
 use Rattle.h2_recv.specs.declared.reader.Reader.{Reader}
 use Rattle.h2_recv.specs.inner.Steps.{IsWithin, IsFrame, Looks}
 use Rattle.h2_recv.specs.Receiving.{next_end}

@@ -5,8 +5,8 @@ use Rattle.std.proofs.lemmas.List.{append-nil, drop_all, take-append-le, drop-ap
 use Rattle.h2_frame.specs.Frames.{Frame, LeadingFrames, IsPart}
 use Rattle.h2_frame.proofs.Spelling.{not_part}
 use Rattle.h2_events.specs.Events.{largest_frame}
-use Rattle.h2_calls.specs.declared.peer.Peer.{Peer}
-use Rattle.h2_calls.specs.Calls.{Moment, frames_of}
+use Rattle.h2_streams.specs.declared.peer.Peer.{Peer}
+use Rattle.h2_streams.specs.Calls.{Moment, frames_of}
 use Rattle.h2_recv.specs.declared.reader.Reader.{Reader}
 use Rattle.h2_recv.specs.Receiving.{preface, share, GoesOn, Opens, Reaches, Reads, FaultStands, Faults, Astray}
 use Rattle.h2_recv.proofs.RunLemmas.{grown}

@@ -7,12 +7,12 @@ use Rattle.h2_frame.specs.Frames.{Frame, Spells, BeginsWith, LeadingFrames, IsPa
 use Rattle.h2_frame.proofs.Reading.{states_least}
 use Rattle.h2_frame.proofs.Runs.{leading_more}
 use Rattle.h2_frame.proofs.Spelling.{not_part}
-use Rattle.h2_calls.proofs.CallLemmas.{calls_joined, frames_joined}
+use Rattle.h2_streams.proofs.CallLemmas.{calls_joined, frames_joined}
 use Rattle.h2_recv.proofs.FrameLemmas.{within_end}
-use Rattle.h2_calls.specs.declared.peer.Peer.{Peer}
+use Rattle.h2_streams.specs.declared.peer.Peer.{Peer}
 use Rattle.h2_events.specs.Events.{largest_frame}
-use Rattle.h2_calls.specs.States.{this_side_ends}
-use Rattle.h2_calls.specs.Calls.{Moment, read, ended, AreRead, frames_of}
+use Rattle.h2_streams.specs.States.{this_side_ends}
+use Rattle.h2_streams.specs.Calls.{Moment, read, ended, AreRead, frames_of}
 use Rattle.h2_recv.specs.declared.reader.Reader.{Reader}
 use Rattle.h2_recv.specs.inner.Steps.{IsWithin}
 use Rattle.h2_recv.specs.Receiving.{next_end}

@@ -4,11 +4,11 @@ use Rattle.h2_frame.specs.Frames.{Frame, BeginsWith, LeadingFrames, IsPart, IsTo
 use Rattle.h2_events.specs.declared.event.RecvEvent.{RecvEvent}
 use Rattle.h2_events.specs.declared.event.RecvFault.{RecvFault}
 use Rattle.h2_events.specs.declared.event.RecvFault.TheVariants as fault
-use Rattle.h2_calls.specs.declared.peer.Peer.{Peer}
+use Rattle.h2_streams.specs.declared.peer.Peer.{Peer}
 use Rattle.h2_frame.specs.ErrorCodes.{protocol_error, frame_size_error}
 use Rattle.h2_events.specs.Events.{largest_frame}
-use Rattle.h2_calls.specs.Calls.{Moment, read, ended, Calls, AreRead, IsFault, frames_of, events_of, new_peer, block_length}
-use Rattle.h2_calls.specs.States.{this_side_ends}
+use Rattle.h2_streams.specs.Calls.{Moment, read, ended, Calls, AreRead, IsFault, frames_of, events_of, new_peer, block_length}
+use Rattle.h2_streams.specs.States.{this_side_ends}
 use Rattle.h2_recv.specs.declared.reader.Reader.{Reader}
 
 -- the octets before a client's frames (RFC 9113 section 3.4)

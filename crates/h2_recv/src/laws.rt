@@ -2,7 +2,7 @@
 ghost use Rattle.std.specs.Prelude.{◌≡◌, ℕ, List, [], ◌∷◌, ◌++◌};
 ghost use Rattle.h2_frame.specs.Frames.{IsPart};
 ghost use Rattle.h2_events.specs.Events.{largest_frame};
-ghost use Rattle.h2_calls.specs.Calls.{Moment, ended, causes_of};
+ghost use Rattle.h2_streams.specs.Calls.{Moment, ended, causes_of};
 ghost use Rattle.h2_recv.specs.declared.reader.Reader.{Reader as Reading};
 ghost use Rattle.h2_recv.specs.Receiving.{Reads, Faults, Astray, Stops, ReadsWithEnds, FaultsWithEnds, ends_of, new_reader, reader_ended};
 

@@ -1,5 +1,5 @@
 //! The receiving half of an HTTP/2 connection: octets of a client in any pieces in, events out. Start with `Recv` and
-//! specs/Receiving.antt; what a whole frame means stands in h2_calls.
+//! specs/Receiving.antt; what a whole frame means stands in h2_streams.
 #![tactic(auto)]
 
 mod laws;

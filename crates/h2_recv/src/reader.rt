@@ -7,9 +7,9 @@ ghost use Rattle.h2_recv.specs.Receiving.{next_end};
 
 use crate::unread::Unread;
 use base_lists::NoMemory;
-use h2_calls::{Answer, Peer};
 use h2_events::{RecvEvent, RecvEvents, RecvFault};
 use h2_frame::{Got, read_frame};
+use h2_streams::{Answer, Peer};
 use std::alloc::Global;
 
 const LARGEST_FRAME: u32 = 16_384;

@@ -2,8 +2,8 @@
 ghost use Rattle.std.specs.Prelude.{◌≡◌, ◌≤◌, ◌<◌, ◌↔◌, ℕ, List, [], length, Ok, Err, OnOk, IsTrue};
 ghost use Rattle.h2_frame.specs.Frames.{IsPart};
 ghost use Rattle.h2_events.specs.Events.{largest_frame};
-ghost use Rattle.h2_calls.specs.Calls.{Moment, frames_of};
-ghost use Rattle.h2_calls.specs.declared.peer.Peer.{Peer as Known};
+ghost use Rattle.h2_streams.specs.Calls.{Moment, frames_of};
+ghost use Rattle.h2_streams.specs.declared.peer.Peer.{Peer as Known};
 ghost use Rattle.h2_recv.specs.declared.reader.Reader.{Reader as Reading};
 ghost use Rattle.h2_recv.specs.Receiving.{Fed, Reaches, Faults, EndsFrame, new_reader, state_ended, wanted, missing, held, reader_held, most_held};
 ghost use Rattle.h2_recv.specs.inner.Steps.{HasRead, HasFailed, HasStopped};
@@ -11,9 +11,9 @@ ghost use Rattle.h2_recv.specs.inner.Steps.{HasRead, HasFailed, HasStopped};
 use crate::preface::{PREFACE_OCTETS, goes_on, share};
 use crate::reader::{Reader, wanted};
 use crate::unread::Unread;
-use h2_calls::Peer;
 use h2_events::{RecvEvents, RecvFault};
 use h2_frame::PROTOCOL_ERROR;
+use h2_streams::Peer;
 use std::alloc::Global;
 use std::marker::Model;
 

@@ -3,8 +3,8 @@ use Rattle.std.proofs.Common.{◌≡◌, Bool, true, false, ℕ, zero, suc, List
 use Rattle.std.specs.Prelude.{nat_eq}
 use Rattle.std.specs.Result.{IsErrAnd}
 use Rattle.std.proofs.lemmas.List.Concat.{flat_map-append}
-use Rattle.edge_traits.specs.Output.{Output, FailedWithin}
-use Rattle.edge_traits.specs.declared.streams.Failed.{Failed}
+use Rattle.environment.specs.Output.{Output, FailedWithin}
+use Rattle.environment.specs.declared.streams.Failed.{Failed}
 use Rattle.h2_frame.specs.Frames.{Frame}
 use Rattle.h2_windows.specs.Control.{greeting}
 use Rattle.h2_windows.specs.Written.{octets_of, spelled, Writes}

@@ -16,7 +16,7 @@ use Rattle.h2_events.specs.declared.said.Said.TheVariants.{Message, Finish, Stat
 use Rattle.grpc_core.specs.Messages.{framed}
 use Rattle.h2_windows.specs.Streams.{is_stream}
 use Rattle.h2_windows.specs.declared.stream.Stream.{Stream}
-use Rattle.h2_replies.proofs.Fitting.{opening_fits, ending_fits, status_fits}
+use Rattle.h2_send.proofs.ReplyFitting.{opening_fits, ending_fits, status_fits}
 use Rattle.h2_send.specs.Inputs.{Input, Event, Speech, IsSoundInput}
 use Rattle.h2_send.specs.Offers.{has_begun, loaded, with_octets}
 use Rattle.h2_send.specs.Acting.{replies, first_frames, taken_in, handled}

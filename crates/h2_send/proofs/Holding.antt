@@ -3,7 +3,7 @@ use Rattle.std.proofs.Common.{◌≡◌, ℕ, zero, suc, ◌*◌, ◌≤◌, Boo
 use Rattle.std.specs.Prelude.{nat_lt, if◌then◌else◌}
 use Rattle.std.specs.List.{list_any, insert, position_or_len}
 use Rattle.grpc_core.specs.Messages.{framed}
-use Rattle.edge_traits.specs.Output.{Output}
+use Rattle.environment.specs.Output.{Output}
 use Rattle.h2_windows.specs.Bounds.{largest_pending}
 use Rattle.h2_windows.specs.Holding.{waiting}
 use Rattle.h2_windows.specs.Shares.{share}

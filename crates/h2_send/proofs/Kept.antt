@@ -13,7 +13,7 @@ use Rattle.h2_events.specs.declared.event.RecvEvent.{RecvEvent}
 use Rattle.h2_events.specs.declared.event.RecvEvent.TheVariants as event
 use Rattle.h2_events.specs.declared.said.Said.TheVariants.{Message, Finish, Status}
 use Rattle.base_kinds.specs.declared.refusal.Refusal.{Refusal}
-use Rattle.h2_replies.specs.Headers.{opening, ending}
+use Rattle.h2_send.specs.Headers.{opening, ending}
 use Rattle.h2_send.specs.Inputs.{Input, Event, Speech}
 use Rattle.h2_send.specs.Lines.{Line}
 use Rattle.h2_send.specs.Offers.{has_begun}

@@ -13,3 +13,5 @@ pub mod Rising
 pub mod Sayable
 pub mod Octets
 pub mod StreamFrames
+pub mod ReplyFitting
+pub mod ReplySmall

@@ -4,7 +4,7 @@ use Rattle.std.specs.Prelude.{Option, Some, None, ◌==◌, if◌then◌else◌}
 use Rattle.std.specs.List.{filter, flat_map}
 use Rattle.std.proofs.lemmas.List.Elements.{filter-append}
 use Rattle.std.proofs.lemmas.List.Concat.{flat_map-append}
-use Rattle.edge_traits.specs.Output.{Output, Wrote, FailedWithin}
+use Rattle.environment.specs.Output.{Output, Wrote, FailedWithin}
 use Rattle.h2_windows.specs.Control.{greeting}
 use Rattle.h2_windows.specs.Written.{spelled, octets_of}
 use Rattle.h2_windows.proofs.Fronts.{wrote_both, failed_behind}
@@ -20,7 +20,7 @@ use Rattle.h2_events.proofs.Orders.{heard-append, said_on-append, said_on-wrote,
 use Rattle.h2_events.specs.declared.said.Said.{Said}
 use Rattle.h2_events.specs.declared.said.Said.TheVariants.{Message, Finish, Status}
 use Rattle.base_kinds.specs.declared.refusal.Refusal.{Refusal}
-use Rattle.h2_replies.specs.Headers.{opening, ending}
+use Rattle.h2_send.specs.Headers.{opening, ending}
 use Rattle.h2_send.specs.Inputs.{Input, Event, Speech, item_of, events_of}
 use Rattle.h2_send.specs.Farewells.{farewell}
 use Rattle.h2_send.specs.Lines.{Line, first_line}

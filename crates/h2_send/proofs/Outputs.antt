@@ -1,7 +1,7 @@
 -- What goes out of a wire by a call.
 use Rattle.std.proofs.Common.{inl, inr, ◌≡◌, ℕ, zero, suc, Bool, false, List, [], ◌∷◌, ◌++◌, Result, Ok, Err, refl, sym, ap, ◌∙◌, subst, arith, append-nil}
-use Rattle.edge_traits.specs.Output.{Output, Wrote, FailedWithin}
-use Rattle.edge_traits.specs.declared.streams.Failed.{Failed}
+use Rattle.environment.specs.Output.{Output, Wrote, FailedWithin}
+use Rattle.environment.specs.declared.streams.Failed.{Failed}
 use Rattle.h2_frame.specs.Frames.{Frame}
 use Rattle.h2_windows.specs.Control.{greeting}
 use Rattle.h2_windows.specs.Written.{octets_of, Writes}

@@ -1,6 +1,6 @@
 -- What a port knows of a connection that others have ports to.
 use Rattle.std.proofs.Common.{◌≡◌, ℕ, ◌<◌, Bool, List, [], ◌∷◌, ◌++◌, refl, sym, ap, subst, arith}
-use Rattle.edge_traits.specs.Output.{Output}
+use Rattle.environment.specs.Output.{Output}
 use Rattle.h2_events.specs.Items.{said_by}
 use Rattle.h2_events.specs.Ports.{FitsMessage}
 use Rattle.h2_events.specs.declared.said.Piece.{Piece}

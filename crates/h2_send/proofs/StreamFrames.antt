@@ -13,7 +13,7 @@ use Rattle.h2_windows.specs.Sending.{sent, data_frame, data_frames, payloads_in,
 use Rattle.h2_windows.specs.Streams.{AreRising, is_stream, new_stream, opened, without, granted}
 use Rattle.h2_windows.specs.declared.stream.Stream.{Stream}
 use Rattle.h2_windows.proofs.Rising.{once}
-use Rattle.h2_replies.specs.Headers.{opening, ending, status_answer}
+use Rattle.h2_send.specs.Headers.{opening, ending, status_answer}
 use Rattle.h2_events.specs.Events.{opens, resets}
 use Rattle.h2_events.specs.Items.{Item, written, said_on, can_say_after, is_last}
 use Rattle.h2_events.specs.Items as item

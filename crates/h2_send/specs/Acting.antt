@@ -4,7 +4,7 @@ use Rattle.h2_frame.specs.Frames.{Frame}
 use Rattle.h2_windows.specs.Control.{settings_ack, ping_ack, rst_stream, granted_again}
 use Rattle.h2_windows.specs.Sending.{Sent, sent}
 use Rattle.h2_windows.specs.Streams.{without}
-use Rattle.h2_replies.specs.Headers.{opening, ending, status_answer}
+use Rattle.h2_send.specs.Headers.{opening, ending, status_answer}
 use Rattle.grpc_core.specs.Messages.{framed}
 use Rattle.h2_events.specs.declared.event.RecvEvent.{RecvEvent}
 use Rattle.h2_events.specs.declared.event.RecvEvent.TheVariants as event

@@ -1,6 +1,6 @@
 -- Whether a wire still writes, what it answers then, and on which streams something can be said.
 use Rattle.std.specs.Prelude.{ℕ, Bool, true, false, Result, Ok, Err}
-use Rattle.edge_traits.specs.declared.streams.Failed.{Failed}
+use Rattle.environment.specs.declared.streams.Failed.{Failed}
 use Rattle.h2_events.specs.declared.port.Took.{Took}
 use Rattle.h2_events.specs.declared.port.Took.TheVariants as took
 use Rattle.h2_events.specs.declared.port.Ready.{Ready}

@@ -13,3 +13,5 @@ pub mod Port
 pub mod StreamFrames
 pub mod Wires
 pub mod worked
+pub mod Headers
+pub mod inner

@@ -1,6 +1,6 @@
 -- How a port sees the sender of a connection, and what its calls do there.
 use Rattle.std.specs.Prelude.{◌≡◌, ℕ, ◌+◌, ◌-◌, ◌^◌, ◌≤◌, Bool, IsTrue, min, List, [], ◌∷◌, ◌++◌, Option, Some, length, map}
-use Rattle.edge_traits.specs.Output.{Output, Wrote, FailedWithin}
+use Rattle.environment.specs.Output.{Output, Wrote, FailedWithin}
 use Rattle.h2_windows.specs.Written.{octets_of}
 use Rattle.h2_events.specs.Items.{said_on, written}
 use Rattle.h2_events.specs.declared.said.Piece.{Piece}

@@ -3,7 +3,7 @@ use Rattle.std.specs.Prelude.{◌≡◌, ℕ, Bool, true, false, not, nat_eq, �
 use Rattle.std.specs.List.{AllByRecursion, filter}
 use Rattle.h2_frame.specs.Frames.{Frame}
 use Rattle.h2_windows.specs.Pacing.{is_data_on}
-use Rattle.h2_replies.specs.Headers.{opening, ending, status_answer}
+use Rattle.h2_send.specs.Headers.{opening, ending, status_answer}
 use Rattle.h2_events.specs.declared.said.Said.{Said}
 use Rattle.h2_events.specs.declared.said.Said.TheVariants.{Message, Finish, Status}
 use Rattle.h2_send.specs.Wires.{is_control}

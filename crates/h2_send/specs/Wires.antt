@@ -1,7 +1,7 @@
 -- A wire as its callers see it, and what its calls do.
 use Rattle.std.specs.Prelude.{◌≡◌, ℕ, Bool, true, not, nat_eq, ◌&&◌, List, [], ◌∷◌, ◌++◌, Result, Ok, Err, refl}
 use Rattle.std.specs.Coded.{Coded, code_by, coded×}
-use Rattle.edge_traits.specs.Output.{Output, Wrote, FailedWithin}
+use Rattle.environment.specs.Output.{Output, Wrote, FailedWithin}
 use Rattle.h2_frame.specs.Frames.{Frame}
 use Rattle.h2_frame.specs.Kinds.{data_kind, headers_kind}
 use Rattle.h2_windows.specs.Control.{greeting}

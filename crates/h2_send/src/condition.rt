@@ -2,7 +2,7 @@ ghost use Rattle.std.specs.Prelude.{◌≡◌};
 ghost use Rattle.h2_send.specs.Conditions.{answer_of, answered, condition_after, is_closed, took_of};
 
 use crate::fault::WireFaultOut;
-use edge_traits::Failed;
+use environment::Failed;
 use h2_events::Took;
 
 /// Whether a wire still writes, and if not, what closed it.

@@ -14,11 +14,11 @@ ghost use Rattle.h2_send.specs.Acting.{flushed, headers_for, spoken};
 
 use crate::gathered::Gathered;
 use crate::offers::{has_begun, load, ready_on, taken_on};
+use crate::{ending, opening, status_answer};
 use base_lists::{Bytes, NoMemory};
-use edge_traits::{Failed, Sink, write_whole};
+use environment::{Failed, Sink, write_whole};
 use grpc_core::frame_message;
 use h2_events::{Piece, Ready, RecvEvent};
-use h2_replies::{ending, opening, status_answer};
 use h2_windows::{
     Stream, Window, close, grant, held, initial_passes, open, send_allowed, stream_passes,
 };

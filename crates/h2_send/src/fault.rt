@@ -1,7 +1,7 @@
 ghost use Rattle.std.specs.Prelude.{◌≡◌};
 
 use base_lists::NoMemory;
-use edge_traits::Failed;
+use environment::Failed;
 
 /// Why a call on the wire ended.
 #[derive(Clone, Copy, Debug, PartialEq, Eq)]

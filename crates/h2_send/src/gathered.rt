@@ -1,9 +1,9 @@
 //! Small frames that go out in one piece.
 ghost use Rattle.std.specs.Prelude.{◌≡◌};
-ghost use Rattle.edge_traits.specs.Output.{WriteTakes};
+ghost use Rattle.environment.specs.Output.{WriteTakes};
 
 use base_lists::{Bytes, Tally};
-use edge_traits::{Failed, Sink};
+use environment::{Failed, Sink};
 use std::marker::Model;
 
 /// A sink in memory, in which frames are gathered. It fails where memory runs out.
@@ -14,7 +14,7 @@ pub struct Gathered {
 }
 
 impl Model for Gathered {
-    ghost use Rattle.edge_traits.specs.Output.{Output};
+    ghost use Rattle.environment.specs.Output.{Output};
 
     ghost Value = { Output };
 

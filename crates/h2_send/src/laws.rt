@@ -14,7 +14,7 @@ ghost use Rattle.h2_events.specs.Ports.{FitsMessage};
 ghost use Rattle.h2_events.specs.declared.said.Piece.{Piece as Given};
 ghost use Rattle.h2_events.specs.declared.port.Took.{Took as Answer};
 ghost use Rattle.h2_events.specs.Items as item;
-ghost use Rattle.edge_traits.specs.Output.{Output, Wrote, FailedWithin};
+ghost use Rattle.environment.specs.Output.{Output, Wrote, FailedWithin};
 ghost use Rattle.h2_windows.specs.Control.{greeting};
 ghost use Rattle.h2_windows.specs.Written.{octets_of};
 ghost use Rattle.h2_events.specs.declared.said.Said.{Said as Spoken};

@@ -6,7 +6,7 @@ ghost use Rattle.h2_send.specs.Port.{Asks, Offers, accepted_by, asked, given_by,
 
 use crate::wire::Wire;
 use base_lists::Remembered;
-use edge_traits::Sink;
+use environment::Sink;
 use h2_events::{Piece, Ready, Took};
 use std::alloc::Global;
 use std::marker::Model;

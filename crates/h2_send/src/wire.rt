@@ -12,7 +12,7 @@ ghost use Rattle.h2_send.specs.Port.{asked, noted, unused_port};
 ghost use Rattle.h2_send.specs.Acting.{acted, handled, replies};
 ghost use Rattle.h2_send.specs.Conditions.{answer_of, readiness};
 ghost use Rattle.h2_send.specs.Offers.{IsStatus, has_begun, taken_on};
-ghost use Rattle.edge_traits.specs.Output.{Output};
+ghost use Rattle.environment.specs.Output.{Output};
 ghost use Rattle.h2_send.specs.Conditions.{IsClosed};
 ghost use Rattle.h2_send.specs.Outputs.{HasGoneOut};
 ghost use Rattle.h2_send.specs.Wires.{Does, IsFolded, IsSoundWire, Responds, Says, behind_greeting, greeted, finished, finished_ungreeted, farewell, last_frames};
@@ -23,7 +23,7 @@ use crate::fault::WireFaultOut;
 use crate::given::Given;
 use crate::port::Port;
 use base_lists::Remembered;
-use edge_traits::{Failed, Sink, write_whole};
+use environment::{Failed, Sink, write_whole};
 use h2_events::{Piece, Ready, RecvEvent, Took};
 use h2_windows::{
     put_goaway, put_grants, put_greeting, put_ping_ack, put_rst_stream, put_settings_ack,

@@ -4,7 +4,7 @@ use Rattle.std.proofs.lemmas.List.{take-append-le, length-append}
 use Rattle.std.proofs.Math.Seq.{take-append-add}
 use Rattle.h2_frame.specs.Frames.{Frame}
 use Rattle.h2_windows.specs.Written.{WritesOctets, spelled, octets_of}
-use Rattle.edge_traits.specs.Output.{Output, output_with, output_with_fault, Wrote, FailedWithin}
+use Rattle.environment.specs.Output.{Output, output_with, output_with_fault, Wrote, FailedWithin}
 
 take_first : (n : ℕ) (a b : List ℕ) → n < length a → take n (a ++ b) ≡ take n a
 take_first n a b less = take-append-le n a b (omega (arith, less))

@@ -1,7 +1,7 @@
 -- Frames as the octets that a sink gets.
 use Rattle.std.specs.Prelude.{ℕ, List, Result, MatchResult}
 use Rattle.std.specs.List.{flat_map}
-use Rattle.edge_traits.specs.Output.{Output, Wrote, FailedWithin}
+use Rattle.environment.specs.Output.{Output, Wrote, FailedWithin}
 use Rattle.h2_frame.specs.Frames.{Frame, spelling}
 
 -- a frame as it is sent

@@ -5,7 +5,7 @@ ghost use Rattle.h2_windows.specs.Written.{Writes, spelled};
 ghost use Rattle.h2_windows.specs.Control.{greeting, settings_ack, ping_ack, rst_stream, window_update, granted_again, goaway};
 
 use crate::frames::put_frame;
-use edge_traits::{Failed, Sink, write_whole};
+use environment::{Failed, Sink, write_whole};
 use h2_frame::{ACK, GOAWAY, Head, PING, RST_STREAM, SETTINGS, WINDOW_UPDATE, head_octets};
 
 /// MAX_CONCURRENT_STREAMS 32 and MAX_HEADER_LIST_SIZE 16,384 (RFC 9113 section 6.5.2).

@@ -4,7 +4,7 @@ ghost use Rattle.h2_frame.specs.Frames.{frame_of};
 ghost use Rattle.h2_windows.specs.Written.{Writes, WritesOctets, spelled};
 ghost use Rattle.h2_windows.specs.Sending.{data_frames};
 
-use edge_traits::{Failed, Sink, write_whole};
+use environment::{Failed, Sink, write_whole};
 use h2_frame::{DATA, Head, head_octets};
 
 /// The largest payload that every peer takes (RFC 9113 section 4.2).

@@ -8,7 +8,7 @@ ghost use Rattle.h2_windows.specs.Sending.{sent};
 use crate::frames::put_data;
 use crate::stream::Stream;
 use crate::window::Window;
-use edge_traits::{Failed, Sink};
+use environment::{Failed, Sink};
 
 /// How many octets of a stream may go now.
 fn share(initial: u32, window: &Window, stream: &Stream) -> usize

@@ -5,7 +5,7 @@ use Rattle.serde_json.specs.Data.{Data, Items, item}
 use Rattle.base_kinds.specs.declared.schema.Shape.{Shape}
 use Rattle.base_kinds.specs.declared.value.Value.{Value}
 use Rattle.base_kinds.specs.Values.{same_scalar, all_differ}
-use Rattle.scalar_order.proofs.OneMore.{differ_more}
+use Rattle.value_core.proofs.OneMore.{differ_more}
 use Rattle.json_rows.specs.Leaves.{leaf_at, unless_listed, values_from}
 
 -- what the items give behind values that may be equal

@@ -14,10 +14,10 @@ use crate::leaves::leaf_at;
 use crate::seen_keys::SeenKeys;
 use crate::texts::text_of;
 use base_kinds::{Elem, Keys, NoMemory, Path, Row, Rows, Seq, Shape, Text, Value, Values};
-use scalar_order::all_differ;
 use schema_core::{NodeId, Schema};
 use serde_json::Value as Json;
 use std::alloc::Global;
+use value_core::all_differ;
 
 /// The path with one more element, in as much memory as it needs.
 pub(crate) fn below(alloc: Global, above: &Path, name: &str, keys: Keys) -> Result<Path, NoMemory>

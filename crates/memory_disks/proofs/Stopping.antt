@@ -1,6 +1,6 @@
 -- What the calls of a disk that stops do to what it tells, and to its count of faults.
 use Rattle.std.proofs.Common.{◌≡◌, inl, inr, ℕ, ◌+◌, List, length, take, true, false, Result, Ok, Err, refl, ap, subst, sym, ◌∙◌, arith}
-use Rattle.edge_traits.specs.Faults.{HasCause}
+use Rattle.environment.specs.Faults.{HasCause}
 use Rattle.disk_model.specs.Content.{Content, Changes}
 use Rattle.disk_model.specs.Images.{IsImage, mask_after_write, mask_after_sync}
 use Rattle.disk_model.proofs.Images.{image_of_touched, image_of_front, image_of_cut, image_of_written, image_self}

@@ -1,6 +1,6 @@
 ghost use Rattle.std.specs.Prelude.{◌≡◌, ◌↔◌, ◌≤◌, ◌∷◌, ℕ, [], length, take, drop, min, true};
 ghost use Rattle.std.specs.Prelude.{IsOk, Some, None, IfOk, OnOk, OnErr, refl};
-ghost use Rattle.edge_traits.specs.Faults.{HasCause};
+ghost use Rattle.environment.specs.Faults.{HasCause};
 ghost use Rattle.disk_model.specs.Arming.{outcome_of, restarted, with_failure, with_stop};
 ghost use Rattle.disk_model.specs.Calls.{CallEnds, armed_with, starved};
 ghost use Rattle.disk_model.specs.Content.{Content, ReadsAt, Changes, Wrote};
@@ -16,7 +16,7 @@ use crate::memory::MemDisk;
 use base_kinds::Fill;
 use base_lists::{NoMemory, Tally};
 use disk_model::{Armed, Disk, Outcome};
-use edge_traits::Failed;
+use environment::Failed;
 use std::alloc::Global;
 use std::marker::Model;
 use std::snapshot::Snapshot;

@@ -1,6 +1,6 @@
 ghost use Rattle.std.specs.Prelude.{◌≡◌, ◌≤◌, ℕ, [], length, take, drop, min, false, IsOk, Some};
 ghost use Rattle.std.specs.Prelude.{IfOk, OnOk, OnErr};
-ghost use Rattle.edge_traits.specs.Faults.{HasCause};
+ghost use Rattle.environment.specs.Faults.{HasCause};
 ghost use Rattle.disk_model.specs.Calls.{CallEnds};
 ghost use Rattle.disk_model.specs.Content.{Content, ReadsAt, Changes, Wrote};
 ghost use Rattle.disk_model.specs.Images.{IsImage, mask_after_sync, mask_after_write};
@@ -12,7 +12,7 @@ use crate::log::Log;
 use crate::octets::{copy_from, write_over};
 use base_lists::{NoMemory, Tally};
 use disk_model::Disk;
-use edge_traits::Failed;
+use environment::Failed;
 use std::alloc::Global;
 use std::marker::Model;
 

@@ -1,6 +1,6 @@
 // The steps of the calls of a disk that stops.
 ghost use Rattle.std.specs.Prelude.{◌≡◌, ◌↔◌, ◌≤◌, length, take, drop, min, IsOk, OnOk};
-ghost use Rattle.edge_traits.specs.Faults.{HasCause};
+ghost use Rattle.environment.specs.Faults.{HasCause};
 ghost use Rattle.disk_model.specs.Arming.{outcome_of};
 ghost use Rattle.disk_model.specs.Calls.{CallEnds};
 ghost use Rattle.disk_model.specs.Images.{IsImage};
@@ -14,7 +14,7 @@ use crate::leaving::{keep_base, leave, leave_written, write_noted};
 use crate::octets::copy_from;
 use base_kinds::Fill;
 use disk_model::Outcome;
-use edge_traits::Failed;
+use environment::Failed;
 use std::snapshot::Snapshot;
 
 impl FuseDisk {

@@ -2,7 +2,7 @@
 //! with.
 //!
 //! Start at `PlainTree` (plain_tree.rt). Its contract is that of the trait `TreeLike` of base_kinds, in the words of
-//! base_kinds/specs/Tree.antt, Parts.antt and Weights.antt. Used by script_run and target_top as the tree of their cores.
+//! base_kinds/specs/Tree.antt, Parts.antt and Weights.antt. Used by script_run and program as the tree of their cores.
 #![tactic(auto)]
 
 mod plain_tree;

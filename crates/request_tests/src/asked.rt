@@ -5,7 +5,7 @@ use base_kinds::{
     UnresolvedSet, Value, Values,
 };
 use path_core::write_path_text;
-use set_txn::resolve;
+use set_request::resolve;
 use std::alloc::Global;
 use std::process::Abort;
 use value_core::value_text;

@@ -19,7 +19,7 @@ use Rattle.book_port.specs.Answers.{AnswersSet, AnswersLook}
 use Rattle.book_port.specs.Opened.{rules_in}
 use Rattle.memory_disks.specs.Fuses.{FuseView, fuse_of}
 use Rattle.script_run.specs.AnswerLines.{entry_stamp}
-use Rattle.set_txn.specs.Resolution.{resolved}
+use Rattle.set_request.specs.Resolution.{resolved}
 use Rattle.base_kinds.specs.declared.request.SubLine.{SubLine}
 use Rattle.script_run.specs.declared.calls.NamedCall.{NamedCall}
 use Rattle.script_run.specs.declared.pending.Pending.{Pending}

@@ -7,7 +7,7 @@ use Rattle.base_kinds.specs.Schema.{SchemaNode}
 use Rattle.script_text.specs.declared.line.Line.{Line}
 use Rattle.script_text.specs.Grammar.{IsLine}
 use Rattle.script_text.specs.Lines.{lines_of}
-use Rattle.commit_report.specs.Logs.{log_text}
+use Rattle.log_text.specs.Logs.{log_text}
 use Rattle.base_kinds.specs.Limits.{most_script_octets}
 use Rattle.script_run.specs.ScriptOctets.{is_too_long, to_last_feed, within_limit}
 use Rattle.script_run.specs.ScriptStates.{ScriptState, new_state}

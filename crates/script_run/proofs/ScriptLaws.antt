@@ -22,7 +22,7 @@ use Rattle.history_laws.proofs.Judged.{events_keep_history}
 use Rattle.history_laws.proofs.Given.{base_is_legal, events_are_legal}
 use Rattle.history_laws.proofs.SoundTrees.{no_rows_are_sound, legal_trees_are_sound}
 use Rattle.disk_model.specs.Arming.{Arming}
-use Rattle.set_txn.specs.Resolution.{resolved}
+use Rattle.set_request.specs.Resolution.{resolved}
 use Rattle.script_text.specs.declared.line.Line.{Line}
 use Rattle.script_text.specs.declared.line.Line.TheVariants as lines
 use Rattle.script_text.specs.Lines.{lines_of}
@@ -39,7 +39,7 @@ use Rattle.script_run.specs.Scripts.{Ends, Follows, IsTaken, Prints, RunsScript}
 use Rattle.script_run.specs.declared.run.ScriptEnd.{ScriptEnd}
 use Rattle.script_run.specs.Turns.{BookState, look_event, request_reply, unless_failed}
 use Rattle.script_run.specs.laws.ScriptLaws.{HasNoStop, HaveNoStops, LetsRun, NeverStops, state_behind, with_event, script_events, HaveFitAuthors, LetsPass, LetPass, IsQuiet, clock_event, IsDone, AreDone, LeavesBy}
-use Rattle.set_txn.proofs.FitAsks.{resolved_is_fit}
+use Rattle.set_request.proofs.FitAsks.{resolved_is_fit}
 use Rattle.script_run.proofs.Running.{line_runs, takes_one}
 use Rattle.script_run.proofs.Turns.{book, with_entry, expiry_is}
 use Rattle.script_run.proofs.TurnHistories.{Leaves, request_turn, request_leaves, quiet, event_quiet}

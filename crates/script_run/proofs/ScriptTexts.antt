@@ -8,7 +8,7 @@ use Rattle.base_kinds.specs.Limits.{most_script_octets}
 use Rattle.base_kinds.specs.Rules.{rules_of}
 use Rattle.base_kinds.specs.Schema.{SchemaNode}
 use Rattle.base_kinds.specs.Step.{Rules}
-use Rattle.commit_report.specs.Logs.{log_text}
+use Rattle.log_text.specs.Logs.{log_text}
 use Rattle.script_text.specs.declared.line.Line.{Line}
 use Rattle.script_text.specs.declared.line.Line.TheVariants as kinds
 use Rattle.script_text.specs.Lines.{lines_of}

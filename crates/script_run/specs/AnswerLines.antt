@@ -12,7 +12,7 @@ use Rattle.base_kinds.specs.declared.request.Note.{Note}
 use Rattle.base_kinds.specs.Texts.{path_text}
 use Rattle.base_kinds.specs.Events.{Event, Answer, OfSet, OfGet}
 use Rattle.base_kinds.specs.Refusals.{number_of, code_of}
-use Rattle.commit_report.specs.Logs.{row_text}
+use Rattle.log_text.specs.Logs.{row_text}
 use Rattle.script_text.specs.declared.line.Line.{Line}
 use Rattle.script_run.specs.ScriptStates.{ScriptState, rules_in, line_event, line_look, line_step, look_answer, book_behind}
 use Rattle.script_run.specs.Subscribing.{CallStep}

@@ -14,7 +14,7 @@ use Rattle.base_kinds.specs.Rules.{rules_of}
 use Rattle.base_kinds.specs.Schema.{SchemaNode}
 use Rattle.base_kinds.specs.Step.{Rules}
 use Rattle.disk_model.specs.Arming.{Arming, unarmed, with_failure, with_stop}
-use Rattle.set_txn.specs.Resolution.{resolved}
+use Rattle.set_request.specs.Resolution.{resolved}
 use Rattle.script_text.specs.declared.line.Line.{Line}
 use Rattle.script_text.specs.declared.line.Line.TheVariants as lines
 use Rattle.script_run.specs.declared.pending.Pending.{Pending}

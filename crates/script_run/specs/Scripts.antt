@@ -4,7 +4,7 @@ use Rattle.std.specs.Prelude.{◌≡◌, ℕ, ◌+◌, List, [], ◌∷◌, ◌+
 use Rattle.std.specs.Fmt.{decimal}
 use Rattle.base_kinds.specs.declared.entry.Limits.{Limits}
 use Rattle.base_kinds.specs.Schema.{SchemaNode}
-use Rattle.commit_report.specs.Logs.{log_text}
+use Rattle.log_text.specs.Logs.{log_text}
 use Rattle.script_text.specs.declared.line.Line.{Line}
 use Rattle.script_text.specs.Grammar.{IsLine}
 use Rattle.script_text.specs.Lines.{lines_of}

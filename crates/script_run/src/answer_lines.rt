@@ -5,7 +5,7 @@ ghost use Rattle.script_run.specs.inner.Replies.{reply_lines};
 
 use crate::subscribing::CallReply;
 use base_kinds::{Bytes, NoMemory, Note, Path, Refusal, View};
-use commit_report::put_rows;
+use log_text::put_rows;
 use path_core::write_path_text;
 use plain_texts::{put_number, put_number_line};
 use std::alloc::Global;

@@ -4,7 +4,7 @@ ghost use Rattle.base_kinds.specs.Events.{get_answer, set_answer};
 ghost use Rattle.base_kinds.specs.Legal.{IsFit};
 ghost use Rattle.base_kinds.specs.Limits.{AreInRange};
 ghost use Rattle.base_kinds.specs.Step.{step};
-ghost use Rattle.set_txn.specs.Resolution.{resolved};
+ghost use Rattle.set_request.specs.Resolution.{resolved};
 ghost use Rattle.book_core.specs.Views.{history_in};
 ghost use Rattle.book_port.specs.Opened.{rules_in};
 ghost use Rattle.script_run.specs.inner.ScriptBooks.{IsNew, IsLeft, MayStand, asked_event, asked_turn, left_by, left_by_look, looked_at, read_event};
@@ -19,7 +19,7 @@ use commit_journal::Ledger;
 use memory_disks::{FuseDisk, MemDisk, NO_STOP};
 use plain_tree::PlainTree;
 use schema_core::Schema;
-use set_txn::resolve;
+use set_request::resolve;
 use std::alloc::Global;
 
 /// The book of a script, on a disk in memory that fails where a line says.

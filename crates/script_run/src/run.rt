@@ -11,7 +11,7 @@ ghost use Rattle.script_run.specs.Scripts.{Prints, RunsScript, refused_line};
 use crate::limit::{is_too_long, within_limit};
 use crate::state::ScriptState;
 use base_kinds::{Bytes, Entry, Limits, NoMemory};
-use commit_report::put_log;
+use log_text::put_log;
 use plain_texts::put_number;
 use schema_core::Schema;
 use script_text::{Line, LineFault, next_line, read_line};

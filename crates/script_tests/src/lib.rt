@@ -13,7 +13,7 @@ mod lines;
 #[cfg(test)]
 mod logs;
 #[cfg(test)]
-mod program;
+mod program_runs;
 #[cfg(test)]
 mod runs;
 #[cfg(test)]

@@ -1,7 +1,7 @@
 use base_kinds::{
     Act, Bytes, Elem, Entry, Keys, Kind, Op, Ops, Path, Row, Rows, Text, Value, Values,
 };
-use commit_report::put_log;
+use log_text::put_log;
 use std::alloc::Global;
 use std::process::Abort;
 

@@ -1,4 +1,4 @@
-use edge_traits::{Failed, OutputRecord, Sink};
+use environment::{Failed, OutputRecord, Sink};
 
 /// A sink that counts what it takes, and keeps none of it.
 #[derive(Drop)]

@@ -1,5 +1,5 @@
 //! The two halves of a connection together.
-use edge_traits::MemSink;
+use environment::MemSink;
 use h2_events::{RecvEvents, RecvFault};
 use h2_recv::Recv;
 use h2_send::{Wire, WireFaultOut};

@@ -3,7 +3,7 @@ ghost use Rattle.h2_events.specs.Ports.{FitsMessage};
 
 use crate::halves::{Came, feed};
 use base_lists::{Bytes, Text, Texts};
-use edge_traits::MemSink;
+use environment::MemSink;
 use h2_events::{Piece, Ready, RecvEvent, Took};
 use h2_recv::Recv;
 use h2_send::{Wire, WirePort};

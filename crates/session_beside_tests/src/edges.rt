@@ -1,8 +1,10 @@
 //! The environment of a connection whose peer waits for what is answered before it sends more.
-ghost use Rattle.edge_traits.specs.Memory.{input_of};
+ghost use Rattle.environment.specs.Memory.{input_of};
 
 use base_lists::{NoMemory, Seq};
-use edge_traits::{Failed, MemSink, MemSource, Sink, Source};
+use environment::{
+    Failed, Job, MemSink, MemSource, Pacer, Running, Sink, Source, Starter, StepClock,
+};
 use gnmi_server::Feeding;
 use memory_disks::MemDisk;
 use plain_tree::PlainTree;
@@ -11,8 +13,6 @@ use std::alloc::Global;
 use std::sync::Arc;
 use std::sync::atomic::{AtomicU64, Ordering};
 use std::thread;
-use thread_traits::{Job, Running, Starter};
-use time_traits::{Pacer, StepClock};
 
 /// The first port of a book that others reach too.
 pub(crate) type TestBook<R> = Visit<MemDisk, PlainTree, R>;

@@ -1,7 +1,7 @@
 //! A connection that is served alone, or beside feeders.
 ghost use Rattle.std.specs.Prelude.{◌≡◌, false};
 ghost use Rattle.std.specs.Thread.{IsSend};
-ghost use Rattle.real_edges.specs.HeldStarters.{StartsJob};
+ghost use Rattle.std_environment.specs.HeldStarters.{StartsJob};
 
 use crate::edges::{
     Counter, CountingSink, CountingStarter, Goals, TestBook, TestFeeding, WaitingSource,
@@ -11,12 +11,11 @@ use base_kinds::Limits;
 use base_lists::{Bytes, Copied, Seq, Text, Texts};
 use book_core::{Book, BookOpening};
 use commit_journal::Ledger;
-use edge_traits::{MemSink, MemSource};
+use environment::{MemSink, MemSource, Running, Starter, StepClock};
 use gnmi_server::start_feeder;
 use memory_disks::MemDisk;
 use plain_tree::PlainTree;
-use real_edges::{HeldStarter, ReadyStarter, Starting, ThreadStarter};
-use rpc_desk::Desk;
+use request_desk::Desk;
 use schema_core::Schema;
 use schema_text::read_schema;
 use session_core::{How, SessionEnd, serve_alone, serve_session};
@@ -26,8 +25,7 @@ use std::process::Abort;
 use std::sync::atomic::{AtomicU64, Ordering};
 use std::sync::{Arc, Wait};
 use std::thread::Threads;
-use thread_traits::{Running, Starter};
-use time_traits::StepClock;
+use std_environment::{HeldStarter, ReadyStarter, Starting, ThreadStarter};
 
 const SCHEMA: &[u8] = b"module m\nleaf /a string\nleaf /b string\nleaf /c string\n";
 

@@ -21,12 +21,12 @@ use Rattle.h2_events.specs.declared.event.RecvEvent.{RecvEvent}
 use Rattle.h2_events.specs.declared.event.RecvEvent.TheVariants as event
 use Rattle.h2_events.specs.Events.{opens}
 use Rattle.h2_send.specs.Accepting.{IsOpenedOnce}
-use Rattle.session_calls.specs.declared.request.Asked.{Asked}
-use Rattle.session_calls.specs.declared.request.Asked.TheVariants as asks
-use Rattle.session_calls.specs.declared.request.Request.{Request}
-use Rattle.session_calls.specs.Calls.{Call, asks_at, asks_by, asks_of, asks_open, asks_over, asks_with, call_after, ends_with, further, has_message, is_over, is_over_at, is_over_with, refusal_of, stream_of, subscribe_end, with_piece}
-use Rattle.session_calls.specs.Requests.{asks_more, is_on, open_after, open_call, requests, requests_after, requests_of, requests_on, requests_with, still_open}
-use Rattle.session_calls.proofs.Tables.{open_more}
+use Rattle.grpc_requests.specs.declared.request.Asked.{Asked}
+use Rattle.grpc_requests.specs.declared.request.Asked.TheVariants as asks
+use Rattle.grpc_requests.specs.declared.request.Request.{Request}
+use Rattle.grpc_requests.specs.Calls.{Call, asks_at, asks_by, asks_of, asks_open, asks_over, asks_with, call_after, ends_with, further, has_message, is_over, is_over_at, is_over_with, refusal_of, stream_of, subscribe_end, with_piece}
+use Rattle.grpc_requests.specs.Requests.{asks_more, is_on, open_after, open_call, requests, requests_after, requests_of, requests_on, requests_with, still_open}
+use Rattle.grpc_requests.proofs.Tables.{open_more}
 
 -- what is asked on a stream, in order
 abbrev pub asked_on : ℕ → List Request → List Asked

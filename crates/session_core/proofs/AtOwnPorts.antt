@@ -6,11 +6,11 @@ use Rattle.base_kinds.specs.declared.refusal.Refusal.{Refusal}
 use Rattle.base_kinds.specs.Schema.{SchemaNode}
 use Rattle.book_port.specs.Follows.{Turn}
 use Rattle.book_port.specs.Ports.{PortView, TakesTurn}
-use Rattle.rpc_desk.specs.Answers.{IsAnsweredBy, Moves}
-use Rattle.rpc_desk.specs.Tasks.{Task}
+use Rattle.request_desk.specs.Answers.{IsAnsweredBy, Moves}
+use Rattle.request_desk.specs.Tasks.{Task}
 use Rattle.subscribe_calls.specs.Calls.{CallView}
 use Rattle.subscribe_calls.specs.Turns.{TurnsOnce}
-use Rattle.session_feeders.specs.Ports.{own_port}
+use Rattle.stream_workers.specs.Ports.{own_port}
 
 own_turn : {T : Type 0} (old new : PortView) (turn : Turn) (result : Result T Refusal) → TakesTurn old turn result new → TakesTurn (own_port old) turn result (own_port new)
 own_turn old new turn result t = record {

@@ -2,9 +2,9 @@
 use Rattle.std.proofs.Common.{◌≡◌, ◌⊎◌, inl, inr, true, false, ℕ, List, [], ◌∷◌, map, refl, sym, ap, ◌∙◌, subst, arith, append-nil, Result, Ok, Err}
 use Rattle.std.specs.Prelude.{IfErr, MatchResult}
 use Rattle.std.specs.List.{AllByRecursion}
-use Rattle.edge_traits.specs.Input.{Input as Source, Read}
-use Rattle.edge_traits.specs.Output.{Output, Wrote}
-use Rattle.edge_traits.proofs.Pieces.{Read-nothing}
+use Rattle.environment.specs.Input.{Input as Source, Read}
+use Rattle.environment.specs.Output.{Output, Wrote}
+use Rattle.environment.proofs.Pieces.{Read-nothing}
 use Rattle.base_kinds.specs.Schema.{SchemaNode}
 use Rattle.h2_windows.specs.Written.{octets_of}
 use Rattle.h2_windows.proofs.Fronts.{wrote_both}
@@ -12,7 +12,7 @@ use Rattle.h2_events.specs.declared.event.RecvEvent.{RecvEvent}
 use Rattle.h2_recv.specs.Receiving.{State, ReadsWithEnds, new_reader}
 use Rattle.h2_recv.proofs.RunLemmas.{part_of_nothing}
 use Rattle.h2_send.specs.Inputs.{Input}
-use Rattle.h2_calls.specs.Calls.{reads_of}
+use Rattle.h2_streams.specs.Calls.{reads_of}
 use Rattle.h2_events.specs.Items as item
 use Rattle.h2_send.specs.Accepting.{AreAccepted}
 use Rattle.h2_send.specs.Lines.{first_line}
@@ -26,8 +26,8 @@ use Rattle.h2_send.specs.declared.fault.WireFaultOut.{WireFaultOut}
 use Rattle.h2_send.specs.declared.fault.WireFaultOut.TheVariants as faults
 use Rattle.h2_send.proofs.Orders.{output_ends}
 use Rattle.book_port.specs.Ports.{PortView}
-use Rattle.session_calls.specs.declared.request.Request.{Request}
-use Rattle.session_feeders.specs.Feeders.{Started, is_fed}
+use Rattle.grpc_requests.specs.declared.request.Request.{Request}
+use Rattle.stream_workers.specs.Feeders.{Started, is_fed}
 use Rattle.session_core.specs.declared.how.How.{How}
 use Rattle.session_core.specs.declared.how.How.TheVariants as hows
 use Rattle.session_core.specs.declared.waiting.Waiting.{Waiting}

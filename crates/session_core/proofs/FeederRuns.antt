@@ -24,12 +24,12 @@ use Rattle.h2_send.specs.Orders.{order_of}
 use Rattle.h2_send.specs.Port.{Progress}
 use Rattle.h2_send.specs.StreamFrames.{AreLast}
 use Rattle.h2_send.specs.declared.condition.Condition.{Condition}
-use Rattle.session_feeders.specs.Feeders.{Feeder, MeetsEach, streams_of}
-use Rattle.session_feeders.specs.Ports.{own_port}
-use Rattle.stream_feed.specs.Books.{IsMadeIn, StandAmong}
-use Rattle.stream_feed.specs.Feeds.{Feeds, IsCause, IsLost, last_pieces}
-use Rattle.stream_feed.specs.declared.job.FeedEnd.{FeedEnd}
-use Rattle.stream_feed.specs.declared.job.FeedEnd.TheVariants as ends
+use Rattle.stream_workers.specs.Feeders.{Feeder, MeetsEach, streams_of}
+use Rattle.stream_workers.specs.Ports.{own_port}
+use Rattle.stream_worker.specs.Books.{IsMadeIn, StandAmong}
+use Rattle.stream_worker.specs.Feeds.{Feeds, IsCause, IsLost, last_pieces}
+use Rattle.stream_worker.specs.declared.job.FeedEnd.{FeedEnd}
+use Rattle.stream_worker.specs.declared.job.FeedEnd.TheVariants as ends
 use Rattle.stream_laws.specs.Runs.{Moment}
 use Rattle.subscribe_calls.specs.Calls.{reply_octets}
 use Rattle.session_core.specs.declared.how.How.{How}

@@ -16,26 +16,26 @@ use Rattle.h2_events.specs.Items.{Item, Read, heard, said_on}
 use Rattle.h2_events.specs.Items as item
 use Rattle.h2_frame.specs.Frames.{Frame}
 use Rattle.h2_events.proofs.Orders.{said_on-append}
-use Rattle.h2_calls.specs.Calls.{Moment, events_of, reads_of}
-use Rattle.h2_calls.specs.Calls as calls
+use Rattle.h2_streams.specs.Calls.{Moment, events_of, reads_of}
+use Rattle.h2_streams.specs.Calls as calls
 use Rattle.h2_send.specs.Accepting.{IsOpenedOnce}
 use Rattle.h2_send.specs.Inputs.{Input, Event, Speech, item_of}
 use Rattle.h2_send.specs.Lines.{first_line}
 use Rattle.h2_send.specs.Orders.{order_of}
 use Rattle.h2_send.specs.Port.{Progress}
 use Rattle.h2_send.proofs.Orders.{said_again}
-use Rattle.rpc_desk.specs.declared.subscribe_steps.SubscribeStep.TheVariants.{Begin}
-use Rattle.session_calls.specs.declared.request.Request.{Request}
-use Rattle.session_calls.specs.Requests.{requests}
+use Rattle.request_desk.specs.declared.subscribe_steps.SubscribeStep.TheVariants.{Begin}
+use Rattle.grpc_requests.specs.declared.request.Request.{Request}
+use Rattle.grpc_requests.specs.Requests.{requests}
 use Rattle.shared_wire.specs.Records.{Deed as WireDeed, Began, Gave, Refused, Ended, Starved, AreRecords, WireRecord, left_in, record_author}
 use Rattle.shared_wire.specs.Visits.{AreOfThese, HasJustMade, IsOfOne, VisitEnd, VisitView, end_of, first_records, given_in, given_of}
 use Rattle.shared_wire.proofs.Owning.{all_of}
-use Rattle.stream_feed.specs.Feeds.{Feeds, Ports}
+use Rattle.stream_worker.specs.Feeds.{Feeds, Ports}
 use Rattle.sub_plan.specs.declared.plan.Plan.{Plan}
 use Rattle.turn_lock.specs.Chronicles.{entries_by}
 use Rattle.turn_lock.proofs.Counts.{by_hit, by_miss}
-use Rattle.session_feeders.specs.Feeders.{AllEnd, Feeder, HasEnded, HaveEnded, MeetsVisits, Started, is_fed, streams_of, words_of}
-use Rattle.session_feeders.specs.Ports.{IsUnused}
+use Rattle.stream_workers.specs.Feeders.{AllEnd, Feeder, HasEnded, HaveEnded, MeetsVisits, Started, is_fed, streams_of, words_of}
+use Rattle.stream_workers.specs.Ports.{IsUnused}
 use Rattle.session_core.specs.declared.waiting.Waiting.{Waiting}
 use Rattle.session_core.specs.Deeds.{AreDone, Deed, Service, handed_in, requests_in, said_to, turns_in}
 use Rattle.session_core.specs.FeederRuns.{IsNewPort, ServesCall}

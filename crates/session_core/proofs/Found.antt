@@ -4,7 +4,7 @@ use Rattle.std.specs.Prelude.{Option, Some}
 use Rattle.std.specs.List.{AllByRecursion}
 use Rattle.h2_send.specs.Inputs.{Input}
 use Rattle.h2_send.specs.Port.{Progress}
-use Rattle.session_feeders.specs.Feeders.{IsOfFeeder}
+use Rattle.stream_workers.specs.Feeders.{IsOfFeeder}
 use Rattle.session_core.specs.inner.Feeders.{AreOfFeeders}
 use Rattle.session_core.specs.inner.Sending.{WireHistory, Finds, Gives, HasGrown, SaysNothing}
 

@@ -1,9 +1,9 @@
 -- Frame by frame, to the end.
 use Rattle.std.proofs.Common.{refl, inl, ℕ, List, [], ◌++◌, sym, ◌∙◌}
-use Rattle.edge_traits.specs.Input.{Input as Source, Read}
+use Rattle.environment.specs.Input.{Input as Source, Read}
 use Rattle.base_kinds.specs.Schema.{SchemaNode}
 use Rattle.h2_events.specs.declared.event.RecvEvent.{RecvEvent}
-use Rattle.h2_calls.specs.Calls.{Moment}
+use Rattle.h2_streams.specs.Calls.{Moment}
 use Rattle.h2_recv.specs.Receiving.{State}
 use Rattle.h2_send.specs.Port.{Progress}
 use Rattle.session_core.specs.declared.how.How.{How}

@@ -10,8 +10,8 @@ use Rattle.shared_wire.specs.Records.{Deed as WireDeed, Began, Gave, Refused, En
 use Rattle.shared_wire.specs.Visits.{VisitView}
 use Rattle.shared_wire.proofs.Following.{follow_behind}
 use Rattle.shared_wire.proofs.Holding.{closed_not_open}
-use Rattle.stream_feed.specs.Wires.{WireView}
-use Rattle.session_feeders.specs.Feeders.{Feeder, HasEnded, HaveEnded, MeetsVisits, Started}
+use Rattle.stream_worker.specs.Wires.{WireView}
+use Rattle.stream_workers.specs.Feeders.{Feeder, HasEnded, HaveEnded, MeetsVisits, Started}
 
 -- ---- what the records of a wire gave
 

@@ -4,8 +4,8 @@ use Rattle.std.specs.List.{AllByRecursion}
 use Rattle.std.proofs.lemmas.Bool.{false≢true}
 use Rattle.base_kinds.specs.Schema.{SchemaNode}
 use Rattle.book_port.specs.Ports.{PortView}
-use Rattle.edge_traits.specs.Input.{Input as Source}
-use Rattle.edge_traits.specs.Output.{Output}
+use Rattle.environment.specs.Input.{Input as Source}
+use Rattle.environment.specs.Output.{Output}
 use Rattle.h2_recv.specs.Receiving.{State}
 use Rattle.h2_send.specs.Conditions.{IsClosed}
 use Rattle.h2_send.specs.declared.condition.Condition.TheVariants as condition
@@ -17,9 +17,9 @@ use Rattle.shared_wire.specs.Records.{AreRecords, WireRecord, left_in, record_au
 use Rattle.shared_wire.specs.Visits.{GivesBack, IsFirstVisit, OthersWentOn, VisitView, end_of, first_records, given_in, others_of, records_of_others}
 use Rattle.shared_wire.proofs.Holding.{closed_not_open}
 use Rattle.shared_wire.proofs.OthersDid.{others_later}
-use Rattle.session_feeders.specs.Feeders.{AllEnd, IsOfFeeder, MeetsVisits, Started, is_fed, streams_of}
-use Rattle.session_feeders.specs.Ports.{own_port}
-use Rattle.session_feeders.proofs.Theirs.{others_are_feeders}
+use Rattle.stream_workers.specs.Feeders.{AllEnd, IsOfFeeder, MeetsVisits, Started, is_fed, streams_of}
+use Rattle.stream_workers.specs.Ports.{own_port}
+use Rattle.stream_workers.proofs.Theirs.{others_are_feeders}
 use Rattle.session_core.specs.declared.how.How.{How}
 use Rattle.session_core.specs.declared.how.How.TheVariants as hows
 use Rattle.session_core.specs.Deeds.{handed_in}
@@ -27,11 +27,11 @@ use Rattle.session_core.specs.FeederRuns.{SessionRunBeside}
 use Rattle.session_core.specs.Runs.{Outside, RunBeside, SessionRun, outside_of, start_of}
 use Rattle.session_core.specs.Serving.{deeds_in, standing_of, without_fed}
 use Rattle.session_core.specs.Writing.{IsLostLast}
-use Rattle.h2_calls.specs.Calls.{reads_of}
+use Rattle.h2_streams.specs.Calls.{reads_of}
 use Rattle.h2_events.specs.declared.event.RecvEvent.{RecvEvent}
 use Rattle.h2_send.specs.Port.{unused_port}
 use Rattle.book_port.specs.Opened.{Opened}
-use Rattle.session_feeders.specs.Feeders.{AreOf, FeedersView}
+use Rattle.stream_workers.specs.Feeders.{AreOf, FeedersView}
 use Rattle.session_core.specs.inner.Feeders.{AreOfSession, IsOwnVisit, FeederState, feeder_state, book_of}
 use Rattle.session_core.specs.inner.Sending.{WireHistory}
 use Rattle.session_core.specs.inner.Places.{Begins, HasFinished, IsServing, place_of}

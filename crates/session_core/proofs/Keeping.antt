@@ -7,14 +7,14 @@ use Rattle.base_kinds.specs.declared.request.ListMode.{ListMode}
 use Rattle.base_kinds.specs.declared.request.ListMode.TheVariants as modes
 use Rattle.base_kinds.specs.Schema.{SchemaNode}
 use Rattle.h2_events.specs.declared.said.Said.{Said}
-use Rattle.rpc_desk.specs.Subscribes.{subscribe_step}
-use Rattle.rpc_desk.specs.declared.subscribe_steps.SubscribeStep.{SubscribeStep}
-use Rattle.rpc_desk.specs.declared.subscribe_steps.SubscribeStep.TheVariants.{Begin, Poll}
-use Rattle.session_calls.specs.declared.request.Asked.{Asked}
-use Rattle.session_calls.specs.declared.request.Asked.TheVariants as asks
-use Rattle.session_calls.specs.declared.request.Later.{Later}
-use Rattle.session_calls.specs.declared.request.Later.TheVariants as later
-use Rattle.session_calls.specs.declared.request.Request.{Request}
+use Rattle.request_desk.specs.Subscribes.{subscribe_step}
+use Rattle.request_desk.specs.declared.subscribe_steps.SubscribeStep.{SubscribeStep}
+use Rattle.request_desk.specs.declared.subscribe_steps.SubscribeStep.TheVariants.{Begin, Poll}
+use Rattle.grpc_requests.specs.declared.request.Asked.{Asked}
+use Rattle.grpc_requests.specs.declared.request.Asked.TheVariants as asks
+use Rattle.grpc_requests.specs.declared.request.Later.{Later}
+use Rattle.grpc_requests.specs.declared.request.Later.TheVariants as later
+use Rattle.grpc_requests.specs.declared.request.Request.{Request}
 use Rattle.sub_plan.specs.declared.plan.Plan.{Plan}
 use Rattle.subscribe_calls.specs.Calls.{CallView}
 use Rattle.session_core.specs.laws.StreamLaws.{IsFirstMessage}

@@ -3,8 +3,8 @@ use Rattle.std.proofs.Common.{◌≡◌, inl, inr, ℕ, ◌==◌, List, [], ◌�
 use Rattle.std.proofs.lemmas.Grind.{common_steps}
 use Rattle.base_kinds.specs.Schema.{SchemaNode}
 use Rattle.book_port.specs.Ports.{PortView}
-use Rattle.session_calls.specs.declared.request.Asked.TheVariants as asks
-use Rattle.session_calls.specs.declared.request.Later.{Later}
+use Rattle.grpc_requests.specs.declared.request.Asked.TheVariants as asks
+use Rattle.grpc_requests.specs.declared.request.Later.{Later}
 use Rattle.session_core.specs.declared.reply.Reply.{Reply}
 use Rattle.session_core.specs.declared.reply.Reply.TheVariants as replies
 use Rattle.session_core.specs.declared.served.Served.{Served}

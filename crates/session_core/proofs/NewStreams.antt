@@ -13,24 +13,24 @@ use Rattle.h2_frame.specs.ErrorCodes.{protocol_error, frame_size_error, stream_c
 use Rattle.h2_events.specs.declared.event.RecvEvent.{RecvEvent}
 use Rattle.h2_events.specs.declared.event.RecvEvent.TheVariants as event
 use Rattle.h2_events.specs.Events.{largest_frame, highest_of}
-use Rattle.h2_calls.specs.declared.streams.StreamState.{StreamState}
-use Rattle.h2_calls.specs.declared.streams.StreamState.TheVariants as state
-use Rattle.h2_calls.specs.declared.kind.Kind.{Kind}
-use Rattle.h2_calls.specs.declared.kind.Kind.TheVariants as kind
-use Rattle.h2_calls.specs.declared.settings.Settings.{Settings}
-use Rattle.h2_calls.specs.declared.peer.HeaderBlock.{HeaderBlock}
-use Rattle.h2_calls.specs.declared.peer.Peer.{Peer}
-use Rattle.h2_calls.specs.Codes.{has, kind_of, largest_block, most_streams}
-use Rattle.h2_calls.specs.States.{is_idle, state_among, peer_ends, open_stream}
-use Rattle.h2_calls.specs.Outcomes.{Outcome, nothing, gives, stream_fault}
-use Rattle.h2_calls.specs.Payloads.{content, number}
-use Rattle.h2_calls.specs.Requests.{is_well_formed}
-use Rattle.h2_calls.specs.Blocks.{refused, request, later_block, block_on, headers_mean}
-use Rattle.h2_calls.specs.Calls.{Moment, read, frames_of, events_of, new_peer}
-use Rattle.h2_calls.specs.Meanings.{Meaning, said, block_ends, data_on, data_with, data_means, with_fragment, longer, headers_with, headers_begin, continuation_means, priority_means, reset_on, rst_stream_means, outcome_of_settings, settings_mean, ping_means, goaway_means, increment_on, increment_means, window_update_means, kind_means, next_means, meaning_of, Comes, Means}
-use Rattle.h2_calls.specs.Laws.{IsSoundPeer, IsReadable, HasClientStream}
-use Rattle.h2_calls.proofs.CallLemmas.{calls_cut, frames_joined, highest_is_from_events}
-use Rattle.h2_calls.proofs.SoundLemmas.{sound_moments}
+use Rattle.h2_streams.specs.declared.streams.StreamState.{StreamState}
+use Rattle.h2_streams.specs.declared.streams.StreamState.TheVariants as state
+use Rattle.h2_streams.specs.declared.kind.Kind.{Kind}
+use Rattle.h2_streams.specs.declared.kind.Kind.TheVariants as kind
+use Rattle.h2_streams.specs.declared.settings.Settings.{Settings}
+use Rattle.h2_streams.specs.declared.peer.HeaderBlock.{HeaderBlock}
+use Rattle.h2_streams.specs.declared.peer.Peer.{Peer}
+use Rattle.h2_streams.specs.Codes.{has, kind_of, largest_block, most_streams}
+use Rattle.h2_streams.specs.States.{is_idle, state_among, peer_ends, open_stream}
+use Rattle.h2_streams.specs.Outcomes.{Outcome, nothing, gives, stream_fault}
+use Rattle.h2_streams.specs.Payloads.{content, number}
+use Rattle.h2_streams.specs.Requests.{is_well_formed}
+use Rattle.h2_streams.specs.Blocks.{refused, request, later_block, block_on, headers_mean}
+use Rattle.h2_streams.specs.Calls.{Moment, read, frames_of, events_of, new_peer}
+use Rattle.h2_streams.specs.Meanings.{Meaning, said, block_ends, data_on, data_with, data_means, with_fragment, longer, headers_with, headers_begin, continuation_means, priority_means, reset_on, rst_stream_means, outcome_of_settings, settings_mean, ping_means, goaway_means, increment_on, increment_means, window_update_means, kind_means, next_means, meaning_of, Comes, Means}
+use Rattle.h2_streams.specs.Laws.{IsSoundPeer, IsReadable, HasClientStream}
+use Rattle.h2_streams.proofs.CallLemmas.{calls_cut, frames_joined, highest_is_from_events}
+use Rattle.h2_streams.proofs.SoundLemmas.{sound_moments}
 use Rattle.h2_recv.specs.declared.reader.Reader.{Reader}
 use Rattle.h2_recv.specs.Receiving.{ReadsWithEnds, new_reader}
 use Rattle.session_core.proofs.Opening.{OpensAbove, all_front}

@@ -13,8 +13,8 @@ use Rattle.base_kinds.specs.Schema.{SchemaNode}
 use Rattle.book_port.specs.Follows.{Turn}
 use Rattle.book_port.specs.Ports.{PortView, LooksOnce, TakesTurn, TakesOne, TakesTurns}
 use Rattle.gnmi_kinds.specs.declared.reply.SubReply.{SubReply}
-use Rattle.rpc_desk.specs.declared.subscribe_steps.SubscribeStep.{SubscribeStep}
-use Rattle.session_calls.specs.declared.request.Asked.TheVariants as asks
+use Rattle.request_desk.specs.declared.subscribe_steps.SubscribeStep.{SubscribeStep}
+use Rattle.grpc_requests.specs.declared.request.Asked.TheVariants as asks
 use Rattle.sub_plan.specs.declared.plan.Plan.{Plan}
 use Rattle.sub_plan.specs.Groups.{patterns_of}
 use Rattle.stream_laws.specs.Runs.{IsStreamRun, first_messages, view_at}

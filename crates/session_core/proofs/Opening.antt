@@ -10,10 +10,10 @@ use Rattle.h2_events.proofs.Streams.{highest-rises}
 use Rattle.h2_send.specs.Accepting.{IsOpenedOnce}
 use Rattle.session_core.specs.Saying.{any_opens}
 use Rattle.std.specs.Prelude.{option_map}
-use Rattle.session_calls.specs.declared.request.Asked.{Asked}
-use Rattle.session_calls.specs.declared.request.Request.{Request}
-use Rattle.session_calls.specs.Calls.{Call, stream_of, call_after, asks_by, with_piece}
-use Rattle.session_calls.specs.Requests.{is_on, still_open, asked_before, open_after, open_call, requests_of, requests_on, requests_with, requests_after, requests}
+use Rattle.grpc_requests.specs.declared.request.Asked.{Asked}
+use Rattle.grpc_requests.specs.declared.request.Request.{Request}
+use Rattle.grpc_requests.specs.Calls.{Call, stream_of, call_after, asks_by, with_piece}
+use Rattle.grpc_requests.specs.Requests.{is_on, still_open, asked_before, open_after, open_call, requests_of, requests_on, requests_with, requests_after, requests}
 
 or_right : (a b : Bool) → b ≡ true → (a || b) ≡ true
 or_right true b is = refl

@@ -12,7 +12,7 @@ use Rattle.h2_send.specs.Lines.{first_line}
 use Rattle.h2_send.specs.Acting.{handled}
 use Rattle.h2_send.specs.Orders.{line_after, order_of}
 use Rattle.h2_send.proofs.Orders.{grows}
-use Rattle.session_feeders.specs.Feeders.{is_fed}
+use Rattle.stream_workers.specs.Feeders.{is_fed}
 use Rattle.session_core.specs.Serving.{without_fed}
 
 pub one_more : (inputs : List Input) (i : Input) → order_of (inputs ++ i ∷ []) ≡ order_of inputs ++ item_of i ∷ map item.Wrote (handled i (line_after first_line inputs)).frames

@@ -13,8 +13,8 @@ use Rattle.h2_send.specs.Lines.{Line, first_line}
 use Rattle.h2_send.specs.Offers.{ready_on}
 use Rattle.h2_send.specs.Orders.{line_after, order_of}
 use Rattle.h2_send.proofs.Closing.{line_after_one}
-use Rattle.session_calls.specs.declared.request.Request.{Request}
-use Rattle.session_feeders.specs.Feeders.{is_fed}
+use Rattle.grpc_requests.specs.declared.request.Request.{Request}
+use Rattle.stream_workers.specs.Feeders.{is_fed}
 use Rattle.session_core.specs.declared.served.Served.{Served}
 use Rattle.session_core.specs.declared.waiting.Waiting.{Waiting}
 use Rattle.session_core.specs.Deeds.{Deed, said_to}

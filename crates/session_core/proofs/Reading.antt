@@ -2,13 +2,13 @@
 use Rattle.std.proofs.Common.{◌≡◌, ◌⊎◌, inl, inr, ℕ, ◌+◌, ◌<◌, ◌≤◌, List, [], ◌∷◌, ◌++◌, length, take, drop, length-append, length-take, refl, sym, ap, ◌∙◌, subst, append-nil, arith, Option, Some, None, Ok, Err}
 use Rattle.std.proofs.lemmas.Bool.{cases_lt}
 use Rattle.std.proofs.lemmas.List.{drop_all}
-use Rattle.edge_traits.specs.Input.{Input as Source, Read, ReadsFront, input_with_fault}
-use Rattle.edge_traits.proofs.Pieces.{Read-trans}
+use Rattle.environment.specs.Input.{Input as Source, Read, ReadsFront, input_with_fault}
+use Rattle.environment.proofs.Pieces.{Read-trans}
 use Rattle.h2_frame.specs.Frames.{Frame}
 use Rattle.h2_frame.specs.ErrorCodes.{protocol_error}
 use Rattle.h2_events.specs.declared.event.RecvEvent.{RecvEvent}
 use Rattle.h2_events.specs.declared.event.RecvFault.TheVariants as fault
-use Rattle.h2_calls.specs.Calls.{Moment, read, ended, AreRead, frames_of, events_of, new_peer}
+use Rattle.h2_streams.specs.Calls.{Moment, read, ended, AreRead, frames_of, events_of, new_peer}
 use Rattle.h2_recv.specs.declared.reader.Reader.{Reader}
 use Rattle.h2_recv.specs.Receiving.{State, preface, share, GoesOn, Opens, Reads, Faults, Astray, ReadsWithEnds, FaultsWithEnds, EndsFrame, Fed, new_reader}
 use Rattle.h2_recv.proofs.RunLemmas.{part_of_nothing}

@@ -4,11 +4,11 @@ use Rattle.std.specs.Prelude.{None, Result, Err}
 use Rattle.base_kinds.specs.declared.refusal.Refusal.{Refusal}
 use Rattle.base_kinds.specs.Schema.{SchemaNode}
 use Rattle.grpc_core.specs.declared.method.Method.{Method}
-use Rattle.session_calls.specs.declared.request.Asked.{Asked}
-use Rattle.session_calls.specs.declared.request.Asked.TheVariants as asks
+use Rattle.grpc_requests.specs.declared.request.Asked.{Asked}
+use Rattle.grpc_requests.specs.declared.request.Asked.TheVariants as asks
 use Rattle.book_port.specs.Ports.{PortView}
-use Rattle.rpc_desk.specs.Answers.{IsAnsweredBy}
-use Rattle.rpc_desk.specs.Services.{task_of}
+use Rattle.request_desk.specs.Answers.{IsAnsweredBy}
+use Rattle.request_desk.specs.Services.{task_of}
 use Rattle.session_core.specs.declared.reply.Reply.TheVariants as replies
 use Rattle.session_core.specs.declared.served.Served.{Served}
 use Rattle.session_core.specs.Deeds.{has_failed}

@@ -12,13 +12,13 @@ use Rattle.h2_events.specs.Events.{opens, resets, highest_of}
 use Rattle.h2_events.specs.Items.{Item, Read, heard, said_on, is_last, as_read, events_read, can_say}
 use Rattle.h2_events.specs.Items as item
 use Rattle.h2_events.proofs.Orders.{events_as_read}
-use Rattle.h2_calls.specs.Calls.{Moment, read, ended, events_of, reads_of}
-use Rattle.h2_calls.proofs.CallLemmas as calls
+use Rattle.h2_streams.specs.Calls.{Moment, read, ended, events_of, reads_of}
+use Rattle.h2_streams.proofs.CallLemmas as calls
 use Rattle.h2_send.specs.Accepting.{IsOpenedOnce}
 use Rattle.h2_send.specs.Inputs.{Input, Event, Speech}
 use Rattle.h2_send.specs.Orders.{order_of}
-use Rattle.session_calls.specs.declared.request.Request.{Request}
-use Rattle.session_calls.specs.Requests.{requests}
+use Rattle.grpc_requests.specs.declared.request.Request.{Request}
+use Rattle.grpc_requests.specs.Requests.{requests}
 use Rattle.session_core.specs.declared.waiting.Waiting.{Waiting}
 use Rattle.session_core.specs.Deeds.{Deed, Handing, Service, IsDeed, AreDone, asked_in, handed_by, requests_in, readings_in, said_to, turns_in}
 use Rattle.session_core.specs.Feeding.{left_last}
@@ -29,7 +29,7 @@ use Rattle.session_core.specs.Serving.{Start, Standing, IsServed, first_service,
 use Rattle.session_core.specs.inner.Places.{course_of}
 use Rattle.session_core.specs.inner.Words.{words}
 use Rattle.session_core.proofs.Rounds.{all_more, inputs_one_more, all_closed, later_frame, frame_more, whole_more, recent_more}
-use Rattle.session_feeders.specs.Feeders.{Started, is_fed}
+use Rattle.stream_workers.specs.Feeders.{Started, is_fed}
 use Rattle.session_core.specs.Serving.{without_fed}
 use Rattle.session_core.specs.inner.Feeders.{HasFeeders, IsServedBeside, IsStartedFor, FeederState, book_of}
 use Rattle.session_core.proofs.Sides.{deed_beside, fewer_wait, front_untold, handing_beside, reader_on, said_to-append, said_to-one, silence_untold, waits_on-append, waits_on-words, without_waits}

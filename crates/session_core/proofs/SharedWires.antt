@@ -28,7 +28,7 @@ use Rattle.shared_wire.specs.Visits.{DoesInTurn, TakesTurn, VisitEnd, VisitView,
 use Rattle.shared_wire.proofs.Following.{follow_behind, last_append, last_is}
 use Rattle.shared_wire.proofs.OthersDid.{others_turn}
 use Rattle.session_core.specs.inner.Sending.{Acts, WireHistory, Closes, DoesWhereOpen, Finds, Gives, HasGrown, Reads, Says, SaysNothing, SaysThere, Starves, TellsDone, TellsFault, TellsTook, spoken, told_by}
-use Rattle.session_feeders.specs.Ports.{IsUnused}
+use Rattle.stream_workers.specs.Ports.{IsUnused}
 use Rattle.session_core.specs.inner.Feeders.{IsOwnVisit}
 use Rattle.session_core.proofs.Others.{free_accepted}
 

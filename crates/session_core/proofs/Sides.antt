@@ -3,11 +3,11 @@ use Rattle.std.proofs.Common.{◌≡◌, ℕ, ◌==◌, List, [], ◌∷◌, ◌
 use Rattle.std.specs.Prelude.{◌||◌, Option, None, Some}
 use Rattle.std.specs.List.{AllByRecursion}
 use Rattle.book_port.specs.Ports.{PortView}
-use Rattle.h2_calls.specs.Calls.{Moment, ended, read, reads_of}
+use Rattle.h2_streams.specs.Calls.{Moment, ended, read, reads_of}
 use Rattle.h2_events.specs.declared.said.Said.{Said}
 use Rattle.h2_events.specs.Items.{is_last}
 use Rattle.h2_send.specs.Inputs.{Input}
-use Rattle.session_feeders.specs.Feeders.{Started}
+use Rattle.stream_workers.specs.Feeders.{Started}
 use Rattle.session_core.specs.declared.waiting.Waiting.{Waiting}
 use Rattle.session_core.specs.Deeds.{Deed, Handing, handed_by, handed_in, said_to, turns_in}
 use Rattle.session_core.specs.Feeding.{left_last}

@@ -6,10 +6,10 @@ use Rattle.base_kinds.specs.Schema.{SchemaNode}
 use Rattle.h2_events.specs.declared.event.RecvEvent.{RecvEvent}
 use Rattle.h2_events.specs.declared.said.Said.{Said}
 use Rattle.h2_send.specs.Accepting.{IsOpenedOnce}
-use Rattle.session_calls.specs.declared.request.Asked.{Asked}
-use Rattle.session_calls.specs.declared.request.Asked.TheVariants as asks
-use Rattle.session_calls.specs.declared.request.Request.{Request}
-use Rattle.session_calls.specs.Requests.{requests}
+use Rattle.grpc_requests.specs.declared.request.Asked.{Asked}
+use Rattle.grpc_requests.specs.declared.request.Asked.TheVariants as asks
+use Rattle.grpc_requests.specs.declared.request.Request.{Request}
+use Rattle.grpc_requests.specs.Requests.{requests}
 use Rattle.session_core.specs.declared.served.Served.{Served}
 use Rattle.session_core.specs.Deeds.{Deed, Doing, Answering, Handing, Turning, Dropping, Service, IsAmong, IsAnswer, IsDone, IsHanded, AreDone, asked_in, requests_in, said_to, handed_by, handed_in}
 use Rattle.session_core.proofs.Asking.{AreLater, BeginsOnce, IsLater, asked_on, asked_on-append, begins_once, later_begin, later_last}

@@ -1,14 +1,14 @@
 -- What waits is said, behind what feeders said meanwhile.
 use Rattle.std.proofs.Common.{◌≡◌, ◌⊎◌, inl, inr, ℕ, List, ◌∷◌, ◌++◌, sym, ◌∙◌, subst, Result, Ok, Err}
-use Rattle.edge_traits.specs.Output.{Output}
+use Rattle.environment.specs.Output.{Output}
 use Rattle.h2_events.specs.declared.event.RecvEvent.{RecvEvent}
 use Rattle.h2_recv.specs.Receiving.{State}
 use Rattle.h2_send.specs.Conditions.{answer_of}
 use Rattle.h2_send.specs.Port.{Progress}
 use Rattle.h2_send.specs.declared.condition.Condition.TheVariants as condition
 use Rattle.h2_send.specs.declared.fault.WireFaultOut.{WireFaultOut}
-use Rattle.session_calls.specs.declared.request.Request.{Request}
-use Rattle.session_feeders.specs.Feeders.{Started}
+use Rattle.grpc_requests.specs.declared.request.Request.{Request}
+use Rattle.stream_workers.specs.Feeders.{Started}
 use Rattle.session_core.specs.declared.waiting.Waiting.{Waiting}
 use Rattle.session_core.specs.Saying.{AreBehind}
 use Rattle.session_core.specs.Serving.{Start, Standing, deeds_in}

@@ -1,12 +1,12 @@
 -- A frame is served: it is acted on, its request is answered, and all is said that can be.
 use Rattle.std.proofs.Common.{◌≡◌, ◌⊎◌, inl, inr, ℕ, ◌==◌, List, [], ◌∷◌, ◌++◌, true, false, refl, sym, ap, ◌∙◌, subst, append-nil, Some, None, Result, Ok, Err}
-use Rattle.edge_traits.specs.Output.{Output, Wrote}
+use Rattle.environment.specs.Output.{Output, Wrote}
 use Rattle.h2_frame.specs.Frames.{Frame}
 use Rattle.h2_frame.specs.ErrorCodes.{flow_control_error}
 use Rattle.h2_windows.specs.Written.{octets_of}
 use Rattle.h2_events.specs.declared.event.RecvEvent.{RecvEvent}
-use Rattle.h2_calls.specs.Calls.{Moment, read, events_of}
-use Rattle.h2_calls.proofs.CallLemmas as calls
+use Rattle.h2_streams.specs.Calls.{Moment, read, events_of}
+use Rattle.h2_streams.proofs.CallLemmas as calls
 use Rattle.h2_recv.specs.Receiving.{State}
 use Rattle.h2_send.specs.Inputs.{Input, Event}
 use Rattle.h2_events.specs.declared.port.Took.TheVariants as took
@@ -15,14 +15,14 @@ use Rattle.h2_send.specs.Lines.{first_line, overflows}
 use Rattle.h2_send.specs.Port.{Progress, Takes, line_of}
 use Rattle.h2_send.specs.declared.fault.WireFaultOut.{WireFaultOut}
 use Rattle.h2_send.specs.declared.fault.WireFaultOut.TheVariants as faults
-use Rattle.session_calls.specs.declared.request.Asked.{Asked}
-use Rattle.session_calls.specs.declared.request.Request.{Request}
-use Rattle.session_calls.specs.Requests.{requests, requests_with}
-use Rattle.session_calls.proofs.Tables.{requests_more}
+use Rattle.grpc_requests.specs.declared.request.Asked.{Asked}
+use Rattle.grpc_requests.specs.declared.request.Request.{Request}
+use Rattle.grpc_requests.specs.Requests.{requests, requests_with}
+use Rattle.grpc_requests.proofs.Tables.{requests_more}
 use Rattle.session_core.specs.declared.reply.Reply.{Reply}
 use Rattle.session_core.specs.declared.how.How.TheVariants as hows
 use Rattle.session_core.specs.declared.waiting.Waiting.{Waiting}
-use Rattle.session_feeders.specs.Feeders.{Started}
+use Rattle.stream_workers.specs.Feeders.{Started}
 use Rattle.session_core.specs.Deeds.{Answering, Handing, IsDeed, Service}
 use Rattle.session_core.specs.Serving.{Start, Standing, service_of, standing_of}
 use Rattle.session_core.specs.inner.Feeders.{AreOfFeeders, IsServedBeside, FeederState, feeder_state}

@@ -13,13 +13,13 @@ use Rattle.book_port.specs.Ports.{PortView, LooksOnce}
 use Rattle.gnmi_kinds.specs.declared.reply.SubReply.{SubReply}
 use Rattle.h2_events.specs.declared.said.Said.{Said}
 use Rattle.h2_events.specs.declared.said.Said.TheVariants.{Message}
-use Rattle.rpc_desk.specs.Subscribes.{subscribe_step}
-use Rattle.rpc_desk.specs.declared.subscribe_steps.SubscribeStep.{SubscribeStep}
-use Rattle.rpc_desk.specs.declared.subscribe_steps.SubscribeStep.TheVariants.{Begin, Poll}
-use Rattle.session_calls.specs.declared.request.Asked.{Asked}
-use Rattle.session_calls.specs.declared.request.Asked.TheVariants as asks
-use Rattle.session_calls.specs.declared.request.Later.{Later}
-use Rattle.session_calls.specs.declared.request.Later.TheVariants as later
+use Rattle.request_desk.specs.Subscribes.{subscribe_step}
+use Rattle.request_desk.specs.declared.subscribe_steps.SubscribeStep.{SubscribeStep}
+use Rattle.request_desk.specs.declared.subscribe_steps.SubscribeStep.TheVariants.{Begin, Poll}
+use Rattle.grpc_requests.specs.declared.request.Asked.{Asked}
+use Rattle.grpc_requests.specs.declared.request.Asked.TheVariants as asks
+use Rattle.grpc_requests.specs.declared.request.Later.{Later}
+use Rattle.grpc_requests.specs.declared.request.Later.TheVariants as later
 use Rattle.stream_laws.specs.Streams.{StreamView}
 use Rattle.sub_plan.specs.declared.plan.Plan.{Plan}
 use Rattle.sub_plan.specs.Groups.{patterns_of}

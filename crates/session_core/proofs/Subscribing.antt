@@ -9,15 +9,15 @@ use Rattle.base_kinds.specs.Schema.{SchemaNode}
 use Rattle.base_lists.specs.Results.{IsUnlessMemory}
 use Rattle.h2_events.specs.declared.said.Said.{Said}
 use Rattle.h2_events.specs.declared.said.Said.TheVariants.{Message, Finish}
-use Rattle.session_calls.specs.declared.request.Asked.TheVariants as asks
+use Rattle.grpc_requests.specs.declared.request.Asked.TheVariants as asks
 use Rattle.book_port.specs.Ports.{PortView}
 use Rattle.gnmi_sub_msg.specs.declared.turns.SubTurn.{SubTurn}
 use Rattle.gnmi_sub_msg.specs.declared.turns.SubTurn.TheVariants as messages_of
 use Rattle.gnmi_sub_msg.specs.Turns.{turn_of}
 use Rattle.sub_plan.specs.Plans.{plan_of}
-use Rattle.rpc_desk.specs.Subscribes.{begun, first_step, message_step, subscribe_step}
-use Rattle.rpc_desk.specs.declared.subscribe_steps.SubscribeStep.{SubscribeStep}
-use Rattle.rpc_desk.specs.declared.subscribe_steps.SubscribeStep.TheVariants.{Begin, Poll}
+use Rattle.request_desk.specs.Subscribes.{begun, first_step, message_step, subscribe_step}
+use Rattle.request_desk.specs.declared.subscribe_steps.SubscribeStep.{SubscribeStep}
+use Rattle.request_desk.specs.declared.subscribe_steps.SubscribeStep.TheVariants.{Begin, Poll}
 use Rattle.sub_plan.specs.declared.plan.Plan.{Plan}
 use Rattle.subscribe_calls.specs.Calls.{CallView, new_call}
 use Rattle.subscribe_calls.specs.Turns.{TurnsOnce}

@@ -6,7 +6,7 @@ use Rattle.std.specs.List.{AllByRecursion}
 use Rattle.std.proofs.lemmas.Bool.{eq-eqb}
 use Rattle.base_kinds.specs.declared.request.ListMode.{ListMode}
 use Rattle.base_kinds.specs.declared.request.ListMode.TheVariants as modes
-use Rattle.edge_traits.specs.Output.{Output}
+use Rattle.environment.specs.Output.{Output}
 use Rattle.h2_events.specs.declared.event.RecvEvent.{RecvEvent}
 use Rattle.h2_events.specs.declared.port.Ready.TheVariants.{Free, Busy, Gone}
 use Rattle.h2_recv.specs.Receiving.{State}
@@ -17,13 +17,13 @@ use Rattle.h2_send.specs.Orders.{line_after}
 use Rattle.h2_send.specs.Port.{Progress, line_of}
 use Rattle.book_port.specs.Ports.{PortView}
 use Rattle.sub_plan.specs.declared.plan.Plan.{Plan}
-use Rattle.session_calls.specs.declared.request.Request.{Request}
+use Rattle.grpc_requests.specs.declared.request.Request.{Request}
 use Rattle.h2_events.specs.declared.said.Said.TheVariants.{Finish}
 use Rattle.session_core.specs.declared.how.How.TheVariants as hows
 use Rattle.session_core.specs.declared.reply.Reply.{Reply}
 use Rattle.session_core.specs.declared.served.Served.{Served}
 use Rattle.session_core.specs.declared.waiting.Waiting.{Waiting}
-use Rattle.session_feeders.specs.Feeders.{is_fed}
+use Rattle.stream_workers.specs.Feeders.{is_fed}
 use Rattle.session_core.specs.Deeds.{Deed, Turning, Dropping, Service, IsDeed, asked_in, handed_by}
 use Rattle.session_core.specs.Rounds.{HadTurns, IsTimely, deeds_of, had_turns, is_turn, turns_on}
 use Rattle.session_core.specs.Saying.{AreBehind}

@@ -5,9 +5,9 @@ use Rattle.std.proofs.lemmas.Bool.{false≢true}
 use Rattle.h2_events.specs.declared.port.Ready.TheVariants.{Free}
 use Rattle.h2_send.specs.Offers.{ready_on}
 use Rattle.h2_send.specs.Orders.{line_after}
-use Rattle.edge_traits.specs.Output.{Output, Wrote}
+use Rattle.environment.specs.Output.{Output, Wrote}
 use Rattle.h2_windows.specs.Written.{octets_of}
-use Rattle.h2_calls.specs.Calls.{Moment}
+use Rattle.h2_streams.specs.Calls.{Moment}
 use Rattle.h2_events.specs.declared.port.Took.{Took}
 use Rattle.h2_events.specs.declared.port.Took.TheVariants as took
 use Rattle.h2_events.specs.declared.said.Said.{Said}
@@ -23,7 +23,7 @@ use Rattle.h2_send.specs.declared.fault.WireFaultOut.{WireFaultOut}
 use Rattle.h2_send.specs.declared.fault.WireFaultOut.TheVariants as faults
 use Rattle.h2_send.proofs.Holding.{accepted_more}
 use Rattle.session_core.specs.Feeding.{AreFromFeeders}
-use Rattle.session_feeders.specs.Feeders.{IsOfFeeder, is_fed}
+use Rattle.stream_workers.specs.Feeders.{IsOfFeeder, is_fed}
 use Rattle.session_core.specs.Serving.{Course, Start}
 use Rattle.session_core.specs.inner.Ends.{how_of}
 use Rattle.session_core.specs.inner.Places.{IsLeft, IsWriting}

@@ -1,7 +1,7 @@
 -- Something is said on a stream, or what waits there has gone.
 use Rattle.std.proofs.Common.{◌≡◌, ◌⊎◌, refl, inl, inr, ℕ, List, [], ◌∷◌, ◌++◌, Bool, true, false, sym, ap, ◌∙◌, subst, cond, append-nil, append_assoc, Result, Ok, Err}
 use Rattle.std.specs.Prelude.{Option, IfErr}
-use Rattle.edge_traits.specs.Output.{Output, Wrote, FailedWithin}
+use Rattle.environment.specs.Output.{Output, Wrote, FailedWithin}
 use Rattle.h2_windows.specs.Written.{octets_of}
 use Rattle.h2_events.specs.declared.event.RecvEvent.{RecvEvent}
 use Rattle.h2_events.specs.declared.said.Said.{Said}
@@ -9,7 +9,7 @@ use Rattle.h2_events.specs.declared.port.Took.{Took}
 use Rattle.h2_events.specs.declared.port.Took.TheVariants as took
 use Rattle.h2_events.specs.declared.port.Ready.TheVariants.{Busy, Gone}
 use Rattle.h2_events.specs.Items.{is_last}
-use Rattle.h2_calls.specs.Calls.{Moment, ended}
+use Rattle.h2_streams.specs.Calls.{Moment, ended}
 use Rattle.h2_recv.specs.declared.reader.Reader.{Reader}
 use Rattle.h2_recv.specs.Receiving.{State, ReadsWithEnds, new_reader, reader_ended, state_ended}
 use Rattle.h2_recv.proofs.PieceLemmas.{end_told}
@@ -27,7 +27,7 @@ use Rattle.h2_send.specs.declared.fault.WireFaultOut.{WireFaultOut}
 use Rattle.h2_send.specs.declared.fault.WireFaultOut.TheVariants as faults
 use Rattle.h2_send.proofs.Holding.{accepted_more}
 use Rattle.h2_send.proofs.Orders.{output_grows}
-use Rattle.session_calls.specs.declared.request.Request.{Request}
+use Rattle.grpc_requests.specs.declared.request.Request.{Request}
 use Rattle.session_core.specs.declared.how.How.TheVariants as hows
 use Rattle.session_core.specs.declared.waiting.Waiting.{Waiting}
 use Rattle.session_core.specs.Saying.{AreBehind}

@@ -18,16 +18,16 @@ use Rattle.h2_send.specs.Inputs.{Input}
 use Rattle.h2_send.specs.Lines.{first_line}
 use Rattle.h2_send.specs.Offers.{ready_on}
 use Rattle.h2_send.specs.Orders.{line_after}
-use Rattle.rpc_desk.specs.Answers.{IsAnsweredBy}
-use Rattle.rpc_desk.specs.Services.{task_of}
-use Rattle.rpc_desk.specs.Subscribes.{subscribe_step}
-use Rattle.rpc_desk.specs.declared.subscribe_steps.SubscribeStep.{SubscribeStep}
-use Rattle.rpc_desk.specs.declared.subscribe_steps.SubscribeStep.TheVariants.{Begin, Poll}
-use Rattle.session_calls.specs.declared.request.Asked.{Asked}
-use Rattle.session_calls.specs.declared.request.Asked.TheVariants as asks
-use Rattle.session_calls.specs.declared.request.Later.{Later}
-use Rattle.session_calls.specs.declared.request.Later.TheVariants as later
-use Rattle.session_calls.specs.declared.request.Request.{Request}
+use Rattle.request_desk.specs.Answers.{IsAnsweredBy}
+use Rattle.request_desk.specs.Services.{task_of}
+use Rattle.request_desk.specs.Subscribes.{subscribe_step}
+use Rattle.request_desk.specs.declared.subscribe_steps.SubscribeStep.{SubscribeStep}
+use Rattle.request_desk.specs.declared.subscribe_steps.SubscribeStep.TheVariants.{Begin, Poll}
+use Rattle.grpc_requests.specs.declared.request.Asked.{Asked}
+use Rattle.grpc_requests.specs.declared.request.Asked.TheVariants as asks
+use Rattle.grpc_requests.specs.declared.request.Later.{Later}
+use Rattle.grpc_requests.specs.declared.request.Later.TheVariants as later
+use Rattle.grpc_requests.specs.declared.request.Request.{Request}
 use Rattle.sub_plan.specs.declared.plan.Plan.{Plan}
 use Rattle.subscribe_calls.specs.Calls.{CallView, new_call}
 use Rattle.subscribe_calls.specs.Turns.{TurnsOnce}

@@ -10,11 +10,11 @@ use Rattle.h2_events.specs.Items.{said_on}
 use Rattle.h2_send.specs.Conditions.{IsClosed}
 use Rattle.h2_send.specs.Inputs.{Input}
 use Rattle.h2_send.specs.Orders.{order_of}
-use Rattle.rpc_desk.specs.Subscribes.{subscribe_step}
-use Rattle.rpc_desk.specs.declared.subscribe_steps.SubscribeStep.TheVariants.{Begin}
-use Rattle.session_feeders.specs.Feeders.{Feeder, MeetsEach, streams_of, words_of}
-use Rattle.session_feeders.specs.Ports.{own_port}
-use Rattle.stream_feed.specs.Feeds.{Feeds}
+use Rattle.request_desk.specs.Subscribes.{subscribe_step}
+use Rattle.request_desk.specs.declared.subscribe_steps.SubscribeStep.TheVariants.{Begin}
+use Rattle.stream_workers.specs.Feeders.{Feeder, MeetsEach, streams_of, words_of}
+use Rattle.stream_workers.specs.Ports.{own_port}
+use Rattle.stream_worker.specs.Feeds.{Feeds}
 use Rattle.session_core.specs.declared.how.How.{How}
 use Rattle.session_core.specs.Deeds.{Deed, Handing, handed_in, turns_in}
 use Rattle.session_core.specs.Feeding.{left_last}

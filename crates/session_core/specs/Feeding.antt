@@ -4,7 +4,7 @@ use Rattle.std.specs.List.{AllByRecursion}
 use Rattle.base_kinds.specs.declared.entry.Entry.{Entry}
 use Rattle.book_port.specs.Follows.{Turn}
 use Rattle.h2_send.specs.Inputs.{Input}
-use Rattle.session_feeders.specs.Feeders.{IsOfFeeder}
+use Rattle.stream_workers.specs.Feeders.{IsOfFeeder}
 
 -- what feeders give the sending half
 abbrev pub AreFromFeeders : List ℕ → List Input → Type 0

@@ -1,10 +1,10 @@
 -- What a session has read of its peer, by how it ended (RFC 9113 sections 3.4, 5.4.1 and 6.9.1).
 use Rattle.std.specs.Prelude.{◌≡◌, ◌⊎◌, ◌<◌, ℕ, List, [], ◌∷◌, ◌++◌, length, true, Some, Ok}
-use Rattle.edge_traits.specs.Input.{Input as Source, Read, FailedAfter, IsEnded}
+use Rattle.environment.specs.Input.{Input as Source, Read, FailedAfter, IsEnded}
 use Rattle.h2_frame.specs.Frames.{Frame}
 use Rattle.h2_frame.specs.ErrorCodes.{protocol_error, flow_control_error}
 use Rattle.h2_events.specs.declared.event.RecvEvent.{RecvEvent}
-use Rattle.h2_calls.specs.Calls.{Moment, read}
+use Rattle.h2_streams.specs.Calls.{Moment, read}
 use Rattle.h2_recv.specs.declared.reader.Reader.{Reader}
 use Rattle.h2_recv.specs.Receiving.{ReadsWithEnds, FaultsWithEnds, EndsFrame, GoesOn, new_reader}
 use Rattle.h2_send.specs.Inputs.{Input}

@@ -11,8 +11,8 @@ use Rattle.h2_send.specs.Inputs.{Input, Event, Speech}
 use Rattle.h2_send.specs.Lines.{first_line}
 use Rattle.h2_send.specs.Offers.{ready_on}
 use Rattle.h2_send.specs.Orders.{line_after, order_of}
-use Rattle.session_calls.specs.Requests.{requests}
-use Rattle.session_feeders.specs.Feeders.{is_fed}
+use Rattle.grpc_requests.specs.Requests.{requests}
+use Rattle.stream_workers.specs.Feeders.{is_fed}
 use Rattle.session_core.specs.declared.served.Served.{Served}
 use Rattle.session_core.specs.declared.waiting.Waiting.{Waiting}
 use Rattle.session_core.specs.Deeds.{Deed, Doing, Turning, Service, AreDone, requests_in, said_to}

@@ -1,20 +1,20 @@
 -- A whole connection: what was read, asked, answered, said and written, from its preface to its end.
 use Rattle.std.specs.Prelude.{◌≡◌, ◌⊎◌, ℕ, List, [], ◌∷◌, true}
 use Rattle.std.specs.List.{AllByRecursion}
-use Rattle.edge_traits.specs.Input.{Input as Source}
-use Rattle.edge_traits.specs.Output.{Output}
+use Rattle.environment.specs.Input.{Input as Source}
+use Rattle.environment.specs.Output.{Output}
 use Rattle.base_kinds.specs.Schema.{SchemaNode}
-use Rattle.h2_calls.specs.Calls.{Moment, reads_of}
+use Rattle.h2_streams.specs.Calls.{Moment, reads_of}
 use Rattle.h2_send.specs.Accepting.{AreAccepted}
 use Rattle.h2_send.specs.Inputs.{Input}
 use Rattle.h2_send.specs.Lines.{first_line}
-use Rattle.session_calls.specs.declared.request.Request.{Request}
+use Rattle.grpc_requests.specs.declared.request.Request.{Request}
 use Rattle.book_port.specs.Ports.{PortView}
 use Rattle.session_core.specs.declared.how.How.{How}
 use Rattle.session_core.specs.declared.how.How.TheVariants as hows
 use Rattle.session_core.specs.declared.served.Served.{Served}
 use Rattle.session_core.specs.declared.waiting.Waiting.{Waiting}
-use Rattle.session_feeders.specs.Feeders.{is_fed}
+use Rattle.stream_workers.specs.Feeders.{is_fed}
 use Rattle.session_core.specs.Deeds.{Deed, handed_in}
 use Rattle.session_core.specs.Reading.{IsGiven, IsMadeOf, IsReadPartly, IsReadToFault}
 use Rattle.session_core.specs.Rounds.{HadTurns}

@@ -3,13 +3,13 @@ use Rattle.std.specs.Prelude.{◌≡◌, ℕ, List, [], ◌∷◌, ◌++◌, fal
 use Rattle.std.specs.List.{AllByRecursion}
 use Rattle.base_kinds.specs.Schema.{SchemaNode}
 use Rattle.h2_events.specs.Items.{Read, Event, Ended, as_read, heard}
-use Rattle.h2_calls.specs.Calls.{Moment, events_of, reads_of}
+use Rattle.h2_streams.specs.Calls.{Moment, events_of, reads_of}
 use Rattle.h2_send.specs.Accepting.{IsOpenedOnce}
 use Rattle.h2_send.specs.Inputs.{Input}
 use Rattle.h2_send.specs.Orders.{order_of}
-use Rattle.session_calls.specs.declared.request.Request.{Request}
-use Rattle.session_calls.specs.Requests.{requests}
-use Rattle.session_feeders.specs.Feeders.{is_fed}
+use Rattle.grpc_requests.specs.declared.request.Request.{Request}
+use Rattle.grpc_requests.specs.Requests.{requests}
+use Rattle.stream_workers.specs.Feeders.{is_fed}
 use Rattle.book_port.specs.Ports.{PortView}
 use Rattle.session_core.specs.declared.served.Served.{Served}
 use Rattle.session_core.specs.declared.waiting.Waiting.{Waiting}

@@ -1,7 +1,7 @@
 -- What a session has written to its peer, by how it ended (RFC 9113 sections 3.4 and 5.4.1).
 use Rattle.std.specs.Prelude.{◌≡◌, ◌⊎◌, ℕ, ◌≤◌, List, [], ◌∷◌, ◌++◌, length}
-use Rattle.edge_traits.specs.Output.{Output, Wrote, FailedWithin}
-use Rattle.h2_calls.specs.Calls.{Moment}
+use Rattle.environment.specs.Output.{Output, Wrote, FailedWithin}
+use Rattle.h2_streams.specs.Calls.{Moment}
 use Rattle.h2_windows.specs.Control.{greeting}
 use Rattle.h2_windows.specs.Written.{octets_of}
 use Rattle.h2_send.specs.Inputs.{Input}

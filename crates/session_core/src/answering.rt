@@ -4,9 +4,9 @@ ghost use Rattle.base_kinds.specs.Schema.{SchemaNode};
 ghost use Rattle.base_kinds.specs.declared.request.ListMode.TheVariants as modes;
 ghost use Rattle.h2_events.specs.declared.said.Said.TheVariants.{Message};
 ghost use Rattle.book_port.specs.Ports.{PortView};
-ghost use Rattle.rpc_desk.specs.Subscribes.{subscribe_step};
-ghost use Rattle.rpc_desk.specs.declared.subscribe_steps.SubscribeStep.TheVariants.{Begin};
-ghost use Rattle.session_calls.specs.declared.request.Asked.TheVariants as asks;
+ghost use Rattle.request_desk.specs.Subscribes.{subscribe_step};
+ghost use Rattle.request_desk.specs.declared.subscribe_steps.SubscribeStep.TheVariants.{Begin};
+ghost use Rattle.grpc_requests.specs.declared.request.Asked.TheVariants as asks;
 ghost use Rattle.session_core.specs.declared.served.Served.{Served as Serving};
 ghost use Rattle.session_core.specs.Deeds.{others_than, told_all};
 ghost use Rattle.session_core.specs.inner.Feeders.{AreOfSession, book_of};
@@ -22,13 +22,13 @@ use crate::waiting::{Waiting, Waitings};
 use base_kinds::{ListMode, Refusal};
 use base_lists::NoMemory;
 use book_port::BookPort;
+use environment::Clock;
+use grpc_requests::Asked;
 use h2_events::Said;
-use rpc_desk::{Desk, SubscribeStep};
-use session_calls::Asked;
+use request_desk::{Desk, SubscribeStep};
 use std::alloc::Global;
 use sub_plan::Plan;
 use subscribe_calls::{Messages, SubscribeCall};
-use time_traits::Clock;
 
 /// The answer to a ONCE call with this plan, at a reading of the clock.
 fn answer_once<P: BookPort, C: Clock>(

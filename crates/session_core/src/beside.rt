@@ -2,11 +2,11 @@
 ghost use Rattle.std.specs.Prelude.{◌≡◌, [], List, Ok, false};
 ghost use Rattle.h2_recv.specs.Receiving.{new_reader};
 ghost use Rattle.base_kinds.specs.Schema.{SchemaNode};
-ghost use Rattle.edge_traits.specs.Input.{Input as SourceSeen};
-ghost use Rattle.edge_traits.specs.Output.{Output};
+ghost use Rattle.environment.specs.Input.{Input as SourceSeen};
+ghost use Rattle.environment.specs.Output.{Output};
 ghost use Rattle.h2_send.specs.Port.{Progress};
 ghost use Rattle.h2_send.specs.Wires.{progress_of};
-ghost use Rattle.session_feeders.specs.Ports.{own_port};
+ghost use Rattle.stream_workers.specs.Ports.{own_port};
 ghost use Rattle.shared_wire.specs.Visits.{IsFirstVisit};
 ghost use Rattle.session_core.specs.FeederRuns.{SessionRunBeside};
 ghost use Rattle.session_core.specs.Runs.{outside_of};
@@ -20,18 +20,16 @@ use crate::session::{Calls, SessionEnd, serve_to_end};
 use crate::shared::SharedWire;
 use base_lists::Copied;
 use book_port::Twin;
-use edge_traits::{Sink, Source};
+use environment::{Clock, Pacer, Sink, Source, Starter};
+use grpc_requests::CallTable;
 use h2_send::{Condition, Wire};
-use rpc_desk::Desk;
-use session_calls::CallTable;
-use session_feeders::Feeders;
+use request_desk::Desk;
 use shared_wire::WireVisit;
 use std::alloc::Global;
 use std::sync::Wait;
 use std::thread::Threads;
-use stream_feed::FeedJob;
-use thread_traits::Starter;
-use time_traits::{Clock, Pacer};
+use stream_worker::FeedJob;
+use stream_workers::Feeders;
 
 /// What a session leaves that served nothing: its wire is open, and memory was wanting.
 fn unserved<I: Source, O: Sink, P: Twin, C: Clock>(

@@ -3,16 +3,14 @@ use crate::handing::Handing;
 use crate::own_port::OwnPort;
 use crate::shared::SharedWire;
 use book_port::Twin;
-use edge_traits::Sink;
-use session_feeders::Feeders;
+use environment::{Clock, Pacer, Sink, Starter};
 use shared_wire::WireVisit;
 use std::alloc::Global;
 use std::sync::Wait;
 use std::thread::Threads;
-use stream_feed::FeedJob;
+use stream_worker::FeedJob;
+use stream_workers::Feeders;
 use sub_plan::Plan;
-use thread_traits::Starter;
-use time_traits::{Clock, Pacer};
 
 impl<P, O, R, C, Q, S> Handing<OwnPort<P>, SharedWire<O, R>, C> for Feeders<P, O, R, C, Q, S>
 where

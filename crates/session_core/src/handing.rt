@@ -4,13 +4,13 @@ ghost use Rattle.session_core.specs.inner.Feeders.{AreOfSession, Starts};
 
 use crate::sending::Sending;
 use book_port::BookPort;
+use environment::Clock;
 use std::alloc::Global;
 use sub_plan::Plan;
-use time_traits::Clock;
 
 /// Those who serve calls of mode STREAM beside a session, over further ports of its book and of its sending half.
 pub(crate) trait Handing<P: BookPort, W: Sending, C: Clock> {
-    ghost use Rattle.session_feeders.specs.Feeders.{FeedersView};
+    ghost use Rattle.stream_workers.specs.Feeders.{FeedersView};
 
     /// The schema under which they serve, and those that were started so far, in order.
     ghost feeding: { Self → FeedersView };

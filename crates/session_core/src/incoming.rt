@@ -1,14 +1,14 @@
 //! What comes from the peer, frame by frame.
 ghost use Rattle.std.specs.Prelude.{◌≡◌, ◌+◌, ◌<◌, ◌≤◌, ℕ, List, length, Ok};
-ghost use Rattle.edge_traits.specs.Input.{Input as SourceSeen};
-ghost use Rattle.h2_calls.specs.Calls.{Moment};
+ghost use Rattle.environment.specs.Input.{Input as SourceSeen};
+ghost use Rattle.h2_streams.specs.Calls.{Moment};
 ghost use Rattle.h2_recv.specs.declared.reader.Reader.{Reader as Reading};
 ghost use Rattle.h2_recv.specs.Receiving.{new_reader, wanted};
 ghost use Rattle.session_core.specs.Reading.{most_octets};
 ghost use Rattle.session_core.specs.inner.Steps.{Advances, Comes, EndsSo, HasRead, IsNextOf, Makes};
 
 use crate::how::How;
-use edge_traits::Source;
+use environment::Source;
 use h2_events::{RecvEvent, RecvEvents, RecvFault};
 use h2_recv::Recv;
 use std::alloc::Global;

@@ -3,10 +3,10 @@ ghost use Rattle.std.specs.Prelude.{◌≡◌, ℕ, List, ◌++◌, IfOk, Some, 
 ghost use Rattle.base_kinds.specs.Schema.{SchemaNode};
 ghost use Rattle.book_port.specs.Ports.{PortView};
 ghost use Rattle.base_kinds.specs.declared.request.ListMode.TheVariants as modes;
-ghost use Rattle.rpc_desk.specs.Subscribes.{subscribe_step};
-ghost use Rattle.rpc_desk.specs.declared.subscribe_steps.SubscribeStep.TheVariants.{Poll};
-ghost use Rattle.session_calls.specs.declared.request.Asked.TheVariants as asks;
-ghost use Rattle.session_calls.specs.declared.request.Later.TheVariants as later;
+ghost use Rattle.request_desk.specs.Subscribes.{subscribe_step};
+ghost use Rattle.request_desk.specs.declared.subscribe_steps.SubscribeStep.TheVariants.{Poll};
+ghost use Rattle.grpc_requests.specs.declared.request.Asked.TheVariants as asks;
+ghost use Rattle.grpc_requests.specs.declared.request.Later.TheVariants as later;
 ghost use Rattle.session_core.specs.declared.reply.Reply.TheVariants as replies;
 ghost use Rattle.session_core.specs.inner.Steps.{IsFound, IsLaterDone, IsReplied, list_of, service};
 
@@ -14,8 +14,8 @@ use crate::reply::{Answered, Reply};
 use crate::served::{Served, ServedCalls};
 use base_kinds::{ListMode, Refusal};
 use base_lists::NoMemory;
-use rpc_desk::{Desk, SubscribeStep};
-use session_calls::Later;
+use grpc_requests::Later;
+use request_desk::{Desk, SubscribeStep};
 use std::alloc::Global;
 use subscribe_calls::Messages;
 

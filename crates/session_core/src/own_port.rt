@@ -25,7 +25,7 @@ impl<P: BookPort> Model for OwnPort<P> {
 }
 
 impl<P: BookPort> BookPort for OwnPort<P> {
-    ghost use Rattle.session_feeders.specs.Ports.{own_port};
+    ghost use Rattle.stream_workers.specs.Ports.{own_port};
 
     ghost port = { own_port };
 

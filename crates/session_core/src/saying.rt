@@ -1,10 +1,10 @@
 //! What waits is said, as far as the streams are free.
 ghost use Rattle.std.specs.Prelude.{◌≡◌, ◌++◌, ℕ, List, [], MatchResult, IfOk, IfErr, OnOk};
-ghost use Rattle.edge_traits.specs.Output.{Output};
+ghost use Rattle.environment.specs.Output.{Output};
 ghost use Rattle.h2_events.specs.declared.event.RecvEvent.{RecvEvent as Heard};
 ghost use Rattle.h2_events.specs.Items.{is_last};
-ghost use Rattle.session_calls.specs.declared.request.Request.{Request as Asking};
-ghost use Rattle.session_feeders.specs.Feeders.{Started};
+ghost use Rattle.grpc_requests.specs.declared.request.Request.{Request as Asking};
+ghost use Rattle.stream_workers.specs.Feeders.{Started};
 ghost use Rattle.session_core.specs.declared.waiting.Waiting.{Waiting as Unsaid};
 ghost use Rattle.session_core.specs.Serving.{Start, Standing};
 ghost use Rattle.session_core.specs.Saying.{AreBehind};

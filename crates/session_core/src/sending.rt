@@ -8,7 +8,7 @@ ghost use Rattle.h2_send.specs.Lines.{overflows};
 ghost use Rattle.h2_send.specs.Wires.{IsFolded, progress_of};
 ghost use Rattle.session_core.specs.inner.Sending.{Acts, Closes, DoesWhereOpen, HasGrown, Reads, Says, SaysNothing, SaysThere, TellsDone, TellsFault, TellsTook};
 
-use edge_traits::Sink;
+use environment::Sink;
 use h2_events::{Piece, Ready, RecvEvent, Took};
 use h2_frame::FLOW_CONTROL_ERROR;
 use h2_send::{Wire, WireFaultOut};

@@ -1,14 +1,14 @@
 //! A connection from its preface to its end.
 ghost use Rattle.std.specs.Prelude.{◌≡◌, ℕ, List, [], ◌∷◌, ◌++◌, MatchResult, IfErr, OnOk, Ok};
-ghost use Rattle.edge_traits.specs.Input.{Input as SourceSeen};
+ghost use Rattle.environment.specs.Input.{Input as SourceSeen};
 ghost use Rattle.base_kinds.specs.Schema.{SchemaNode};
-ghost use Rattle.h2_calls.specs.Calls.{Moment};
+ghost use Rattle.h2_streams.specs.Calls.{Moment};
 ghost use Rattle.h2_recv.specs.Receiving.{new_reader};
 ghost use Rattle.h2_send.specs.Inputs.{Input};
-ghost use Rattle.session_calls.specs.declared.request.Request.{Request as Asking};
-ghost use Rattle.session_calls.specs.Requests.{requests};
+ghost use Rattle.grpc_requests.specs.declared.request.Request.{Request as Asking};
+ghost use Rattle.grpc_requests.specs.Requests.{requests};
 ghost use Rattle.book_port.specs.Ports.{PortView};
-ghost use Rattle.session_feeders.specs.Feeders.{Started};
+ghost use Rattle.stream_workers.specs.Feeders.{Started};
 ghost use Rattle.h2_events.specs.declared.event.RecvEvent.{RecvEvent as Heard};
 ghost use Rattle.session_core.specs.Runs.{Outside, SessionRun, outside_of, start_of};
 ghost use Rattle.session_core.specs.Deeds.{Deed};
@@ -31,14 +31,13 @@ use crate::turns::{Kept, take_turns};
 use crate::waiting::Waitings;
 use base_lists::NoMemory;
 use book_port::BookPort;
-use edge_traits::{Sink, Source};
+use environment::{Clock, Sink, Source};
+use grpc_requests::{CallTable, Request, Requests};
 use h2_events::RecvEvent;
 use h2_recv::Recv;
 use h2_send::{Condition, Wire};
-use rpc_desk::Desk;
-use session_calls::{CallTable, Request, Requests};
+use request_desk::Desk;
 use std::alloc::Global;
-use time_traits::Clock;
 
 /// What a connection leaves: how it ended, and what it was handed.
 #[derive(Drop)]

@@ -3,7 +3,7 @@ ghost use Rattle.std.specs.Prelude.{◌≡◌};
 ghost use Rattle.session_core.specs.inner.Sending.{told_by};
 
 use crate::sending::Sending;
-use edge_traits::Sink;
+use environment::Sink;
 use h2_events::{Piece, Ready, RecvEvent, Took};
 use h2_send::WireFaultOut;
 use shared_wire::WireVisit;

@@ -1,11 +1,11 @@
 //! Calls of the modes STREAM and POLL take their turns where their streams are free.
 ghost use Rattle.std.specs.Prelude.{◌≡◌, ◌++◌, ◌∷◌, ◌+◌, ◌≤◌, ℕ, List, [], MatchResult, IfOk, IfErr, IfSome, IsTrue, ◌↔◌};
 ghost use Rattle.base_kinds.specs.declared.request.ListMode.TheVariants as modes;
-ghost use Rattle.edge_traits.specs.Output.{Output};
+ghost use Rattle.environment.specs.Output.{Output};
 ghost use Rattle.h2_events.specs.declared.event.RecvEvent.{RecvEvent as Heard};
 ghost use Rattle.session_core.specs.declared.served.Served.{Served as Serving};
 ghost use Rattle.session_core.specs.declared.waiting.Waiting.{Waiting as Unsaid};
-ghost use Rattle.session_calls.specs.declared.request.Request.{Request as Asking};
+ghost use Rattle.grpc_requests.specs.declared.request.Request.{Request as Asking};
 ghost use Rattle.session_core.specs.Saying.{AreBehind};
 ghost use Rattle.session_core.specs.Serving.{Start, Standing};
 ghost use Rattle.session_core.specs.inner.Words.{words};
@@ -14,7 +14,7 @@ ghost use Rattle.session_core.specs.inner.Ends.{IsOwn};
 ghost use Rattle.session_core.specs.inner.Places.{HasEnded, IsTurning, IsWriting, Stands, place_of};
 ghost use Rattle.session_core.specs.inner.Feeders.{AreOfFeeders, feeder_state, book_of};
 ghost use Rattle.session_core.specs.inner.Sending.{HasGrown};
-ghost use Rattle.session_feeders.specs.Feeders.{Started};
+ghost use Rattle.stream_workers.specs.Feeders.{Started};
 ghost use Rattle.session_core.specs.inner.Steps.{IsTurned, list_of, said_in};
 
 use crate::answering::put_reply;
@@ -28,11 +28,11 @@ use crate::waiting::Waitings;
 use base_kinds::{ListMode, Refusal};
 use base_lists::NoMemory;
 use book_port::BookPort;
+use environment::Clock;
 use h2_events::Ready;
 use h2_recv::Recv;
-use rpc_desk::Desk;
+use request_desk::Desk;
 use std::alloc::Global;
-use time_traits::Clock;
 
 /// What waits to be said, and the call if it is still served.
 #[derive(Drop)]

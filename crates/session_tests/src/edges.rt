@@ -1,8 +1,8 @@
 //! The environment of a connection: a source that gives pieces of a size.
 ghost use Rattle.std.specs.Prelude.{◌<◌};
-ghost use Rattle.edge_traits.specs.Memory.{input_of};
+ghost use Rattle.environment.specs.Memory.{input_of};
 
-use edge_traits::{Failed, MemSource, Source};
+use environment::{Failed, MemSource, Source};
 
 /// A source that gives so many octets at a time.
 #[derive(Drop)]

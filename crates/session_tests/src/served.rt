@@ -7,16 +7,15 @@ use base_kinds::{Copied, Limits, MOST_LOG_ENTRIES, MOST_LOG_OCTETS};
 use base_lists::{Bytes, Seq, Text, Texts};
 use book_core::{Book, BookOpening, Single};
 use commit_journal::Ledger;
-use edge_traits::{MemSink, MemSource};
+use environment::{MemSink, MemSource, StepClock};
 use memory_disks::MemDisk;
 use plain_tree::PlainTree;
-use rpc_desk::Desk;
+use request_desk::Desk;
 use schema_core::Schema;
 use schema_text::read_schema;
 use session_core::{How, SessionEnd, serve_alone};
 use std::alloc::Global;
 use std::process::Abort;
-use time_traits::StepClock;
 
 const LIMITS: Limits = Limits {
     entries: MOST_LOG_ENTRIES,

@@ -1,7 +1,7 @@
 -- How a wire goes on by its records, as its ports see it.
 use Rattle.std.proofs.Common.{◌≡◌, ◌⊎◌, inl, inr, ℕ, ◌≤◌, List, [], ◌∷◌, ◌++◌, length, map, refl, sym, ap, ◌∙◌, subst, arith, append_assoc, append-nil, length-append}
 use Rattle.std.proofs.lemmas.List.Concat.{flat_map-append}
-use Rattle.edge_traits.specs.Output.{Output, Wrote, FailedWithin}
+use Rattle.environment.specs.Output.{Output, Wrote, FailedWithin}
 use Rattle.h2_frame.specs.Frames.{Frame}
 use Rattle.h2_windows.specs.Written.{octets_of, spelled}
 use Rattle.h2_windows.proofs.Fronts.{wrote_both, wrote_nothing, failed_behind}

@@ -1,6 +1,6 @@
 -- What a turn holds, behind one record more.
 use Rattle.std.proofs.Common.{◌≡◌, ◌⊎◌, inl, inr, ℕ, ◌+◌, ◌^◌, ◌<◌, List, [], ◌∷◌, ◌++◌, false, length, Result, Ok, Err, refl, sym, ap, ◌∙◌, subst, arith, length-append, append-nil}
-use Rattle.edge_traits.specs.Output.{Output}
+use Rattle.environment.specs.Output.{Output}
 use Rattle.h2_events.specs.declared.port.Ready.TheVariants as ready
 use Rattle.h2_events.specs.declared.port.Took.{Took}
 use Rattle.h2_events.specs.declared.port.Took.TheVariants as took

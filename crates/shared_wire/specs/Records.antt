@@ -2,7 +2,7 @@
 -- their turns, with whose it was, what it did, and how it left the wire. So where a record stands behind another the two tell what went out between them.
 use Rattle.std.specs.Prelude.{◌≡◌, ◌⊎◌, ℕ, ◌+◌, ◌^◌, ◌<◌, true, List, [], ◌∷◌, ◌++◌, length, Result, Ok, Err}
 use Rattle.std.specs.List.{AllByRecursion}
-use Rattle.edge_traits.specs.Output.{Output, Wrote, FailedWithin, unwritten_output}
+use Rattle.environment.specs.Output.{Output, Wrote, FailedWithin, unwritten_output}
 use Rattle.h2_frame.specs.ErrorCodes.{flow_control_error}
 use Rattle.h2_windows.specs.Written.{octets_of}
 use Rattle.h2_events.specs.declared.said.Said.TheVariants.{Status}

@@ -1,7 +1,7 @@
 -- What a port of a wire behind a lock shows, and what its calls do.
 use Rattle.std.specs.Prelude.{◌≡◌, ◌≢◌, ◌⊎◌, ℕ, ◌<◌, ◌≤◌, max, List, [], ◌∷◌, ◌++◌, ◌==◌, ◌||◌, if◌then◌else◌, Option, Some, None, map}
 use Rattle.std.specs.List.{AllByRecursion}
-use Rattle.edge_traits.specs.Output.{Output}
+use Rattle.environment.specs.Output.{Output}
 use Rattle.atomic_table.specs.Seated.{TableId}
 use Rattle.h2_send.specs.Inputs.{Input}
 use Rattle.h2_send.specs.Port.{PortView, Progress, unused_port}

@@ -12,7 +12,7 @@ ghost use Rattle.shared_wire.specs.Visits.{StandsBehind, first_records};
 ghost use Rattle.shared_wire.specs.inner.Logging.{Loses, acted_so, condition_by, deed_of, starved_record, stated_so};
 
 use crate::log::{Log, Noted, Recorded};
-use edge_traits::Sink;
+use environment::Sink;
 use h2_events::{Piece, Ready, RecvEvent, Took};
 use h2_frame::FLOW_CONTROL_ERROR;
 use h2_send::{Condition, Given, Wire, WireFaultOut};

@@ -4,7 +4,7 @@ ghost use Rattle.h2_send.specs.Wires.{progress_of};
 ghost use Rattle.shared_wire.specs.inner.Logging.{deed_of, left_by};
 
 use base_lists::Remembered;
-use edge_traits::{OutputRecord, Sink};
+use environment::{OutputRecord, Sink};
 use h2_send::{Condition, Given, Wire};
 use std::marker::Model;
 use std::snapshot::Snapshot;

@@ -13,7 +13,7 @@ ghost use Rattle.shared_wire.specs.Visits.{DoesInTurn, GivesBack, IsFirstVisit, 
 use crate::held::HeldWire;
 use crate::log::Recorded;
 use book_port::PassFault;
-use edge_traits::Sink;
+use environment::Sink;
 use h2_events::{Piece, Ready, RecvEvent, Took};
 use h2_send::{Condition, Port, Wire, WireFaultOut, WirePort};
 use std::alloc::Global;

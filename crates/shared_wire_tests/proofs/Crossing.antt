@@ -5,10 +5,10 @@ use denote.Param.Send.{IsSend, sendable}
 use Rattle.std.proofs.Crossing.{crosses}
 use Rattle.turn_lock.proofs.lock.Pass.TheSendSync as passes
 use Rattle.turn_lock.proofs.lock.TurnLock.TheSendSync as locks
-use Rattle.edge_traits.specs.declared.streams.Sink as sinks
+use Rattle.environment.specs.declared.streams.Sink as sinks
 use Rattle.h2_send.specs.contracts.wire.Wire as Wire
-use Rattle.edge_traits.specs.contracts.mem_sink.MemSink as MemSink
-use Rattle.edge_traits.specs.contracts.mem_sink.MemSinkSink.TheImpl.{ghosts}
+use Rattle.environment.specs.contracts.mem_sink.MemSink as MemSink
+use Rattle.environment.specs.contracts.mem_sink.MemSinkSink.TheImpl.{ghosts}
 use Rattle.shared_wire.specs.contracts.held.HeldWire as HeldWire
 use Rattle.shared_wire.specs.contracts.visit.WireVisit as WireVisit
 

@@ -1,7 +1,7 @@
 ghost use Rattle.std.specs.Prelude.{◌≡◌, IfSome};
 
 use crate::wires::{TestVisit, first_visit, has_messages, open_streams, piece};
-use edge_traits::MemSink;
+use environment::MemSink;
 use h2_events::{Ready, RecvEvent, Took};
 use h2_send::{WireFaultOut, WirePort};
 use std::alloc::Global;

@@ -3,7 +3,7 @@ ghost use Rattle.std.specs.Prelude.{◌≡◌, IfSome};
 ghost use Rattle.h2_events.specs.Ports.{FitsMessage};
 
 use base_lists::{Bytes, Text, Texts};
-use edge_traits::MemSink;
+use environment::MemSink;
 use h2_events::{Piece, RecvEvent};
 use h2_send::{Condition, Wire};
 use hpack_block::Headers;

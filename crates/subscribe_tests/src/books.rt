@@ -8,7 +8,7 @@ use memory_disks::MemDisk;
 use plain_tree::PlainTree;
 use schema_core::Schema;
 use schema_text::read_schema;
-use set_txn::resolve;
+use set_request::resolve;
 use std::alloc::Global;
 use std::process::Abort;
 

@@ -1,6 +1,6 @@
 //! What a message of a Subscribe call asks of it, behind a first list and before one.
 use base_kinds::{ListMode, Refusal};
-use rpc_desk::{Desk, SubscribeStep};
+use request_desk::{Desk, SubscribeStep};
 use schema_core::Schema;
 use std::alloc::Global;
 

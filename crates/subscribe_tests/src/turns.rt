@@ -1,7 +1,7 @@
 //! What the turns of Subscribe calls say over a book.
 use crate::books::{Port, port, schema, set};
 use base_kinds::ListMode;
-use rpc_desk::{Desk, SubscribeStep};
+use request_desk::{Desk, SubscribeStep};
 use schema_core::Schema;
 use std::alloc::Global;
 use std::process::Abort;

@@ -1,9 +1,9 @@
 use crate::builders::text_of;
 use base_kinds::{Bytes, Value, Values};
-use scalar_order::{all_differ, same_scalar, scalar_of};
 use std::alloc::Global;
 use std::cmp::Ordering;
 use std::process::Abort;
+use value_core::{all_differ, same_scalar, scalar_of};
 
 fn octets_of(rt: &impl Abort, alloc: Global, word: &str) -> Bytes {
     let mut octets = Bytes::empty(alloc);

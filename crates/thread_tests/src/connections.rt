@@ -1,11 +1,10 @@
 //! TCP connections on loopback.
-use edge_traits::{Source, read_to_limit, write_whole};
-use real_edges::{Bell, StreamSink, StreamSource, TcpDoor, TcpSink, TcpSource, ThreadStarter};
+use environment::{Door, Job, Next, Running, Source, read_to_limit, write_whole};
 use std::alloc::Global;
 use std::net::{Shutdown, SocketAddr, TcpStream};
 use std::sync::Wait;
 use std::thread::Threads;
-use thread_traits::{Door, Job, Next, Running};
+use std_environment::{Bell, StreamSink, StreamSource, TcpDoor, TcpSink, TcpSource, ThreadStarter};
 
 /// Sends back what comes on a connection, until its peer has sent all.
 #[derive(Drop)]

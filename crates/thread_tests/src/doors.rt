@@ -1,13 +1,12 @@
 //! Connections in memory.
 ghost use Rattle.std.specs.Prelude.{IfSome};
-ghost use Rattle.edge_traits.specs.Memory.{input_of};
-ghost use Rattle.thread_traits.specs.Doors.{IsFresh};
+ghost use Rattle.environment.specs.Memory.{input_of};
+ghost use Rattle.environment.specs.Doors.{IsFresh};
 
 use base_lists::{Bytes, Texts};
-use edge_traits::{MemSink, MemSource, Source};
+use environment::{Door, MemDoor, MemSink, MemSource, Next, Source};
 use std::alloc::Global;
 use std::collections::VecDeque;
-use thread_traits::{Door, MemDoor, Next};
 
 /// A connection on which this octet comes.
 fn link(alloc: Global, octet: u8) -> Option<(MemSource, MemSink)>

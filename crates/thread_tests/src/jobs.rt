@@ -1,8 +1,8 @@
 //! Jobs that are started in a thread of their own, done at once, or given back.
 use base_lists::Bytes;
+use environment::{Job, MemStarter, Running, Starter};
 use std::alloc::Global;
 use std::thread::Threads;
-use thread_traits::{Job, MemStarter, Running, Starter};
 
 /// Counts octets.
 #[derive(Drop)]

@@ -1,9 +1,9 @@
 //! Pauses.
-use real_edges::{Bell, BellPacer, SleepingPacer};
+use environment::Pacer;
 use std::alloc::Global;
 use std::sync::Wait;
 use std::time::{Clock, Duration, Instant};
-use time_traits::Pacer;
+use std_environment::{Bell, BellPacer, SleepingPacer};
 
 /// How long a pause takes.
 fn pause_of<C: Clock, P: Pacer>(clock: &C, pacer: &mut P) -> Option<Duration> {

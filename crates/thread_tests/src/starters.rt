@@ -1,10 +1,10 @@
 //! Work that is started in threads of its own, or refused.
 use crate::jobs::seven_octets;
 use crate::streams::texts_of;
-use real_edges::ThreadStarter;
 use std::alloc::Global;
 use std::process::Abort;
 use std::thread::{Promise, Threads};
+use std_environment::ThreadStarter;
 
 /// Whether a thread has counted the octets; no where the starter gave the job back.
 fn counts_beside<R: Threads + Clone + Drop>(

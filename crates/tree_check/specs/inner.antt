@@ -1,2 +1,3 @@
 pub mod ListEntries
 pub mod WeightLeft
+pub mod LeafrefTargets

@@ -6,10 +6,9 @@ ghost use Rattle.base_kinds.specs.Values.{has_shape};
 ghost use Rattle.base_kinds.specs.Valid.{has_type, row_has_type, types_hold};
 
 use base_kinds::{NoMemory, Row, Shape, Sort, Value};
-use scalar_order::all_differ;
 use schema_core::Schema;
 use std::alloc::Global;
-use value_core::check_value;
+use value_core::{all_differ, check_value};
 
 pub(crate) fn types_hold(alloc: Global, schema: &Schema, rows: &[Row]) -> Result<bool, NoMemory>
     ensures { IfOk result (λ is. is ≡ types_hold schema.now rows.now) }

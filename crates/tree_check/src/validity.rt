@@ -7,10 +7,10 @@ use crate::fault::CheckFault;
 use crate::max_elements::max_elements_hold;
 use crate::tree_size::fits;
 use crate::types::types_hold;
+use crate::{keys_hold, leafrefs_resolve, mandatory_present};
 use base_kinds::{NoMemory, Row, Rows};
 use schema_core::Schema;
 use std::alloc::Global;
-use tree_constraints::{keys_hold, leafrefs_resolve, mandatory_present};
 
 /// Whether the rows are a valid tree under the schema (RFC 7950 7.6.5, 7.7.6, 7.8.2, 9.9), and then, whether they are
 /// few and light enough. An invalid tree is `TreeInvalid`, whatever its size, and a valid one that is too large

@@ -6,8 +6,7 @@ use schema_core::{Node, Schema};
 use std::alloc::Global;
 use std::cmp::Ordering;
 use std::process::Abort;
-use tree_check::are_rising;
-use tree_constraints::{find_leaf, keys_hold, leafrefs_resolve, mandatory_present};
+use tree_check::{are_rising, find_leaf, keys_hold, leafrefs_resolve, mandatory_present};
 
 /// A node on each line: its names, what it is, and the names of its keys or of the leaf that it refers to.
 const NODES: &[(&str, &str, &str)] = &[

@@ -13,3 +13,6 @@ pub mod Lists
 pub mod Outcomes
 pub mod Parts
 pub mod Ranges
+pub mod ScalarOrder
+pub mod Behind
+pub mod OneMore

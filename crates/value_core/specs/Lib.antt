@@ -6,3 +6,4 @@ pub mod KeyValues
 pub mod inner
 pub mod laws
 pub mod worked
+pub mod Scalars

@@ -2,9 +2,9 @@
 use Rattle.std.specs.Prelude.{◌≡◌, ℕ, List, ◌++◌}
 use Rattle.std.specs.List.{AllByRecursion}
 use Rattle.base_kinds.specs.declared.entry.Entry.{Entry}
-use Rattle.edge_traits.specs.Input.{Input}
-use Rattle.edge_traits.specs.Output.{Output}
-use Rattle.thread_traits.specs.Doors.{DoorView}
+use Rattle.environment.specs.Input.{Input}
+use Rattle.environment.specs.Output.{Output}
+use Rattle.environment.specs.Doors.{DoorView}
 use Rattle.book_port.specs.Ports.{PortView, HasJustMade}
 use Rattle.session_core.specs.declared.how.How.{How}
 use Rattle.session_core.specs.Deeds.{turns_in}

@@ -1,6 +1,6 @@
 use denote.Param.Send.{sendable}
 use Rattle.std.proofs.Crossing.{crosses}
-use Rattle.real_edges.proofs.Crossing.{held_starter_send}
+use Rattle.std_environment.proofs.Crossing.{held_starter_send}
 use Rattle.gnmid.proofs.run_process.Goals as goal
 
 pub run_ready-requires-send-S : goal.run_ready-requires-send-S

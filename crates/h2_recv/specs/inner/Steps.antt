@@ -5,11 +5,11 @@ use Rattle.h2_frame.specs.ErrorCodes.{frame_size_error}
 use Rattle.h2_events.specs.declared.event.RecvEvent.{RecvEvent}
 use Rattle.h2_events.specs.declared.event.RecvFault.{RecvFault}
 use Rattle.h2_events.specs.declared.event.RecvFault.TheVariants as fault
-use Rattle.h2_calls.specs.declared.peer.Peer.{Peer}
+use Rattle.h2_streams.specs.declared.peer.Peer.{Peer}
 use Rattle.h2_events.specs.Events.{largest_frame}
-use Rattle.h2_calls.specs.Outcomes.{Outcome}
-use Rattle.h2_calls.specs.Meanings.{Means}
-use Rattle.h2_calls.specs.Calls.{Moment, Calls, AreRead, frames_of, events_of}
+use Rattle.h2_streams.specs.Outcomes.{Outcome}
+use Rattle.h2_streams.specs.Meanings.{Means}
+use Rattle.h2_streams.specs.Calls.{Moment, Calls, AreRead, frames_of, events_of}
 use Rattle.h2_recv.specs.declared.reader.Reader.{Reader}
 use Rattle.h2_recv.specs.Receiving.{FaultStands, Reads, Faults, Astray, Stops}
 

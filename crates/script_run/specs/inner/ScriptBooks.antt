@@ -27,7 +27,7 @@ use Rattle.script_run.specs.Stops.{Image, IsImageOf, OpensAgain, Restarted, call
 use Rattle.script_run.specs.Restarts.{restart_text}
 use Rattle.script_run.specs.declared.reopening.Reopening.{Reopening}
 use Rattle.script_run.specs.declared.reopening.Reopening.TheVariants.{Ready, Stopped, Failed}
-use Rattle.set_txn.specs.Resolution.{resolved}
+use Rattle.set_request.specs.Resolution.{resolved}
 
 -- the book between two turns
 abbrev pub state_of : BookView FuseView → BookState

@@ -5,7 +5,7 @@ use Rattle.base_kinds.specs.declared.entry.Limits.{Limits}
 use Rattle.base_kinds.specs.Events.{Event, event_answers, history_after_all}
 use Rattle.base_kinds.specs.Rules.{rules_of}
 use Rattle.base_kinds.specs.Schema.{SchemaNode}
-use Rattle.commit_report.specs.Logs.{log_text}
+use Rattle.log_text.specs.Logs.{log_text}
 use Rattle.script_text.specs.declared.line.Line.{Line}
 use Rattle.script_text.specs.declared.line.Line.TheVariants as kinds
 use Rattle.script_text.specs.Lines.{lines_of}

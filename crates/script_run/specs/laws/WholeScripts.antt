@@ -9,7 +9,7 @@ use Rattle.base_kinds.specs.Events.{Event, OfSet, OfGet, history_after, view_of}
 use Rattle.base_kinds.specs.History.{world_of}
 use Rattle.base_kinds.specs.Schema.{SchemaNode}
 use Rattle.base_kinds.specs.Step.{after_expiry}
-use Rattle.commit_report.specs.Logs.{log_text}
+use Rattle.log_text.specs.Logs.{log_text}
 use Rattle.script_text.specs.declared.line.Line.{Line}
 use Rattle.script_text.specs.Lines.{lines_of}
 use Rattle.script_run.specs.AnswerLines.{line_answer}

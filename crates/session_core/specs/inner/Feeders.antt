@@ -5,15 +5,15 @@ use Rattle.base_kinds.specs.declared.entry.Entry.{Entry}
 use Rattle.base_kinds.specs.declared.request.ListMode.TheVariants as modes
 use Rattle.book_port.specs.Opened.{Opened}
 use Rattle.book_port.specs.Ports.{PortView}
-use Rattle.h2_calls.specs.Calls.{Moment, ended, read}
+use Rattle.h2_streams.specs.Calls.{Moment, ended, read}
 use Rattle.h2_send.specs.Inputs.{Input}
 use Rattle.h2_send.specs.Port.{Progress}
-use Rattle.rpc_desk.specs.Subscribes.{subscribe_step}
-use Rattle.rpc_desk.specs.declared.subscribe_steps.SubscribeStep.TheVariants.{Begin}
-use Rattle.session_feeders.specs.Ports.{IsUnused}
+use Rattle.request_desk.specs.Subscribes.{subscribe_step}
+use Rattle.request_desk.specs.declared.subscribe_steps.SubscribeStep.TheVariants.{Begin}
+use Rattle.stream_workers.specs.Ports.{IsUnused}
 use Rattle.shared_wire.specs.Records.{AreRecords}
 use Rattle.shared_wire.specs.Visits.{VisitView, first_records}
-use Rattle.session_feeders.specs.Feeders.{AreOf, FeedersView, IsOf, IsOfFeeder, Started}
+use Rattle.stream_workers.specs.Feeders.{AreOf, FeedersView, IsOf, IsOfFeeder, Started}
 use Rattle.sub_plan.specs.declared.plan.Plan.{Plan}
 use Rattle.session_core.specs.declared.waiting.Waiting.{Waiting}
 use Rattle.session_core.specs.Deeds.{Deed, Handing, handed_in, said_to, turns_in}

@@ -1,14 +1,14 @@
 -- Where a session stands between two of its steps, and where it ends.
 use Rattle.std.specs.Prelude.{◌≡◌, ◌⊎◌, ℕ, List, [], ◌∷◌, ◌++◌, length, Some, Ok}
 use Rattle.std.specs.List.{AllByRecursion}
-use Rattle.edge_traits.specs.Input.{Input as Source, Read}
-use Rattle.edge_traits.specs.Output.{Output, Wrote}
+use Rattle.environment.specs.Input.{Input as Source, Read}
+use Rattle.environment.specs.Output.{Output, Wrote}
 use Rattle.base_kinds.specs.declared.request.ListMode.TheVariants as modes
 use Rattle.base_kinds.specs.Schema.{SchemaNode}
 use Rattle.h2_frame.specs.Frames.{Frame}
 use Rattle.h2_windows.specs.Written.{octets_of}
 use Rattle.h2_events.specs.declared.event.RecvEvent.{RecvEvent}
-use Rattle.h2_calls.specs.Calls.{Moment, read, events_of}
+use Rattle.h2_streams.specs.Calls.{Moment, read, events_of}
 use Rattle.h2_recv.specs.declared.reader.Reader.{Reader}
 use Rattle.h2_recv.specs.Receiving.{State, ReadsWithEnds, new_reader}
 use Rattle.h2_send.specs.Accepting.{AreAccepted}
@@ -18,7 +18,7 @@ use Rattle.h2_send.specs.Outputs.{frames_of, frames_until}
 use Rattle.h2_send.specs.Port.{Progress}
 use Rattle.h2_send.specs.Inputs.{Input}
 use Rattle.h2_send.specs.declared.condition.Condition.TheVariants as condition
-use Rattle.session_calls.specs.declared.request.Request.{Request}
+use Rattle.grpc_requests.specs.declared.request.Request.{Request}
 use Rattle.book_port.specs.Ports.{PortView}
 use Rattle.session_core.specs.declared.how.How.{How}
 use Rattle.session_core.specs.declared.how.How.TheVariants as hows

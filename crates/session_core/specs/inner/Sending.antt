@@ -1,6 +1,6 @@
 -- The sending half of a connection as a session uses it, and what others who have ports to it do between two of its calls.
 use Rattle.std.specs.Prelude.{◌≡◌, ◌⊎◌, ℕ, ◌==◌, ◌≤◌, length, true, false, if◌then◌else◌, List, [], ◌∷◌, ◌++◌, map, Option, Some, Result, Ok, Err, IfErr}
-use Rattle.edge_traits.specs.Output.{Wrote, FailedWithin}
+use Rattle.environment.specs.Output.{Wrote, FailedWithin}
 use Rattle.h2_frame.specs.ErrorCodes.{flow_control_error}
 use Rattle.h2_windows.specs.Written.{octets_of}
 use Rattle.h2_events.specs.declared.event.RecvEvent.{RecvEvent}

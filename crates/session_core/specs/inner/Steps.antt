@@ -1,13 +1,13 @@
 -- What one step of a session does.
 use Rattle.std.specs.Prelude.{◌≡◌, ◌⊎◌, ℕ, ◌<◌, List, [], ◌∷◌, ◌++◌, length, Bool, false, ⊤, Option, Some, None, Result, Ok, Err, if◌then◌else◌}
-use Rattle.edge_traits.specs.Input.{Input as Source, Read}
+use Rattle.environment.specs.Input.{Input as Source, Read}
 use Rattle.h2_frame.specs.Frames.{Frame}
 use Rattle.h2_events.specs.declared.event.RecvEvent.{RecvEvent}
 use Rattle.h2_events.specs.declared.said.Said.{Said}
 use Rattle.h2_events.specs.declared.port.Took.{Took}
 use Rattle.h2_events.specs.declared.port.Took.TheVariants as took
 use Rattle.h2_events.specs.Items.{is_last}
-use Rattle.h2_calls.specs.Calls.{Moment, read, reads_of}
+use Rattle.h2_streams.specs.Calls.{Moment, read, reads_of}
 use Rattle.h2_recv.specs.declared.reader.Reader.{Reader}
 use Rattle.h2_recv.specs.Receiving.{State, Reads, Faults, Astray, ReadsWithEnds, EndsFrame, new_reader, state_ended}
 use Rattle.h2_send.specs.Accepting.{IsAccepted}
@@ -17,7 +17,7 @@ use Rattle.h2_send.specs.Port.{Progress, Takes, line_of}
 use Rattle.h2_send.specs.declared.fault.WireFaultOut.{WireFaultOut}
 use Rattle.h2_send.specs.declared.fault.WireFaultOut.TheVariants as faults
 use Rattle.base_kinds.specs.Schema.{SchemaNode}
-use Rattle.session_calls.specs.declared.request.Asked.{Asked}
+use Rattle.grpc_requests.specs.declared.request.Asked.{Asked}
 use Rattle.book_port.specs.Ports.{PortView}
 use Rattle.session_core.specs.declared.how.How.{How}
 use Rattle.session_core.specs.declared.how.How.TheVariants as hows
@@ -28,13 +28,13 @@ use Rattle.session_core.specs.declared.reply.Reply.TheVariants as replies
 use Rattle.h2_events.specs.declared.said.Said.TheVariants.{Status}
 use Rattle.session_core.specs.declared.served.Served.{Served}
 use Rattle.session_core.specs.Deeds.{Deed, Doing, Answering, Turning, Service, AreElsewhere, IsAmong, IsAnswer, IsCallTurn, IsHeard, told, told_all}
-use Rattle.session_calls.specs.declared.request.Asked.TheVariants as asks
-use Rattle.session_calls.specs.declared.request.Later.{Later}
+use Rattle.grpc_requests.specs.declared.request.Asked.TheVariants as asks
+use Rattle.grpc_requests.specs.declared.request.Later.{Later}
 use Rattle.h2_events.specs.declared.port.Ready.TheVariants.{Free}
 use Rattle.h2_send.specs.Offers.{ready_on}
 use Rattle.h2_send.specs.Orders.{line_after}
 use Rattle.book_port.specs.Follows.{Turn}
-use Rattle.session_feeders.specs.Feeders.{Started}
+use Rattle.stream_workers.specs.Feeders.{Started}
 use Rattle.session_core.specs.Reading.{IsGiven, IsMadeOf}
 use Rattle.session_core.specs.inner.Feeders.{IsStartedFor, book_of}
 use Rattle.session_core.specs.inner.Sending.{Starves}

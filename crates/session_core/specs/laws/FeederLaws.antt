@@ -17,17 +17,17 @@ use Rattle.h2_send.specs.Accepting.{AreAccepted}
 use Rattle.h2_send.specs.Inputs.{Input}
 use Rattle.h2_send.specs.Lines.{first_line}
 use Rattle.h2_send.specs.Orders.{line_after, order_of}
-use Rattle.rpc_desk.specs.Answers.{IsAnsweredBy}
-use Rattle.rpc_desk.specs.Tasks.{Task}
-use Rattle.session_calls.specs.declared.request.Request.{Request}
-use Rattle.stream_feed.specs.Books.{AreRun, IsMadeIn}
-use Rattle.stream_feed.specs.Feeds.{Feeds}
+use Rattle.request_desk.specs.Answers.{IsAnsweredBy}
+use Rattle.request_desk.specs.Tasks.{Task}
+use Rattle.grpc_requests.specs.declared.request.Request.{Request}
+use Rattle.stream_worker.specs.Books.{AreRun, IsMadeIn}
+use Rattle.stream_worker.specs.Feeds.{Feeds}
 use Rattle.stream_laws.specs.Runs.{Moment}
 use Rattle.sub_plan.specs.declared.plan.Plan.{Plan}
 use Rattle.subscribe_calls.specs.Calls.{CallView, replies_octets}
 use Rattle.subscribe_calls.specs.Turns.{TurnsOnce}
-use Rattle.session_feeders.specs.Feeders.{Feeder}
-use Rattle.session_feeders.specs.Ports.{own_port}
+use Rattle.stream_workers.specs.Feeders.{Feeder}
+use Rattle.stream_workers.specs.Ports.{own_port}
 use Rattle.session_core.specs.declared.how.How.{How}
 use Rattle.session_core.specs.declared.waiting.Waiting.{Waiting}
 use Rattle.session_core.specs.Deeds.{Deed, told, turns_in}

@@ -11,9 +11,9 @@ use Rattle.sub_plan.specs.declared.plan.Plan.{Plan}
 use Rattle.stream_laws.specs.Runs.{IsStreamRun}
 use Rattle.stream_laws.specs.Follows.{first_moment}
 use Rattle.subscribe_calls.specs.Calls.{replies_octets}
-use Rattle.rpc_desk.specs.Subscribes.{subscribe_step}
-use Rattle.rpc_desk.specs.declared.subscribe_steps.SubscribeStep.TheVariants.{Begin}
-use Rattle.session_calls.specs.declared.request.Asked.TheVariants.{Subscribe}
+use Rattle.request_desk.specs.Subscribes.{subscribe_step}
+use Rattle.request_desk.specs.declared.subscribe_steps.SubscribeStep.TheVariants.{Begin}
+use Rattle.grpc_requests.specs.declared.request.Asked.TheVariants.{Subscribe}
 use Rattle.book_port.specs.Chronicles.{entries_by}
 use Rattle.book_port.specs.Follows.{Turn, Follows, FollowsAlone, made_by}
 use Rattle.book_port.specs.Opened.{Opened, IsRun}

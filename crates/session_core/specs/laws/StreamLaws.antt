@@ -8,9 +8,9 @@ use Rattle.base_kinds.specs.Schema.{SchemaNode}
 use Rattle.gnmi_kinds.specs.declared.reply.SubReply.{SubReply}
 use Rattle.h2_events.specs.declared.said.Said.{Said}
 use Rattle.h2_events.specs.declared.said.Said.TheVariants.{Message}
-use Rattle.rpc_desk.specs.Subscribes.{subscribe_step}
-use Rattle.rpc_desk.specs.declared.subscribe_steps.SubscribeStep.TheVariants.{Begin}
-use Rattle.session_calls.specs.declared.request.Asked.TheVariants.{Subscribe}
+use Rattle.request_desk.specs.Subscribes.{subscribe_step}
+use Rattle.request_desk.specs.declared.subscribe_steps.SubscribeStep.TheVariants.{Begin}
+use Rattle.grpc_requests.specs.declared.request.Asked.TheVariants.{Subscribe}
 use Rattle.stream_laws.specs.Streams.{StreamView}
 use Rattle.sub_plan.specs.declared.plan.Plan.{Plan}
 use Rattle.subscribe_calls.specs.Calls.{HaveSaid, replies_octets}

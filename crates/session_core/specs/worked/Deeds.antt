@@ -5,7 +5,7 @@ use Rattle.base_kinds.specs.declared.request.ListMode.TheVariants as modes
 use Rattle.h2_events.specs.declared.said.Said.TheVariants.{Message, Finish}
 use Rattle.sub_plan.specs.declared.plan.Plan.{Plan}
 use Rattle.session_core.specs.declared.served.Served.{Served}
-use Rattle.session_calls.specs.declared.request.Asked.TheVariants.{Subscribe}
+use Rattle.grpc_requests.specs.declared.request.Asked.TheVariants.{Subscribe}
 use Rattle.session_core.specs.Deeds.{Deed, Handing, Turning, handed_in, new_served, requests_in, said_to, said_once, said_streaming, said_polled, kept_polled}
 use Rattle.session_core.specs.Rounds.{had_turns}
 

@@ -12,12 +12,12 @@ use Rattle.h2_events.specs.declared.event.RecvEvent.TheVariants as events
 use Rattle.h2_events.specs.declared.said.Said.TheVariants.{Message, Finish, Status}
 use Rattle.h2_events.specs.Items.{Ended, as_read}
 use Rattle.h2_events.specs.Items as item
-use Rattle.h2_calls.specs.Calls.{Moment, read, ended, events_of, reads_of}
+use Rattle.h2_streams.specs.Calls.{Moment, read, ended, events_of, reads_of}
 use Rattle.h2_send.specs.Inputs.{Input, Event, Speech}
 use Rattle.h2_send.specs.Orders.{order_of}
 use Rattle.h2_send.specs.Outputs.{frames_of}
-use Rattle.session_calls.specs.declared.request.Asked.TheVariants as asks
-use Rattle.session_calls.specs.Requests.{requests}
+use Rattle.grpc_requests.specs.declared.request.Asked.TheVariants as asks
+use Rattle.grpc_requests.specs.Requests.{requests}
 use Rattle.session_core.specs.Deeds.{Deed, Answering, requests_in, said_once}
 use Rattle.session_core.specs.Saying.{IsSaid}
 use Rattle.session_core.specs.Serving.{without_fed}

@@ -1,7 +1,7 @@
 -- A wire as a turn has it in hand.
 use Rattle.std.specs.Prelude.{◌≡◌, ℕ, ◌<◌, List, length, refl}
 use Rattle.std.specs.Coded.{Coded, code_by, coded×}
-use Rattle.edge_traits.specs.Output.{Output}
+use Rattle.environment.specs.Output.{Output}
 use Rattle.h2_send.specs.Conditions.{answer_of}
 use Rattle.h2_send.specs.Orders.{line_after}
 use Rattle.h2_send.specs.Lines.{first_line}

@@ -1,6 +1,6 @@
 -- What is noted of a call, as its record.
 use Rattle.std.specs.Prelude.{ℕ, List, [], ◌∷◌, ◌++◌, map, Result, Err}
-use Rattle.edge_traits.specs.Output.{Output}
+use Rattle.environment.specs.Output.{Output}
 use Rattle.h2_send.specs.Inputs.{input_of}
 use Rattle.h2_send.specs.Accepting.{IsAccepted}
 use Rattle.h2_send.specs.Port.{Progress, line_of}

@@ -2,7 +2,7 @@ use Rattle.std.proofs.Common.{refl, subst}
 use Rattle.std.proofs.lemmas.List.Concat.{flat_map-append}
 use Rattle.h2_windows.specs.Written.{spelled, octets_of}
 use Rattle.h2_windows.proofs.Fronts.{failed_first, failed_behind}
-use Rattle.edge_traits.specs.Output.{FailedWithin}
+use Rattle.environment.specs.Output.{FailedWithin}
 use Rattle.h2_send.specs.Lines.{Line, told}
 use Rattle.h2_send.specs.Acting.{acted, flushed, replies}
 use Rattle.h2_send.proofs.Closing.{starved, unwritten}

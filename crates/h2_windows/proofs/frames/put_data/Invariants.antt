@@ -1,5 +1,5 @@
 use Rattle.std.proofs.Common.{◌≡◌, List, ℕ, ◌++◌, length}
-use Rattle.edge_traits.specs.Output.{Wrote}
+use Rattle.environment.specs.Output.{Wrote}
 use Rattle.h2_windows.specs.Written.{octets_of}
 use Rattle.h2_windows.specs.Sending.{data_frames}
 use Rattle.h2_windows.proofs.frames.put_data.Given as goal

@@ -1,5 +1,5 @@
 use Rattle.std.proofs.Common.{◌≡◌, List, ℕ, ◌++◌, take, drop}
-use Rattle.edge_traits.specs.Output.{Wrote}
+use Rattle.environment.specs.Output.{Wrote}
 use Rattle.h2_windows.specs.Written.{octets_of}
 use Rattle.h2_windows.specs.Sending.{sent}
 use Rattle.h2_windows.proofs.sending.send_allowed.Given as goal

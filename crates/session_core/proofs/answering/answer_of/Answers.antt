@@ -1,10 +1,10 @@
 use Rattle.std.specs.Prelude.{MatchResult}
 use Rattle.std.proofs.Common.{◌≡◌, List, inl, refl, sym, ap, ◌∙◌, subst}
 use Rattle.base_kinds.specs.Schema.{SchemaNode}
-use Rattle.rpc_desk.specs.Answers.{IsAnsweredBy}
-use Rattle.rpc_desk.specs.Services.{task_of}
-use Rattle.session_calls.specs.declared.request.Asked.{Asked}
-use Rattle.session_calls.specs.declared.request.Asked.TheVariants as asks
+use Rattle.request_desk.specs.Answers.{IsAnsweredBy}
+use Rattle.request_desk.specs.Services.{task_of}
+use Rattle.grpc_requests.specs.declared.request.Asked.{Asked}
+use Rattle.grpc_requests.specs.declared.request.Asked.TheVariants as asks
 use Rattle.session_core.specs.inner.Steps.{IsRepliedBeside, service}
 use Rattle.session_core.proofs.Replies.{called, sent_away, turned_down}
 use Rattle.session_core.proofs.Subscribing.{begun_or}

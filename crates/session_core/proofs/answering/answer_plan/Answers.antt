@@ -1,9 +1,9 @@
 use Rattle.std.proofs.Common.{◌≡◌, inl, inr, refl, sym, ap, ◌∙◌, subst}
 use Rattle.std.specs.Prelude.{None, Ok}
 use Rattle.book_port.specs.Ports.{PortView}
-use Rattle.rpc_desk.specs.Subscribes.{subscribe_step}
-use Rattle.rpc_desk.specs.declared.subscribe_steps.SubscribeStep.TheVariants.{Begin}
-use Rattle.session_calls.specs.declared.request.Asked.TheVariants as asks
+use Rattle.request_desk.specs.Subscribes.{subscribe_step}
+use Rattle.request_desk.specs.declared.subscribe_steps.SubscribeStep.TheVariants.{Begin}
+use Rattle.grpc_requests.specs.declared.request.Asked.TheVariants as asks
 use Rattle.sub_plan.specs.declared.plan.Plan.{Plan}
 use Rattle.session_core.specs.inner.Steps.{IsReplied, service}
 use Rattle.session_core.proofs.Subscribing.{begun_or, in_no_mode}

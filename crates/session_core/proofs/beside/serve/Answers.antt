@@ -1,5 +1,5 @@
 use Rattle.std.proofs.Common.{[], refl, sym, subst}
-use Rattle.session_feeders.specs.Ports.{own_port}
+use Rattle.stream_workers.specs.Ports.{own_port}
 use Rattle.session_core.specs.declared.how.How.{How}
 use Rattle.session_core.specs.FeederRuns.{SessionRunBeside}
 use Rattle.session_core.specs.Runs.{outside_of}

@@ -4,8 +4,8 @@ use Rattle.base_kinds.specs.Schema.{SchemaNode}
 use Rattle.book_port.specs.Ports.{PortView}
 use Rattle.shared_wire.specs.Records.{left_in}
 use Rattle.shared_wire.specs.Visits.{VisitView, others_of}
-use Rattle.session_feeders.specs.Feeders.{AllEnd, FeedersView, IsOfFeeder, streams_of}
-use Rattle.session_feeders.specs.Ports.{own_port}
+use Rattle.stream_workers.specs.Feeders.{AllEnd, FeedersView, IsOfFeeder, streams_of}
+use Rattle.stream_workers.specs.Ports.{own_port}
 use Rattle.session_core.specs.FeederRuns.{SessionRunBeside}
 use Rattle.session_core.specs.Runs.{outside_of}
 use Rattle.session_core.specs.inner.Feeders.{feeder_state}

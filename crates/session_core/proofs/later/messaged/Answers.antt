@@ -1,8 +1,8 @@
 use Rattle.std.proofs.Common.{◌≡◌, subst}
 use Rattle.std.specs.Prelude.{Some, Ok}
-use Rattle.rpc_desk.specs.Subscribes.{subscribe_step}
-use Rattle.rpc_desk.specs.declared.subscribe_steps.SubscribeStep.{SubscribeStep}
-use Rattle.rpc_desk.specs.declared.subscribe_steps.SubscribeStep.TheVariants.{Poll}
+use Rattle.request_desk.specs.Subscribes.{subscribe_step}
+use Rattle.request_desk.specs.declared.subscribe_steps.SubscribeStep.{SubscribeStep}
+use Rattle.request_desk.specs.declared.subscribe_steps.SubscribeStep.TheVariants.{Poll}
 use Rattle.sub_plan.specs.declared.plan.Plan.{Plan}
 use Rattle.session_core.proofs.later.messaged.Goals as goal
 

@@ -1,8 +1,8 @@
 use Rattle.std.proofs.Common.{ℕ, List, ◌++◌}
-use Rattle.edge_traits.specs.Output.{Output}
+use Rattle.environment.specs.Output.{Output}
 use Rattle.h2_events.specs.declared.event.RecvEvent.{RecvEvent}
-use Rattle.session_calls.specs.declared.request.Request.{Request}
-use Rattle.session_feeders.specs.Feeders.{Started}
+use Rattle.grpc_requests.specs.declared.request.Request.{Request}
+use Rattle.stream_workers.specs.Feeders.{Started}
 use Rattle.session_core.specs.declared.waiting.Waiting.{Waiting}
 use Rattle.session_core.specs.Saying.{AreBehind}
 use Rattle.session_core.specs.Serving.{Start, Standing}

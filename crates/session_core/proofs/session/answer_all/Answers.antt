@@ -1,5 +1,5 @@
 use Rattle.std.proofs.Common.{List, subst}
-use Rattle.session_calls.specs.declared.request.Request.{Request}
+use Rattle.grpc_requests.specs.declared.request.Request.{Request}
 use Rattle.session_core.specs.Runs.{start_of}
 use Rattle.session_core.specs.inner.Feeders.{feeder_state}
 use Rattle.session_core.specs.inner.Places.{IsServedAt}

@@ -1,5 +1,5 @@
 use Rattle.std.proofs.Common.{◌≡◌, ℕ, List}
-use Rattle.h2_calls.specs.Calls.{Moment}
+use Rattle.h2_streams.specs.Calls.{Moment}
 use Rattle.h2_send.specs.Inputs.{Input}
 use Rattle.session_core.specs.Runs.{Outside, start_of}
 use Rattle.session_core.specs.inner.Feeders.{AreOfSession, feeder_state, book_of}

@@ -1,5 +1,5 @@
-use Rattle.session_calls.specs.Requests.{requests_with}
-use Rattle.session_calls.proofs.Tables.{requests_more}
+use Rattle.grpc_requests.specs.Requests.{requests_with}
+use Rattle.grpc_requests.proofs.Tables.{requests_more}
 use Rattle.session_core.proofs.session.hear.Goals as goal
 
 -- where the table wants memory, the requests are owed

@@ -1,8 +1,8 @@
 use Rattle.std.proofs.Common.{refl, List, [], ◌∷◌, ◌++◌, subst, sym, ap, Some, ◌∙◌}
-use Rattle.h2_calls.specs.Calls.{read}
+use Rattle.h2_streams.specs.Calls.{read}
 use Rattle.h2_send.specs.Port.{Progress}
-use Rattle.session_calls.specs.declared.request.Request.{Request}
-use Rattle.session_feeders.specs.Feeders.{Started}
+use Rattle.grpc_requests.specs.declared.request.Request.{Request}
+use Rattle.stream_workers.specs.Feeders.{Started}
 use Rattle.session_core.specs.declared.how.How.{How}
 use Rattle.session_core.specs.declared.how.How.TheVariants as hows
 use Rattle.session_core.specs.Runs.{start_of}

@@ -3,7 +3,7 @@ use Rattle.base_kinds.specs.declared.request.ListMode.TheVariants as modes
 use Rattle.h2_events.specs.declared.event.RecvEvent.{RecvEvent}
 use Rattle.session_core.specs.declared.served.Served.{Served}
 use Rattle.session_core.specs.Runs.{Outside, start_of}
-use Rattle.session_feeders.specs.Feeders.{Started}
+use Rattle.stream_workers.specs.Feeders.{Started}
 use Rattle.session_core.specs.inner.Feeders.{AreOfFeeders, feeder_state, book_of}
 use Rattle.session_core.specs.inner.Places.{IsTurning}
 use Rattle.session_core.specs.inner.Sending.{HasGrown}

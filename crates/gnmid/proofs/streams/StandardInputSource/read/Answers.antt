@@ -1,5 +1,5 @@
 use Rattle.std.proofs.Common.{None, length, ◌≤◌, sym, subst, rules}
-use Rattle.edge_traits.specs.Input.{Input, ReadsFront}
+use Rattle.environment.specs.Input.{Input, ReadsFront}
 use Rattle.gnmid.proofs.Records.{ReadsFront-recorded}
 use Rattle.gnmid.proofs.streams.StandardInputSource.read.Goals as goal
 

@@ -1,8 +1,0 @@
-use Rattle.std.proofs.Common.{◌≡◌, ◌++◌, take}
-use Rattle.std.specs.List.{flat_map}
-use Rattle.commit_report.specs.Logs.{entry_lines}
-use Rattle.commit_report.proofs.log.append_entries.Given as goal
-
--- the entries so far are added
-abbrev pub invariant-loop-entry : goal.invariant-loop-entry
-invariant-loop-entry l = l.out ≡ l.fn.out ++ flat_map entry_lines (take l.entry-index l.entries)

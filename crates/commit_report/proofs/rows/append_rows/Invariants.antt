@@ -1,8 +1,0 @@
-use Rattle.std.proofs.Common.{◌≡◌, ◌++◌, take}
-use Rattle.std.specs.List.{flat_map}
-use Rattle.commit_report.specs.Logs.{row_text}
-use Rattle.commit_report.proofs.rows.append_rows.Given as goal
-
--- the rows so far are added
-abbrev pub invariant-loop-row : goal.invariant-loop-row
-invariant-loop-row l = l.out ≡ l.fn.out ++ flat_map (λ row. l.front ++ row_text row) (take l.row-index l.rows)

@@ -1,4 +1,0 @@
-pub mod Faults
-pub mod Input
-pub mod Memory
-pub mod Output

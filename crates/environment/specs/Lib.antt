@@ -1,0 +1,8 @@
+pub mod Faults
+pub mod Input
+pub mod Memory
+pub mod Output
+pub mod Clocks
+pub mod Doors
+pub mod Outcomes
+pub mod Starters

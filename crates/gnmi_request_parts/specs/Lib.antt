@@ -1,4 +1,0 @@
-pub mod Singles
-pub mod Encodings
-pub mod Models
-pub mod Profile

@@ -1,5 +1,0 @@
-use Rattle.h2_calls.proofs.LawLemmas.{keeps_others}
-use Rattle.h2_calls.proofs.laws.others_stay.Goals as goal
-
-pub returns : goal.returns
-returns c = keeps_others

@@ -1,5 +1,0 @@
-use Rattle.h2_replies.proofs.Small.{small_if, opening_small}
-use Rattle.h2_replies.proofs.replies.first_headers.Goals as goal
-
-pub returns-clause-small : goal.returns-clause-small
-returns-clause-small c = small_if c.opening_headers.result _ opening_small c.opening_headers.ensures

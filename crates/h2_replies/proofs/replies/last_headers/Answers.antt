@@ -1,5 +1,0 @@
-use Rattle.h2_replies.proofs.Small.{small_if, trailers_small}
-use Rattle.h2_replies.proofs.replies.last_headers.Goals as goal
-
-pub returns-clause-small : goal.returns-clause-small
-returns-clause-small c = small_if c.trailers_of.result _ (trailers_small c.args.refusal) c.trailers_of.ensures

@@ -1,7 +1,0 @@
-use Rattle.std.proofs.Common.{ap, ◌∙◌}
-use Rattle.std.specs.Prelude.{not}
-use Rattle.rpc_desk.proofs.Covered.{none_covered}
-use Rattle.rpc_desk.proofs.replies.is_empty_part.Goals as goal
-
-pub returns : goal.returns
-returns c = ap not c.is_row_covered.ensures ∙ none_covered c.args.rows.now c.args.path.now

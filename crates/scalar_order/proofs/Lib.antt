@@ -1,3 +1,0 @@
-pub mod ScalarOrder
-pub mod Behind
-pub mod OneMore

@@ -1,6 +1,0 @@
-use Rattle.std.proofs.Common.{◌≡◌, drop}
-use Rattle.base_kinds.specs.Values.{all_differ}
-use Rattle.scalar_order.proofs.distinct.few_differ.Given as goal
-
-abbrev pub invariant-loop-n : goal.invariant-loop-n
-invariant-loop-n l = all_differ (drop l.n l.values) ≡ all_differ l.values

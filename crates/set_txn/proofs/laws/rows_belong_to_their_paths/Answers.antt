@@ -1,5 +1,0 @@
-use Rattle.set_txn.proofs.Places.{rows_belong}
-use Rattle.set_txn.proofs.laws.rows_belong_to_their_paths.Goals as goal
-
-pub returns : goal.returns
-returns c = rows_belong

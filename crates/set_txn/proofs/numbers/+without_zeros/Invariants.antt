@@ -1,4 +1,0 @@
-use Rattle.set_txn.proofs.numbers.+without_zeros.Given as goal
-
-abbrev pub decreases-without_zeros : goal.decreases-without_zeros
-decreases-without_zeros l = l.zeros

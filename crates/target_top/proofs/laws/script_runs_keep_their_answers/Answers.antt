@@ -1,5 +1,0 @@
-use Rattle.target_top.proofs.KeptAnswers.{scripts_are_kept}
-use Rattle.target_top.proofs.laws.script_runs_keep_their_answers.Goals as goal
-
-pub returns : goal.returns
-returns c = scripts_are_kept

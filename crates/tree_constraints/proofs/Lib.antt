@@ -1,4 +1,0 @@
-pub mod Fronts
-pub mod Instances
-pub mod Leaves
-pub mod Targets
