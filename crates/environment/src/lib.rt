@@ -32,7 +32,7 @@ pub use mem_source::MemSource;
 pub use pacer::{IdlePacer, Pacer};
 pub use reading::{ReadFault, read_to_limit};
 pub use records::{InputRecord, OutputRecord};
-pub use running::{Outcome, Promised, Running};
+pub use running::{Outcome, Promised, Running, join_done};
 pub use starter::{MemStarter, Starter};
 pub use step_clock::StepClock;
 pub use streams::{Failed, Sink, Source};

@@ -34,11 +34,19 @@ impl<J: Job> Promise<Outcome<J, J::Done>> for Promised<J> {
 #[derive(Drop)]
 pub struct Running<J: Job> {
     job: Snapshot<J>,
-    started: Result<PromisedHandle<Outcome<J, J::Done>, Promised<J>>, J::Done>,
+    /// Its thread, with a flag that is set once the job is done; or, with no thread, what the job gave.
+    started: Result<
+        (
+            PromisedHandle<Outcome<J, J::Done>, Promised<J>>,
+            Arc<AtomicBool, Global>,
+        ),
+        Option<J::Done>,
+    >,
 }
 
 impl<J: Job> Model for Running<J> {
     ghost use Rattle.std.specs.Prelude.{◌≡◌, MatchResult};
+    ghost use Rattle.environment.specs.Outcomes.{IsDone};
 
     ghost Value = { J };
 
@@ -47,8 +55,8 @@ impl<J: Job> Model for Running<J> {
     ghost view = { λ running. running.job.value };
 
     ghost invariant = { λ running. MatchResult running.started
-        (λ thread. thread.promise.job.value ≡ running.job.value)
-        (λ done. J.gives running.job.value done) };
+        (λ thread. thread.0.promise.job.value ≡ running.job.value)
+        (λ done. IsDone J.gives running.job.value done) };
 }
 
 /// Does the job, unless it isn't to be done.
@@ -79,7 +87,7 @@ impl<J: Job> Running<J> {
         let of = Snapshot::of(&job);
         Running {
             job: of,
-            started: Err(job.run()),
+            started: Err(Some(job.run())),
         }
     }
 
@@ -89,8 +97,33 @@ impl<J: Job> Running<J> {
     {
         let Running { job: _, started } = self;
         match started {
-            Ok(thread) => result_of(thread.join(rt)),
-            Err(done) => done,
+            Ok((thread, _)) => result_of(thread.join(rt)),
+            Err(Some(done)) => done,
+            Err(None) => unreachable!(),
+        }
+    }
+
+    /// Whether `finish` returns without waiting. Contracts see nothing of it.
+    pub fn is_done(&self) -> bool {
+        match &self.started {
+            Ok((_, is_done)) => is_done.load(Ordering::SeqCst),
+            Err(_) => true,
+        }
+    }
+}
+
+impl<J: Job + Drop> Running<J>
+where
+    J::Done: Drop,
+{
+    /// Waits until the job is done and joins its thread, so that the thread's stack is given back. What the job gave is kept for
+    /// `finish`.
+    pub fn join<R: Threads>(&mut self, rt: &R)
+        ensures { self.new ≡ self.old }
+    {
+        match std::mem::replace(&mut self.started, Err(None)) {
+            Ok((thread, _)) => self.started = Err(Some(result_of(thread.join(rt)))),
+            Err(done) => self.started = Err(done),
         }
     }
 }
@@ -114,23 +147,44 @@ where
         let Ok(theirs) = Arc::try_clone(&is_to_run) else {
             return Err(job);
         };
+        let Ok(is_done) = Arc::new(alloc, AtomicBool::new(false)) else {
+            return Err(job);
+        };
+        let Ok(theirs_is_done) = Arc::try_clone(&is_done) else {
+            return Err(job);
+        };
         match spawn_with(rt, promised, move || {
-            do_or_give_back(job, theirs.load(Ordering::SeqCst))
+            let outcome = do_or_give_back(job, theirs.load(Ordering::SeqCst));
+            theirs_is_done.store(true, Ordering::SeqCst);
+            outcome
         }) {
             Ok(thread) => Ok(Running {
                 job: of,
-                started: Ok(thread),
+                started: Ok((thread, is_done)),
             }),
             Err(refused) => {
                 is_to_run.store(false, Ordering::SeqCst);
                 match (refused.value)() {
                     Outcome::Done(done) => Ok(Running {
                         job: of,
-                        started: Err(done),
+                        started: Err(Some(done)),
                     }),
                     Outcome::Back(job) => Err(job),
                 }
             }
+        }
+    }
+}
+
+/// Joins the threads of the jobs that are done, without waiting. What each job gave is kept for `finish`.
+pub fn join_done<J: Job + Drop, R: Threads>(rt: &R, all: &mut [Running<J>])
+where
+    J::Done: Drop,
+    ensures { all.new ≡ all.old }
+{
+    for running in all.iter_mut() {
+        if running.is_done() {
+            running.join(rt);
         }
     }
 }

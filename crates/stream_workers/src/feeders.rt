@@ -5,7 +5,7 @@ ghost use Rattle.stream_workers.specs.Ports.{StayTheirs};
 use crate::ending::end_all;
 use crate::twins::{meet_ports, tools_of, twins};
 use book_port::{BookPort, Twin};
-use environment::{Clock, Pacer, Running, Sink, Starter};
+use environment::{Clock, Pacer, Running, Sink, Starter, join_done};
 use schema_core::Schema;
 use shared_wire::WireVisit;
 use std::alloc::Global;
@@ -89,6 +89,34 @@ where
     /// something else that the feeder needs can't be made, and where the starter gives its job back; twins that were made are met
     /// again then.
     pub fn hand(
+        &mut self,
+        alloc: Global,
+        book: &mut P,
+        wire: &mut WireVisit<O, R>,
+        clock: &C,
+        stream: u32,
+        plan: Plan,
+    ) -> Result<(), Plan>
+        ensures ok { OnOk result (IsStarted stream plan self.old self.new
+            (P.port book.old) (P.port book.new) wire.old wire.new) }
+        ensures plan { IfErr result (λ back. back ≡ plan) }
+        ensures none { OnErr result (self.new ≡ self.old) }
+        ensures ports { StayTheirs (P.port book.old) (P.port book.new) wire.old wire.new }
+        ensures all { AreOf (P.port book.old).book wire.old.lock self.old.started
+            → AreOf (P.port book.new).book wire.new.lock self.new.started }
+    {
+        self.join_done();
+        self.start(alloc, book, wire, clock, stream, plan)
+    }
+
+    /// Joins the threads of the workers that have ended. Their ports are met when the connection ends, with the others'.
+    fn join_done(&mut self)
+        ensures { self.new ≡ self.old }
+    {
+        join_done(&self.rt, &mut self.running);
+    }
+
+    fn start(
         &mut self,
         alloc: Global,
         book: &mut P,

@@ -3,7 +3,7 @@ use Rattle.stream_workers.specs.Feeders.{AreUnder}
 use Rattle.stream_workers.proofs.Ends.{started_of_more}
 use Rattle.stream_workers.proofs.Jobs.{all_stay, all_under, back_can_meet, back_has_lock, back_met, is_started, same_view}
 use Rattle.stream_workers.proofs.Ports.{both_stay, twins_made}
-use Rattle.stream_workers.proofs.feeders.Feeders.hand.Goals as goal
+use Rattle.stream_workers.proofs.feeders.Feeders.start.Goals as goal
 
 -- ---- no room
 
