@@ -10,6 +10,7 @@ use crate::request::{SubMember, SubRequest, read_request};
 use base_kinds::{Seq, SubLine, SubLines};
 use base_lists::NoMemory;
 use gnmi_data_msg::{MsgFault, is_foreign};
+use gnmi_ext_msg::are_other;
 use gnmi_kinds::SubAsk;
 use std::alloc::Global;
 
