@@ -42,7 +42,7 @@ fn row_has_keys(alloc: Global, rows: &[Row], last: &[Elem], row: &Row) -> Result
 }
 
 /// Whether the keys of the path's elements have their leaves, but for those of so many elements at its beginning.
-#[tactic(auto, using(crate::proofs::Fronts::steps_at))]
+#[tactic(auto, using(crate::proofs::RowFronts::steps_at))]
 fn steps_have_keys(
     alloc: Global,
     rows: &[Row],

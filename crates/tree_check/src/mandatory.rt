@@ -12,7 +12,7 @@ use base_kinds::{Elem, Row, Text};
 use schema_core::{Node, NodeId, Schema, has_names, own_name, parent_names};
 
 /// Whether each mandatory leaf stands wherever some row is below the instance of its parent. Takes no memory.
-#[tactic(auto, using(crate::proofs::Fronts::one_fails, crate::proofs::Fronts::one_passes))]
+#[tactic(auto, using(crate::proofs::RowFronts::one_fails, crate::proofs::RowFronts::one_passes))]
 pub fn mandatory_present(schema: &Schema, rows: &[Row]) -> bool
     requires { IsRising rows.now }
     ensures { result ≡ mandatory_present schema.now rows.now }
