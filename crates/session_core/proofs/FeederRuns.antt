@@ -357,6 +357,24 @@ none_older schema port deeds given feeder serves =
     (among_all (IsAtLeast start) looks.told serves.feeds.turns looks.among
     (at_least start serves.feeds.turns (feeders_begin schema port deeds given feeder serves) (taken_go_on feeder.from.book feeder.to.book serves.feeds.turns looks.taken)))
 
+-- so of what is said on their streams
+pub fed_streams_none_older : (schema : List SchemaNode) (old new : Outside) (how : How) (run : SessionRunBeside schema old how new)
+    → AllByRecursion (λ (feeder : Feeder). (serves : ServesCall schema old.port (deeds_in run.run.served) run.given feeder) × (says : SaysFront schema feeder.plan new.port.seen (said_on feeder.stream (order_of run.run.inputs)))
+    × AllByRecursion (λ (moment : Moment). length (left_last old.port.seen (turns_in serves.before)) ≤ moment.position) says.moments) run.feeders
+unfolding says_front
+fed_streams_none_older schema old new how run =
+    all_zip (HasSeenThat new.port.seen) (ServesCall schema old.port (deeds_in run.run.served) run.given)
+    (λ (feeder : Feeder). (serves : ServesCall schema old.port (deeds_in run.run.served) run.given feeder) × (says : SaysFront schema feeder.plan new.port.seen (said_on feeder.stream (order_of run.run.inputs)))
+    × AllByRecursion (λ (moment : Moment). length (left_last old.port.seen (turns_in serves.before)) ≤ moment.position) says.moments)
+    (λ (feeder : Feeder) seen serves. let s = feeder.stream in
+    let answer = streams_answered (streams_of run.feeders) schema (own_start old) (outside_of new.input new.output (own_port run.port) new.readings) how run.run s in (
+      serves,
+      says_front schema old.port (deeds_in run.run.served) run.given (order_of run.run.inputs) (said_on s (map item_of run.last.lost)) new.port.seen feeder answer.last answer.last_are seen serves
+          (sym (said_behind s run.run.inputs run.last.lost) ∙ ap (λ (is : List Input). said_on s (order_of is)) (sym run.last.whole)),
+      none_older schema old.port (deeds_in run.run.served) run.given feeder serves,
+    ))
+    run.feeders (books_seen run.port run.feeders new.port run.met) run.served
+
 -- ---- the session's own entries
 
 -- what stands in a history of an author stands in all that go on from it

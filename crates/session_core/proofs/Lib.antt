@@ -30,6 +30,7 @@ pub mod Opened
 pub mod Subscribing
 pub mod OnceRuns
 pub mod StreamRuns
+pub mod PollRuns
 pub mod AtOwnPorts
 pub mod Others
 pub mod Asking

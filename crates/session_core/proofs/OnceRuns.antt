@@ -58,7 +58,7 @@ at_end : (plan : Plan) (h : List Entry) → view_at plan.lines h (length h) ≡ 
 at_end plan h = ap (λ (front : List Entry). view_of front (patterns_of plan.lines)) (take_whole h)
 
 module _ (schema : List SchemaNode) (plan : Plan) (h : List Entry) (deed : Deed) (turn : Turn) (taken : deed.turn ≡ Some turn) (more : List Entry) (goes_on : h ≡ turn.left ++ more) where
-  begins : IsStreamRun plan (first_moment turn.reading (length turn.left)) [] (started_messages plan (view_of turn.left (patterns_of plan.lines))) h
+  pub begins : IsStreamRun plan (first_moment turn.reading (length turn.left)) [] (started_messages plan (view_of turn.left (patterns_of plan.lines))) h
   begins =
       let first = first_moment turn.reading (length turn.left) in
       let view = view_at plan.lines turn.left (length turn.left) in

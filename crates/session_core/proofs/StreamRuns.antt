@@ -38,13 +38,13 @@ use Rattle.session_core.proofs.OnceRuns.{one_goes_on, turns_go_on}
 
 -- ---- behind the end of the call
 
-over_stays : (s : ℕ) (b : Bool) (deed : Deed) (old new : List Served) → (deed.stream == s) ≡ b → Changes deed old new → (IsFirstMessage deed.doing → (deed.stream == s) ≡ false) → calls_on s old ≡ [] → calls_on s new ≡ []
+pub over_stays : (s : ℕ) (b : Bool) (deed : Deed) (old new : List Served) → (deed.stream == s) ≡ b → Changes deed old new → (IsFirstMessage deed.doing → (deed.stream == s) ≡ false) → calls_on s old ≡ [] → calls_on s new ≡ []
 over_stays s false deed old new is change first none = elsewhere s deed old new change is ∙ none
 over_stays s true deed old new is (inl same) first none = ap (calls_on s) same ∙ none
 over_stays s true deed old new is (inr (inl b)) first none = absurd (false≢true (sym (first b.first) ∙ is))
 over_stays s true deed old new is (inr (inr e)) first none = absurd (none_found s deed old e.others e.more e.call e.among e.on is none)
 
-no_turn : (schema : List SchemaNode) (s : ℕ) (b : Bool) (deed : Deed) (doing : Doing) (old new : Service) → (deed.stream == s) ≡ b → IsDone schema doing deed old new → calls_on s old.calls ≡ [] → (b && is_turn doing) ≡ false
+pub no_turn : (schema : List SchemaNode) (s : ℕ) (b : Bool) (deed : Deed) (doing : Doing) (old new : Service) → (deed.stream == s) ≡ b → IsDone schema doing deed old new → calls_on s old.calls ≡ [] → (b && is_turn doing) ≡ false
 no_turn schema s false deed doing old new is done none = refl
 no_turn schema s true deed (Answering asked) old new is done none = refl
 no_turn schema s true deed (Handing body) old new is done none = refl
@@ -59,7 +59,7 @@ over_says schema s old (deed ∷ deeds) last (next, one, rest) first none =
 
 -- ---- what was seen goes on
 
-goes_on : (deed : Deed) (old new : PortView) → Moved deed old new → (more : List Entry) × (new.seen ≡ old.seen ++ more)
+pub goes_on : (deed : Deed) (old new : PortView) → Moved deed old new → (more : List Entry) × (new.seen ≡ old.seen ++ more)
 goes_on deed old new (inl still) = ([], ap (λ (p : PortView). p.seen) still.same ∙ sym (append-nil old.seen))
 goes_on deed old new (inr moved) = one_goes_on old new moved.turn moved.takes
 
@@ -71,7 +71,7 @@ pub record IsKept (served : Served) (others more new : List Served) : Type 0 whe
   pub same : call.call ≡ served.call
   pub whole : new ≡ others ++ call ∷ [] ++ more
 
-abbrev Fate : Served → List Served → List Served → List Served → List Served → Type 0
+abbrev pub Fate : Served → List Served → List Served → List Served → List Served → Type 0
 Fate served others more old new = (new ≡ old) ⊎ (new ≡ others ++ more) ⊎ IsKept served others more new
 
 module _ (served : Served) (others more : List Served) (deed : Deed) (old new : Service) where
@@ -97,13 +97,13 @@ module _ (served : Served) (others more : List Served) (deed : Deed) (old new : 
   fate_ending modes.Once polls is = inl (calls_in [] old.calls deed old new is)
   fate_ending modes.Other polls is = inl (calls_in [] old.calls deed old new is)
 
-  fate : (what : Later) → IsHeardBy what served others more deed old new → Fate served others more old.calls new.calls
+  pub fate : (what : Later) → IsHeardBy what served others more deed old new → Fate served others more old.calls new.calls
   fate (later.Message body) (inl is) = fate_next (subscribe_step (Some served.call.plan.mode) body) is
   fate (later.Message body) (inr is) = gone _ is
   fate (later.Fault refusal) is = gone _ is
   fate later.End is = fate_ending served.call.plan.mode served.polls is
 
-on_there : (s : ℕ) (calls : List Served) (k : Served) (ks : List Served) → calls_on s calls ≡ k ∷ ks → (k.stream == s) ≡ true
+pub on_there : (s : ℕ) (calls : List Served) (k : Served) (ks : List Served) → calls_on s calls ≡ k ∷ ks → (k.stream == s) ≡ true
 on_there s [] k ks is = absurd cc
 on_there s (c ∷ calls) k ks is = by_test (c.stream == s) refl is (on_there s calls k ks) where
   by_test : (b : Bool) → (c.stream == s) ≡ b → cond b (c ∷ calls_on s calls) (calls_on s calls) ≡ k ∷ ks → (calls_on s calls ≡ k ∷ ks → (k.stream == s) ≡ true) → (k.stream == s) ≡ true

@@ -1,3 +1,4 @@
 pub mod FeederLaws
 pub mod RunLaws
 pub mod StreamLaws
+pub mod PollLaws

@@ -1,7 +1,8 @@
 //! Laws of the definitions, which hold for every caller: those of a connection hold whichever calls feeders serve.
 ghost use Rattle.session_core.specs.laws.RunLaws.{TurnsAreTaken, TurnsFollow, TurnsFollowAlone, HistoriesAreAllowed, OwnEntriesStand, EarlierEntriesStand, FindsAreKept, FaultsAreMarked, StreamsAreAnswered, DataAreAFront, OnceCallsSayStates};
+ghost use Rattle.session_core.specs.laws.PollLaws.{PollCallsSayStates};
 ghost use Rattle.session_core.specs.laws.StreamLaws.{StreamCallsSayRuns};
-ghost use Rattle.session_core.specs.laws.FeederLaws.{AnswersAtOwnPort, FedStreamsSayRuns, FeedersBeginAtTheSession, FeedersFindEarlierEntries, FeedersSayNothingOlder, FeedersSayRuns, OthersRest, OthersServe, OwnEntriesStandBeside, TurnsAtOwnPort, TurnsFollowBeside};
+ghost use Rattle.session_core.specs.laws.FeederLaws.{AnswersAtOwnPort, FedStreamsSayNothingOlder, FedStreamsSayRuns, FeedersBeginAtTheSession, FeedersFindEarlierEntries, FeedersSayNothingOlder, FeedersSayRuns, OthersRest, OthersServe, OwnEntriesStandBeside, TurnsAtOwnPort, TurnsFollowBeside};
 
 /// The answers of a connection are those of one history.
 pub fn answers_are_of_one_history()
@@ -40,6 +41,11 @@ pub fn stream_calls_say_runs()
     ensures { StreamCallsSayRuns }
 {}
 
+/// What a turn of a Subscribe call of mode POLL says is a run of a stream with that turn, at a state of that history.
+pub fn poll_calls_say_states()
+    ensures { PollCallsSayStates }
+{}
+
 /// What holds of a port without what it knows of other ports of its book.
 pub fn own_ports_stand_alone()
     ensures answers { AnswersAtOwnPort }
@@ -70,5 +76,6 @@ pub fn own_entries_stand_beside()
 pub fn feeders_begin_at_the_session()
     ensures begin { FeedersBeginAtTheSession }
     ensures say { FeedersSayNothingOlder }
+    ensures streams { FedStreamsSayNothingOlder }
     ensures earlier { FeedersFindEarlierEntries }
 {}

@@ -29,7 +29,8 @@ pub use how::How;
 pub use laws::{
     answers_are_of_one_history, feeders_begin_at_the_session, feeders_say_runs,
     once_calls_say_states, own_entries_stand, own_entries_stand_beside, own_ports_stand_alone,
-    stream_calls_say_runs, streams_are_answered, turns_are_kept, what_feeders_say_stands_apart,
+    poll_calls_say_states, stream_calls_say_runs, streams_are_answered, turns_are_kept,
+    what_feeders_say_stands_apart,
 };
 pub use served::{Served, ServedCalls};
 pub use session::{SessionEnd, serve_alone};

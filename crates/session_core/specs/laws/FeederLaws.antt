@@ -147,6 +147,18 @@ FeedersSayNothingOlder = (schema : List SchemaNode) (port : PortView) (deeds : L
     length (left_last port.seen (turns_in serves.before)) ≤ moment.position)
     serves.feeds.looks.moments
 
+-- So it is of what is said on the stream of each feeder's call: its run begins at that position or behind it.
+abbrev pub FedStreamsSayNothingOlder : Type 0
+FedStreamsSayNothingOlder = (schema : List SchemaNode) (old new : Outside) (how : How)
+    → (run : SessionRunBeside schema old how new)
+    → AllByRecursion (λ (feeder : Feeder).
+    (serves : ServesCall schema old.port (deeds_in run.run.served) run.given feeder)
+    × (says : SaysFront schema feeder.plan new.port.seen
+    (said_on feeder.stream (order_of run.run.inputs)))
+    × AllByRecursion (λ moment.
+    length (left_last old.port.seen (turns_in serves.before)) ≤ moment.position) says.moments)
+    run.feeders
+
 -- What the turn finds has of this author these entries first, and then others.
 pub record HasEarlier (author : ℕ) (entries : List Entry) (turn : Turn) : Type 0 where
   pub later : List Entry
