@@ -1,4 +1,4 @@
 mod Crossing
 mod Ports
 mod Runs
-mod Standing
+pub mod Standing

@@ -1,3 +1,4 @@
 pub mod laws
+pub mod Histories
 pub mod Serving
 pub mod Sessions

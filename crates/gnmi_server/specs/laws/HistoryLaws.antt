@@ -5,21 +5,16 @@ use Rattle.base_kinds.specs.declared.entry.Entry.{Entry}
 use Rattle.environment.specs.Input.{Input}
 use Rattle.environment.specs.Output.{Output}
 use Rattle.environment.specs.Doors.{DoorView}
-use Rattle.book_port.specs.Ports.{PortView, HasJustMade}
+use Rattle.book_port.specs.Ports.{PortView}
 use Rattle.session_core.specs.declared.how.How.{How}
 use Rattle.session_core.specs.Deeds.{turns_in}
 use Rattle.session_core.specs.Serving.{deeds_in}
 use Rattle.connection_server.specs.declared.accepting.Ending.{Ending}
 use Rattle.connection_server.specs.declared.link.LinkEnd.{LinkEnd}
 use Rattle.connection_server.specs.laws.SessionLaws.{StandIn}
+use Rattle.gnmi_server.specs.Histories.{GoesOnFrom}
 use Rattle.gnmi_server.specs.Serving.{Served, ServesBook}
 use Rattle.gnmi_server.specs.Sessions.{ServesLink}
-
--- It begins with the history that the port has seen, and has just the entries that the ports which that one met made.
-pub record GoesOnFrom (port : PortView) (h : List Entry) : Type 0 where
-  pub more : List Entry
-  pub whole : h ≡ port.seen ++ more
-  pub has_made : AllByRecursion (HasJustMade h) port.met
 
 -- that history stands first in this one
 abbrev pub HasFront : List Entry → List Entry → Type 0
