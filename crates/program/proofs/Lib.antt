@@ -1,3 +1,4 @@
+pub mod headline
 pub mod RunLaws
 pub mod Stages
 pub mod WordLists

@@ -15,5 +15,7 @@ pub mod SchemaGiven
 pub mod ScriptRun
 pub mod ServeCommand
 pub mod SessionCommand
+pub mod headline
 pub mod inner
 pub mod laws
+pub mod worked

@@ -1,4 +1,5 @@
--- THE THEOREM. What every run of the program is, whatever its words, its files and its input hold.
+-- THE THEOREM. What every run of the program is, whatever its words, its files and its input hold. What follows of it for whoever uses
+-- `serve`, `session` and `script` is the promise, headline/Headline.antt.
 -- Commands.antt says how a command is written, Environment.antt what is seen of the files, a disk, the streams and the clock,
 -- Ending.antt what a status means, and one file a command what it does. docs/THEOREM.md says the same in words.
 use Rattle.std.specs.Prelude.{◌≡◌, ℕ, List, [], codes, Option, None}

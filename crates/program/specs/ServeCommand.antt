@@ -19,8 +19,8 @@ use Rattle.connection_server.specs.declared.accepting.Ending.{Ending as Acceptin
 use Rattle.connection_server.specs.declared.accepting.Ending.TheVariants as accepting
 use Rattle.connection_server.specs.Joining.{authors_of}
 use Rattle.connection_server.specs.Twins.{RiseAbove}
+use Rattle.gnmi_server.specs.Histories.{GoesOnFrom}
 use Rattle.gnmi_server.specs.Serving.{ServesBook}
-use Rattle.gnmi_server.specs.laws.HistoryLaws.{GoesOnFrom}
 use Rattle.program.specs.declared.ending.Ending.{Ending}
 use Rattle.program.specs.declared.ending.Ending.TheVariants as ends
 use Rattle.program.specs.Environment.{Environment, SeenFiles, SeenDisk, GaveDisk, FailedToGiveDisk, files_after_disk}

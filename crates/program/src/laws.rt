@@ -4,6 +4,7 @@ ghost use Rattle.program.specs.laws.RunLaws.{CompletesInits, CompletesLogs};
 ghost use Rattle.program.specs.laws.GoodScripts.{CompletesGoodScripts};
 ghost use Rattle.program.specs.laws.KeptAnswers.{KeepsScripts};
 ghost use Rattle.program.specs.laws.WordLaws.{AreDecided, GiveOneCommand, CompletesHelp, CompletesVersion, CompletesRefusals};
+ghost use Rattle.program.specs.worked.Headlines.{AcknowledgedTwice, BeforeTheOwnSet, GoesBack, LostInACrash, OfAnotherHistory, OfNoState, RefusedAndDone};
 ghost use Rattle.program.specs.laws.MemoryRuns.{LosesNoOctet, RunsAlike};
 
 use crate::command::command_of;
@@ -49,4 +50,17 @@ pub fn runs_in_memory_are_determined()
     ensures none_lost { LosesNoOctet }
     ensures same { WritesTheSame }
     ensures alike { RunsAlike }
+{}
+
+/// What the promise refuses, case by case: a reply of another history, a Get of the state before the session's own Set, one commit
+/// acknowledged for two Sets, a refused Set with a commit, a stream that tells of no state or goes back, and an acknowledged commit
+/// that a crash loses.
+pub fn wrong_answers_break_the_promise()
+    ensures another { OfAnotherHistory }
+    ensures early { BeforeTheOwnSet }
+    ensures twice { AcknowledgedTwice }
+    ensures refused { RefusedAndDone }
+    ensures no_state { OfNoState }
+    ensures back { GoesBack }
+    ensures lost { LostInACrash }
 {}

@@ -4,6 +4,7 @@ ghost use Rattle.program.specs.Commands.{octets_of_words};
 ghost use Rattle.program.specs.Environment.{seen_disk};
 ghost use Rattle.program.specs.Links.{seen_links};
 ghost use Rattle.program.specs.Run.{Run, Does, Refuses};
+ghost use Rattle.program.specs.headline.Headline.{Headline};
 
 use crate::arguments::ServeWords;
 use crate::check_command::check;
@@ -40,7 +41,8 @@ pub struct RunEnd<K: Kit> {
 }
 
 /// Does what the words say, over the objects of the host, and answers the status that the process is to end with.
-/// What that is, is said in specs/Run.antt, and in words in docs/THEOREM.md. What serves many connections starts a feeder in each by
+/// What that is for whoever uses it, is said in specs/headline/Headline.antt; what each command does, in specs/Run.antt; and both in
+/// words in docs/THEOREM.md. What serves many connections starts a feeder in each by
 /// a twin of `feeders`.
 pub fn run<R, K, S>(
     rt: &R,
@@ -57,7 +59,11 @@ where
     K::Clock: Send + 'static,
     K::Pacer: Send + 'static,
     S: Starter<KitFeeding<K, R>> + Send + Drop + 'static,
-    ensures { Run (octets_of_words words.now) host result.host
+    ensures headline { Headline (octets_of_words words.now) host result.host
+        (option_map (λ disk. seen_disk K.Files.Disk.told K.Files.Disk.faults disk) result.disk)
+        result.how (seen_links K.Door.Reader.seen K.Door.Writer.seen result.links.items)
+        result.status }
+    ensures run { Run (octets_of_words words.now) host result.host
         (option_map (λ disk. seen_disk K.Files.Disk.told K.Files.Disk.faults disk) result.disk)
         result.how (seen_links K.Door.Reader.seen K.Door.Writer.seen result.links.items)
         result.status }

@@ -1,0 +1,16 @@
+pub mod Prefixes
+pub mod Crashing
+pub mod Whole
+pub mod Marking
+pub mod Below
+pub mod Answered
+pub mod Calling
+pub mod Clocked
+pub mod Conversing
+pub mod Serving
+pub mod Numbered
+pub mod Named
+pub mod Streaming
+pub mod Scripting
+pub mod Running
+pub mod Refusing

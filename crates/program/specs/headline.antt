@@ -1,0 +1,8 @@
+pub mod Terms
+pub mod Marks
+pub mod Crashes
+pub mod Sessions
+pub mod Connections
+pub mod OneHistory
+pub mod OneScript
+pub mod Headline
