@@ -1,0 +1,17 @@
+//! Messages of real clients: grpcio 1.51.1, and nghttp 1.52.0.
+
+/// A Set of grpcio: a delete of `/lab`, and an update of the mtu of `eth0`.
+pub const SET_MTU_WITHOUT_LAB: &[u8] =
+    b"\x12\x07\x1a\x05\x0a\x03lab\"A\x0a:\x1a\x0c\x0a\x0ainterfaces\x1a\x19\x0a\x09interface\x12\x0c\x0a\x04name\x12\x04eth0\x1a\x08\x0a\x06config\x1a\x05\x0a\x03mtu\x1a\x03\x18\xdc\x0b";
+
+/// A Set of nghttp: that update alone.
+pub const SET_MTU: &[u8] =
+    b"\"A\x0a:\x1a\x0c\x0a\x0ainterfaces\x1a\x19\x0a\x09interface\x12\x0c\x0a\x04name\x12\x04eth0\x1a\x08\x0a\x06config\x1a\x05\x0a\x03mtu\x1a\x03\x18\xdc\x0b";
+
+/// A Set of grpcio: an update of the hostname.
+pub const SET_HOSTNAME: &[u8] =
+    b"\"'\x0a \x1a\x08\x0a\x06system\x1a\x08\x0a\x06config\x1a\x0a\x0a\x08hostname\x1a\x03\x0a\x010";
+
+/// A Get of grpcio: two paths in JSON_IETF, and a prefix with a target.
+pub const GET_TWO_PATHS: &[u8] =
+    b"\x0a\x04\"\x02r1\x12)\x1a\x0c\x0a\x0ainterfaces\x1a\x19\x0a\x09interface\x12\x0c\x0a\x04name\x12\x04eth0\x12\x0a\x1a\x08\x0a\x06system(\x04";

@@ -1,0 +1,3 @@
+mod Additions
+pub mod BookCrossing
+pub mod WireCrossing

@@ -1,0 +1,10 @@
+use denote.Param.Send.{sendable}
+use Rattle.std.proofs.Crossing.{crosses}
+use Rattle.test_lock.proofs.WireCrossing.{port_send}
+use Rattle.test_lock.proofs.wire_turns.said_by_two.Goals as goal
+
+pub join-reader-requires-send-F : goal.join-reader-requires-send-F
+join-reader-requires-send-F g c = let shared = c.type_bounds.sync-R in let port = port_send g.row.R c.type_bounds.send-R in search (sendable, crosses) depth 40 fits 10000
+
+pub join-reader-requires-send-A : goal.join-reader-requires-send-A
+join-reader-requires-send-A g c = let port = port_send g.row.R c.type_bounds.send-R in search (sendable, crosses) depth 40 fits 10000
