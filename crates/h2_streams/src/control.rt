@@ -16,7 +16,8 @@ use h2_frame::{ACK, FRAME_SIZE_ERROR, Head, PROTOCOL_ERROR};
 /// What a frame answers: the event that it gives, if any.
 pub type Answer = Result<Option<RecvEvent>, RecvFault>;
 
-pub(crate) fn has(flag: u8, flags: u8) -> bool
+/// Whether a flag is among the flags.
+pub fn has(flag: u8, flags: u8) -> bool
     ensures { result ≡ has flag flags }
 {
     flags & flag != 0

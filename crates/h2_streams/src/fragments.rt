@@ -26,7 +26,7 @@ impl Model for Fragments {
 
 impl Fragments {
     /// Takes no memory.
-    pub(crate) fn empty(alloc: Global) -> Fragments
+    pub fn empty(alloc: Global) -> Fragments
         ensures { result ≡ [] }
     {
         Fragments {
@@ -34,7 +34,7 @@ impl Fragments {
         }
     }
 
-    pub(crate) fn items(&self) -> &[u8]
+    pub fn items(&self) -> &[u8]
         ensures { result.now ≡ self.now }
     {
         self.stored.items()
@@ -48,14 +48,14 @@ impl Fragments {
     }
 
     /// Whether a fragment more is more than a block may have.
-    pub(crate) fn is_too_large_with(&self, fragment: &[u8]) -> bool
+    pub fn is_too_large_with(&self, fragment: &[u8]) -> bool
         ensures { result ≡ nat_lt largest_block (length self.now + length fragment.now) }
     {
         LARGEST_BLOCK - self.stored.len() < fragment.len()
     }
 
     /// Adds a fragment.
-    pub(crate) fn extend(&mut self, fragment: &[u8]) -> Result<(), NoMemory>
+    pub fn extend(&mut self, fragment: &[u8]) -> Result<(), NoMemory>
         requires { length self.old + length fragment.now ≤ largest_block }
         ensures { OnOk result (self.new ≡ self.old ++ fragment.now) }
     {

@@ -22,7 +22,8 @@ pub enum Kind {
     Unknown,
 }
 
-pub(crate) fn kind_of(number: u8) -> Kind
+/// The kind that has this number.
+pub fn kind_of(number: u8) -> Kind
     ensures { result ≡ kind_of number }
 {
     match number {

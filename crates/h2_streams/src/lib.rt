@@ -17,12 +17,16 @@ mod settings;
 mod streams;
 mod worked;
 
-pub use control::Answer;
+pub use control::{Answer, has};
 pub use fragments::Fragments;
+pub use kind::{Kind, kind_of};
 pub use laws::{
     calls_join, frames_decide, highest_of_events, one_outcome, others_stay, sound_events,
 };
+pub use numbers::{of_4, of_8};
+pub use payload::content;
 pub use peer::{HeaderBlock, Peer};
+pub use settings::{Settings, settings_in};
 pub use streams::{Stream, StreamState, Streams};
 pub use worked::{
     worked_control_frames, worked_data_frames, worked_first_frames, worked_header_frames,

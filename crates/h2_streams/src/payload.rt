@@ -19,8 +19,9 @@ fn between(skipped: usize, padding: u8, octets: &[u8]) -> Result<&[u8], u32>
     Ok(&behind[..room - usize::from(padding)])
 }
 
-/// The payload of DATA or HEADERS without its padding and its octets of priority.
-pub(crate) fn content(skipped: usize, flags: u8, payload: &[u8]) -> Result<&[u8], u32>
+/// The payload of DATA or HEADERS without its padding and `skipped` octets of priority (RFC 9113 sections 6.1 and 6.2). An
+/// `Err` has the code of a connection error.
+pub fn content(skipped: usize, flags: u8, payload: &[u8]) -> Result<&[u8], u32>
     ensures ok { IfOk result (λ inside. content skipped flags payload.now ≡ Ok inside.now) }
     ensures err { IfErr result (λ code. content skipped flags payload.now ≡ Err code) }
 {

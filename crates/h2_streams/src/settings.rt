@@ -37,8 +37,9 @@ fn with_setting(name: u32, value: u32, told: Settings) -> Result<Settings, u32>
     }
 }
 
-/// The settings of a frame's payload, taken in their order.
-pub(crate) fn settings_in(payload: &[u8], window: u32) -> Result<Settings, u32>
+/// The settings of a frame's payload, taken in their order, where the initial window was `window` octets before (RFC 9113
+/// section 6.5.2). An `Err` has the code of a connection error.
+pub fn settings_in(payload: &[u8], window: u32) -> Result<Settings, u32>
     ensures { result ≡ with_settings payload.now (record { window = window; table = false }) }
 {
     let mut told = Settings {
