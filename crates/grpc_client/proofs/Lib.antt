@@ -1,0 +1,6 @@
+pub mod Breaking
+pub mod Calling
+pub mod Heads
+pub mod Joining
+pub mod Opening
+pub mod Steps

@@ -1,0 +1,9 @@
+pub mod Faults
+pub mod Responses
+pub mod Replies
+pub mod Connections
+pub mod Frames
+pub mod Exchanges
+pub mod Requests
+pub mod Asked
+pub mod inner
