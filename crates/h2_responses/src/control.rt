@@ -7,9 +7,9 @@ ghost use Rattle.h2_responses.specs.Meanings.{priority_means, rst_stream_means, 
 
 use crate::event::ServerEvent;
 use crate::server::{ResponseState, Server};
-use h2_streams::{has, of_4, of_8, settings_in};
 use h2_events::RecvFault;
 use h2_frame::{ACK, FRAME_SIZE_ERROR, Head, PROTOCOL_ERROR};
+use h2_streams::{has, of_4, of_8, settings_in};
 
 /// What a frame answers: the event that it gives, if any.
 pub type Answer = Result<Option<ServerEvent>, RecvFault>;

@@ -9,9 +9,9 @@ use crate::control::Answer;
 use crate::event::ServerEvent;
 use crate::server::{ResponseState, Server};
 use base_lists::Bytes;
-use h2_streams::{content, has};
 use h2_events::RecvFault;
 use h2_frame::{END_STREAM, Head, PROTOCOL_ERROR};
+use h2_streams::{content, has};
 use std::alloc::Global;
 
 impl Server {

@@ -6,9 +6,9 @@ ghost use Rattle.h2_responses.specs.Meanings.{FrameAnswered, IsFault, kind_means
 
 use crate::control::Answer;
 use crate::server::Server;
-use h2_streams::{Kind, has, kind_of};
 use h2_events::RecvFault;
 use h2_frame::{ACK, CONTINUATION, Head, PROTOCOL_ERROR, SETTINGS};
+use h2_streams::{Kind, has, kind_of};
 use std::alloc::Global;
 
 impl Server {

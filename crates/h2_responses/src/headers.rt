@@ -8,12 +8,12 @@ ghost use Rattle.h2_responses.specs.Meanings.{FrameAnswered, block_ends, block_o
 use crate::control::Answer;
 use crate::event::ServerEvent;
 use crate::server::{ResponseState, Server};
-use h2_streams::{Fragments, HeaderBlock, content, has};
 use h2_events::RecvFault;
 use h2_frame::{
     COMPRESSION_ERROR, END_HEADERS, END_STREAM, ENHANCE_YOUR_CALM, Head, PRIORITY_FLAG,
     PROTOCOL_ERROR,
 };
+use h2_streams::{Fragments, HeaderBlock, content, has};
 use hpack_block::{BlockFault, Headers};
 use std::alloc::Global;
 
