@@ -4,7 +4,7 @@ use Rattle.std.proofs.lemmas.List.{map-append}
 use Rattle.std.specs.List.{AllByRecursion}
 use Rattle.environment.specs.Input.{Input}
 use Rattle.environment.specs.Output.{Output}
-use Rattle.environment.specs.Doors.{DoorView, IsFresh, LeavesBehind}
+use Rattle.listening.specs.Doors.{DoorView, IsFresh, LeavesBehind}
 use Rattle.book_port.specs.Ports.{PortView}
 use Rattle.connection_server.specs.declared.job.LinkJob.{LinkJob}
 use Rattle.connection_server.specs.declared.link.Link.{Link}

@@ -4,7 +4,7 @@ use Rattle.std.specs.List.{AllByRecursion}
 use Rattle.environment.specs.Faults.{Rose}
 use Rattle.environment.specs.Input.{Input}
 use Rattle.environment.specs.Output.{Output}
-use Rattle.environment.specs.Doors.{DoorView, IsFresh, IsAtEnd}
+use Rattle.listening.specs.Doors.{DoorView, IsFresh, IsAtEnd}
 use Rattle.book_port.specs.Ports.{PortView}
 use Rattle.connection_server.specs.declared.accepting.Ending.{Ending}
 use Rattle.connection_server.specs.declared.accepting.Ending.TheVariants as ending

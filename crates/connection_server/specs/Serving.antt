@@ -2,7 +2,7 @@
 use Rattle.std.specs.Prelude.{◌≡◌, ℕ, List, ◌++◌, length, map}
 use Rattle.environment.specs.Input.{Input}
 use Rattle.environment.specs.Output.{Output}
-use Rattle.environment.specs.Doors.{DoorView}
+use Rattle.listening.specs.Doors.{DoorView}
 use Rattle.book_port.specs.Ports.{PortView, knows_all}
 use Rattle.connection_server.specs.declared.accepting.Ending.{Ending}
 use Rattle.connection_server.specs.declared.accepting.Ending.TheVariants as ending

@@ -3,7 +3,7 @@
 use Rattle.std.specs.Prelude.{◌≡◌, ℕ, ◌+◌, List, [], ◌∷◌, ◌++◌, Option, Result, Ok, Err}
 use Rattle.environment.specs.Input.{Input}
 use Rattle.environment.specs.Output.{Output}
-use Rattle.environment.specs.Doors.{IsFresh, LeavesBehind}
+use Rattle.listening.specs.Doors.{IsFresh, LeavesBehind}
 
 pub record DialView (I O : Type 0) : Type 0 where
   pub given : List (I × O)

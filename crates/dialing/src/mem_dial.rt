@@ -1,12 +1,13 @@
 ghost use Rattle.std.specs.Prelude.{◌≡◌, [], Some, IsErr, ◌↔◌};
 ghost use Rattle.std.specs.List.{AllByRecursion};
 ghost use Rattle.environment.specs.Memory.{input_of};
-ghost use Rattle.environment.specs.Doors.{IsFresh};
+ghost use Rattle.listening.specs.Doors.{IsFresh};
 ghost use Rattle.dialing.specs.Dialing.{DialGives};
 
 use crate::dial::Dial;
 use base_lists::{Remembered, Tally};
-use environment::{Failed, Links, MemSink, MemSource};
+use environment::{Failed, MemSink, MemSource};
+use listening::Links;
 use std::marker::Model;
 
 /// A dial that gives listed connections, whatever the address, and fails where none is left.
@@ -22,7 +23,7 @@ impl Model for MemDial {
     ghost use Rattle.std.specs.Prelude.{Some};
     ghost use Rattle.std.specs.List.{AllByRecursion};
     ghost use Rattle.environment.specs.Memory.{SinkState, SourceState, input_of};
-    ghost use Rattle.environment.specs.Doors.{IsFresh};
+    ghost use Rattle.listening.specs.Doors.{IsFresh};
     ghost use Rattle.dialing.specs.Dialing.{DialView};
 
     ghost Value = { DialView SourceState SinkState };

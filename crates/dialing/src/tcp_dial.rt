@@ -1,5 +1,5 @@
 ghost use Rattle.std.specs.Prelude.{◌≡◌, [], None, IfOk};
-ghost use Rattle.environment.specs.Doors.{IsFresh};
+ghost use Rattle.listening.specs.Doors.{IsFresh};
 
 use crate::dial::Dial;
 use base_lists::{Remembered, Tally};

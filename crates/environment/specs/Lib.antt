@@ -3,6 +3,5 @@ pub mod Input
 pub mod Memory
 pub mod Output
 pub mod Clocks
-pub mod Doors
 pub mod Outcomes
 pub mod Starters

@@ -1,16 +1,14 @@
-//! The environment of the program as traits: octets, time, threads and connections. Contracts see of each object what it
-//! gave or took so far, and how often it failed.
+//! The environment of the program as traits: octets, time and threads. Contracts see of each object what it gave or took so
+//! far, and how often it failed.
 //!
 //! A `Source` gives octets and a `Sink` takes them (specs/Input.antt, specs/Output.antt: start there); `read_to_limit` and
 //! `write_whole` are what every user of them needs. A `Clock` gives readings (specs/Clocks.antt), a `Pacer` only waits. A
-//! `Starter` starts a `Job` in a thread of its own (specs/Starters.antt), and a `Door` gives connections (specs/Doors.antt).
-//! `MemSource`, `MemSink`, `StepClock`, `IdlePacer`, `MemStarter` and `MemDoor` are such objects in memory.
+//! `Starter` starts a `Job` in a thread of its own (specs/Starters.antt). `MemSource`, `MemSink`, `StepClock`, `IdlePacer` and
+//! `MemStarter` are such objects in memory. Connections come in by a `Door` of `listening`, and go out by a `Dial` of `dialing`.
 #![tactic(auto)]
 
 mod clock;
-mod door;
 mod job;
-mod mem_door;
 mod mem_sink;
 mod mem_source;
 mod numbers;
@@ -24,9 +22,7 @@ mod streams;
 mod writing;
 
 pub use clock::Clock;
-pub use door::{Door, Next};
 pub use job::Job;
-pub use mem_door::{Links, MemDoor};
 pub use mem_sink::MemSink;
 pub use mem_source::MemSource;
 pub use pacer::{IdlePacer, Pacer};

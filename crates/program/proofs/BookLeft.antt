@@ -7,7 +7,7 @@ use Rattle.base_kinds.specs.declared.entry.Entry.{Entry}
 use Rattle.base_kinds.specs.Schema.{SchemaNode}
 use Rattle.environment.specs.Input.{Input}
 use Rattle.environment.specs.Output.{Output}
-use Rattle.environment.specs.Doors.{DoorView}
+use Rattle.listening.specs.Doors.{DoorView}
 use Rattle.disk_model.specs.Calls.{Fuse}
 use Rattle.disk_model.specs.Content.{Content, WhereTold}
 use Rattle.disk_model.specs.Moments.{LeavesNow}

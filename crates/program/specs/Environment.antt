@@ -8,7 +8,7 @@ use Rattle.environment.specs.declared.streams.Failed.{Failed}
 use Rattle.environment.specs.declared.reading.ReadFault.{ReadFault}
 use Rattle.environment.specs.declared.reading.ReadFault.TheVariants as reads
 use Rattle.disk_model.specs.Content.{Content, Tells}
-use Rattle.environment.specs.Doors.{DoorView}
+use Rattle.listening.specs.Doors.{DoorView}
 use Rattle.disk_model.specs.Images.{mask_after_sync}
 use Rattle.program.specs.declared.files.DiskFile.{DiskFile}
 use Rattle.program.specs.declared.files_record.NamedText.{NamedText}

@@ -5,7 +5,7 @@ use crate::files::Files;
 use crate::host::{Host, Kit};
 use crate::journal_file::DiskEnd;
 use connection_server::LinkEnd;
-use environment::Door;
+use listening::Door;
 use session_core::How;
 use std::alloc::Global;
 

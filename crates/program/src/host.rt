@@ -1,6 +1,7 @@
 use crate::files::Files;
-use environment::{Clock, Door, Pacer, Sink, Source};
+use environment::{Clock, Pacer, Sink, Source};
 use gnmi_server::Feeding;
+use listening::Door;
 use plain_tree::PlainTree;
 use shared_book::Visit;
 use std::marker::Model;

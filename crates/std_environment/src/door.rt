@@ -1,11 +1,12 @@
 //! TCP connections.
 ghost use Rattle.std.specs.Prelude.{◌≡◌, [], None, IfOk};
-ghost use Rattle.environment.specs.Doors.{IsFresh};
+ghost use Rattle.listening.specs.Doors.{IsFresh};
 
 use crate::bell::{Bell, TcpSource};
 use crate::streams::StreamSink;
 use base_lists::{Remembered, Tally};
-use environment::{Door, Failed, Next};
+use environment::Failed;
+use listening::{Door, Next};
 use std::io::{self, ErrorKind};
 use std::marker::Model;
 use std::net::{SocketAddr, TcpListener, TcpStream};
@@ -28,7 +29,7 @@ impl<R> Model for TcpDoor<R> {
     ghost use Rattle.std.specs.Prelude.{None};
     ghost use Rattle.environment.specs.Input.{Input};
     ghost use Rattle.environment.specs.Output.{Output};
-    ghost use Rattle.environment.specs.Doors.{DoorView};
+    ghost use Rattle.listening.specs.Doors.{DoorView};
 
     ghost Value = { DoorView Input Output };
 

@@ -1,5 +1,6 @@
 //! TCP connections on loopback.
-use environment::{Door, Job, Next, Running, Source, read_to_limit, write_whole};
+use environment::{Job, Running, Source, read_to_limit, write_whole};
+use listening::{Door, Next};
 use std::alloc::Global;
 use std::net::{Shutdown, SocketAddr, TcpStream};
 use std::sync::Wait;

@@ -1,10 +1,11 @@
 //! Connections in memory.
 ghost use Rattle.std.specs.Prelude.{IfSome};
 ghost use Rattle.environment.specs.Memory.{input_of};
-ghost use Rattle.environment.specs.Doors.{IsFresh};
+ghost use Rattle.listening.specs.Doors.{IsFresh};
 
 use base_lists::{Bytes, Texts};
-use environment::{Door, MemDoor, MemSink, MemSource, Next, Source};
+use environment::{MemSink, MemSource, Source};
+use listening::{Door, MemDoor, Next};
 use std::alloc::Global;
 use std::collections::VecDeque;
 

@@ -4,7 +4,8 @@ ghost use Rattle.environment.specs.Memory.{input_of};
 
 use crate::shared::Counter;
 use base_lists::{NoMemory, Remembered};
-use environment::{Door, Failed, MemSink, MemSource, Next, Sink, Source};
+use environment::{Failed, MemSink, MemSource, Sink, Source};
+use listening::{Door, Next};
 use std::alloc::Global;
 use std::collections::VecDeque;
 use std::marker::Model;
@@ -146,7 +147,7 @@ impl Model for TestDoor {
     ghost use Rattle.std.specs.Prelude.{Some};
     ghost use Rattle.std.specs.List.{AllByRecursion};
     ghost use Rattle.environment.specs.Memory.{input_of};
-    ghost use Rattle.environment.specs.Doors.{DoorView, IsFresh};
+    ghost use Rattle.listening.specs.Doors.{DoorView, IsFresh};
     ghost use Rattle.test_server.specs.declared.server_edges.HeldSource.{HeldSource};
     ghost use Rattle.test_server.specs.declared.server_edges.CountingSink.{CountingSink};
 

@@ -11,7 +11,7 @@ use Rattle.environment.specs.Output.{Output}
 use Rattle.book_port.specs.Opened.{Opened, IsRun, rules_in}
 use Rattle.book_port.specs.Ports.{PortView, IsTwin}
 use Rattle.session_core.specs.declared.how.How.{How}
-use Rattle.environment.specs.Doors.{DoorView}
+use Rattle.listening.specs.Doors.{DoorView}
 use Rattle.connection_server.specs.declared.accepting.Ending.{Ending}
 use Rattle.connection_server.specs.declared.link.LinkEnd.{LinkEnd}
 use Rattle.connection_server.specs.Joining.{authors_of}

@@ -5,7 +5,7 @@ use Rattle.base_kinds.specs.declared.entry.Entry.{Entry}
 use Rattle.disk_model.specs.Content.{Content, Tells}
 use Rattle.environment.specs.Input.{Input}
 use Rattle.environment.specs.Output.{Output}
-use Rattle.environment.specs.Doors.{DoorView}
+use Rattle.listening.specs.Doors.{DoorView}
 use Rattle.book_port.specs.Follows.{FollowsAlone}
 use Rattle.book_port.specs.Opened.{Opened, IsRun, rules_in}
 use Rattle.session_core.specs.declared.how.How.{How}

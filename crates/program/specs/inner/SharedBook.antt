@@ -2,7 +2,7 @@
 use Rattle.std.specs.Prelude.{◌≡◌, ◌⊎◌, ℕ, List, [], length, false, None}
 use Rattle.environment.specs.Input.{Input}
 use Rattle.environment.specs.Output.{Output}
-use Rattle.environment.specs.Doors.{DoorView}
+use Rattle.listening.specs.Doors.{DoorView}
 use Rattle.book_port.specs.Ports.{PortView}
 use Rattle.book_core.specs.Views.{BookView, history_in}
 use Rattle.session_core.specs.declared.how.How.{How}

@@ -1,7 +1,7 @@
 use Rattle.std.proofs.Common.{ℕ, [], List, refl, ap}
 use Rattle.base_kinds.specs.Schema.{SchemaNode}
 use Rattle.environment.specs.Output.{Output}
-use Rattle.environment.specs.Doors.{DoorView}
+use Rattle.listening.specs.Doors.{DoorView}
 use Rattle.environment.specs.Input.{Input}
 use Rattle.program.specs.Environment.{Environment, SeenDisk, seen_disk, seen_door}
 use Rattle.program.specs.Links.{SeenLinks, seen_links}

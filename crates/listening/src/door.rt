@@ -1,6 +1,6 @@
-ghost use Rattle.environment.specs.Doors.{DoorView, Listens, NextGives};
+ghost use Rattle.listening.specs.Doors.{DoorView, Listens, NextGives};
 
-use crate::{Failed, Sink, Source};
+use environment::{Failed, Sink, Source};
 
 /// What comes next at a door.
 #[derive(Drop)]

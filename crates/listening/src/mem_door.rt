@@ -1,11 +1,11 @@
 ghost use Rattle.std.specs.Prelude.{◌≡◌, [], Some};
 ghost use Rattle.std.specs.List.{AllByRecursion};
 ghost use Rattle.environment.specs.Memory.{input_of};
-ghost use Rattle.environment.specs.Doors.{IsFresh, Listens, NextGives};
+ghost use Rattle.listening.specs.Doors.{IsFresh, Listens, NextGives};
 
 use crate::door::{Door, Next};
-use crate::{Failed, MemSink, MemSource};
 use base_lists::Remembered;
+use environment::{Failed, MemSink, MemSource};
 use std::collections::VecDeque;
 use std::marker::Model;
 
@@ -23,7 +23,7 @@ impl Model for MemDoor {
     ghost use Rattle.std.specs.Prelude.{Some};
     ghost use Rattle.std.specs.List.{AllByRecursion};
     ghost use Rattle.environment.specs.Memory.{SinkState, SourceState, input_of};
-    ghost use Rattle.environment.specs.Doors.{DoorView, IsFresh};
+    ghost use Rattle.listening.specs.Doors.{DoorView, IsFresh};
 
     ghost Value = { DoorView SourceState SinkState };
 

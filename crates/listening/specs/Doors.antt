@@ -4,8 +4,8 @@ use Rattle.std.specs.Prelude.{◌≡◌, ℕ, List, [], ◌∷◌, ◌++◌, Opt
 use Rattle.environment.specs.Faults.{Rose, HasCause}
 use Rattle.environment.specs.Input.{Input}
 use Rattle.environment.specs.Output.{Output}
-use Rattle.environment.specs.declared.door.Next.{Next}
-use Rattle.environment.specs.declared.door.Next.TheVariants as next
+use Rattle.listening.specs.declared.door.Next.{Next}
+use Rattle.listening.specs.declared.door.Next.TheVariants as next
 
 pub record DoorView (I O : Type 0) : Type 0 where
   pub given : List (I × O)
