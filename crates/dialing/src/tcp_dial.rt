@@ -7,14 +7,14 @@ use environment::Failed;
 use std::io;
 use std::marker::Model;
 use std::net::TcpStream;
-use std_environment::{StreamSink, StreamSource, TcpSink};
+use std_environment::{StreamSink, StreamSource};
 
 /// A dial over TCP. Which connections will come it can't tell.
 #[derive(Drop)]
 pub struct TcpDial {
     rt: HostRuntime,
-    given: Remembered<(StreamSource<TcpStream>, TcpSink)>,
-    ended: Remembered<(StreamSource<TcpStream>, TcpSink)>,
+    given: Remembered<(StreamSource<TcpStream>, StreamSink<TcpStream>)>,
+    ended: Remembered<(StreamSource<TcpStream>, StreamSink<TcpStream>)>,
     faults: Tally,
 }
 
@@ -46,12 +46,15 @@ impl TcpDial {
 impl Dial for TcpDial {
     type Reader = StreamSource<TcpStream>;
 
-    type Writer = TcpSink;
+    type Writer = StreamSink<TcpStream>;
 
     ghost seen = { λ d. d };
 
     /// Each piece goes out at once, without waiting for more (TCP_NODELAY).
-    fn dial(&mut self, address: &str) -> Result<(StreamSource<TcpStream>, TcpSink), Failed> {
+    fn dial(
+        &mut self,
+        address: &str,
+    ) -> Result<(StreamSource<TcpStream>, StreamSink<TcpStream>), Failed> {
         match link_to(&self.rt, address) {
             Ok(link) => {
                 self.given.remember(&link);
@@ -65,13 +68,16 @@ impl Dial for TcpDial {
     }
 
     /// The connection is closed once both of its halves are gone.
-    fn end(&mut self, reader: StreamSource<TcpStream>, writer: TcpSink) {
+    fn end(&mut self, reader: StreamSource<TcpStream>, writer: StreamSink<TcpStream>) {
         self.ended.remember(&(reader, writer));
     }
 }
 
 /// The two halves of a new connection.
-fn link_to(rt: &HostRuntime, address: &str) -> io::Result<(StreamSource<TcpStream>, TcpSink)>
+fn link_to(
+    rt: &HostRuntime,
+    address: &str,
+) -> io::Result<(StreamSource<TcpStream>, StreamSink<TcpStream>)>
     ensures { IfOk result (λ link. IsFresh (λ s. s) (λ s. s) link) }
 {
     let stream = TcpStream::connect(rt, address)?;

@@ -9,8 +9,8 @@ use Rattle.shared_book.specs.contracts.visit.Visit as Visit
 use Rattle.shared_book.proofs.Crossing.{visit_send}
 use Rattle.shared_book.proofs.Sending.{remembered_send}
 use Rattle.program.proofs.Crossing.{tree_send}
-use Rattle.gnmid.specs.contracts.disks.FileDisk as FileDisk
-use Rattle.gnmid.specs.contracts.disks.FileDiskDisk.TheImpl as disks
+use Rattle.gnmid.specs.contracts.disks_trusted.FileDisk as FileDisk
+use Rattle.gnmid.specs.contracts.disks_trusted.FileDiskDisk.TheImpl as disks
 
 tally_send : IsSend (Tally.the_field).row
 tally_send = search (sendable, crosses, remembered_send) depth 40

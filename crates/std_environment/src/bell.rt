@@ -1,13 +1,7 @@
 //! A bell, which wakes those who wait until something may have happened. Contracts see nothing of it.
-ghost use Rattle.std.specs.Prelude.{◌≡◌, ◌≤◌, [], length, IfOk};
-ghost use Rattle.environment.specs.Input.{unread_input};
-
-use crate::streams::StreamSource;
 use base_lists::NoMemory;
-use environment::{Failed, Pacer, Source};
+use environment::Pacer;
 use std::alloc::Global;
-use std::marker::Model;
-use std::net::TcpStream;
 use std::sync::{Arc, Condvar, Mutex, Wait};
 use std::thread;
 use std::time::{Clock, Duration};
@@ -55,43 +49,6 @@ impl<R: Wait + Clone> Bell<R> {
         let mut count = self.rings.count.lock(&self.rt);
         *count = count.wrapping_add(1);
         self.rings.rung.notify_all();
-    }
-}
-
-/// Where the octets of a TCP connection come in. It rings before each read, since whoever reads on has done then what it had to do
-/// with what it read before.
-#[derive(Drop)]
-pub struct TcpSource<R> {
-    bell: Bell<R>,
-    stream: StreamSource<TcpStream>,
-}
-
-impl<R> Model for TcpSource<R> {
-    ghost use Rattle.environment.specs.Input.{Input};
-
-    ghost Value = { Input };
-
-    ghost view = { λ s. s.stream };
-}
-
-impl<R> TcpSource<R> {
-    /// Nothing was read from it as yet.
-    pub(crate) fn of(bell: Bell<R>, stream: TcpStream) -> TcpSource<R>
-        ensures { result ≡ unread_input }
-    {
-        TcpSource {
-            bell,
-            stream: StreamSource::of(stream),
-        }
-    }
-}
-
-impl<R: Wait + Clone + Drop> Source for TcpSource<R> {
-    ghost seen = { λ s. s };
-
-    fn read(&mut self, buffer: &mut [u8]) -> Result<usize, Failed> {
-        self.bell.ring();
-        self.stream.read(buffer)
     }
 }
 

@@ -1,11 +1,14 @@
 //! TCP connections on loopback.
-use environment::{Job, Running, Source, read_to_limit, write_whole};
+use environment::{Failed, Job, Running, Source, read_to_limit, write_whole};
 use listening::{Door, Next};
 use std::alloc::Global;
+use std::io::Write;
 use std::net::{Shutdown, SocketAddr, TcpStream};
 use std::sync::Wait;
 use std::thread::Threads;
-use std_environment::{Bell, StreamSink, StreamSource, TcpDoor, TcpSink, TcpSource, ThreadStarter};
+use std_environment::{
+    AcceptFault, Bell, StreamSink, StreamSource, TcpDoor, TcpSink, TcpSource, ThreadStarter,
+};
 
 /// Sends back what comes on a connection, until its peer has sent all.
 #[derive(Drop)]
@@ -47,7 +50,7 @@ fn sends_back<R: Wait + Clone + Drop>(reader: &mut TcpSource<R>, writer: &mut Tc
 /// A door that isn't open yet.
 fn closed_door<R: Wait + Copy + Drop>(rt: &R, host: &HostRuntime) -> Option<TcpDoor<R>> {
     let bell = Bell::make(*rt, host.alloc()).ok()?;
-    Some(TcpDoor::of(host, bell))
+    Some(TcpDoor::of(host, bell, false))
 }
 
 /// A door that is open on loopback, at a port that the system chose.
@@ -257,4 +260,118 @@ fn address_is_free<R: Wait + Copy + Drop>(rt: &R, host: &HostRuntime) -> bool {
 #[test]
 fn an_address_is_free_once_its_door_is_gone(rt: HostRuntime) {
     assert!(rt; address_is_free(&rt, &rt));
+}
+
+/// A client, and this side of its connection.
+#[derive(Drop)]
+struct Pair<R> {
+    client: TcpStream,
+    reader: TcpSource<R>,
+    writer: TcpSink,
+}
+
+fn pair_at<R: Wait + Clone + Drop>(host: &HostRuntime, door: &mut TcpDoor<R>) -> Option<Pair<R>> {
+    let client = TcpStream::connect(host, door.address()?).ok()?;
+    match next_link(door) {
+        Some((reader, writer)) => Some(Pair {
+            client,
+            reader,
+            writer,
+        }),
+        None => None,
+    }
+}
+
+fn new_pair<R: Wait + Copy + Drop>(rt: &R, host: &HostRuntime) -> Option<Pair<R>> {
+    let mut door = open_door(rt, host)?;
+    pair_at(host, &mut door)
+}
+
+/// Sends octets that nobody reads, says `last`, and ends this side. Answers the client.
+fn client_left<R: Wait + Clone + Drop>(pair: Pair<R>) -> Option<TcpStream> {
+    let Pair {
+        mut client,
+        reader,
+        mut writer,
+    } = pair;
+    let unread = client.write(&[0; 5000]).is_ok();
+    let said = write_whole(&mut writer, b"last").is_ok();
+    drop(reader);
+    drop(writer);
+    if unread && said { Some(client) } else { None }
+}
+
+fn last_word_is_read<R: Wait + Copy + Drop>(rt: &R, host: &HostRuntime) -> bool {
+    match new_pair(rt, host) {
+        Some(pair) => match client_left(pair) {
+            Some(client) => reads(host.alloc(), client, b"last"),
+            None => false,
+        },
+        None => false,
+    }
+}
+
+#[test]
+fn a_client_whose_octets_are_left_unread_reads_what_was_written(rt: HostRuntime) {
+    assert!(rt; last_word_is_read(&rt, &rt));
+}
+
+/// Whether nothing comes on a connection, and that is a fault.
+fn is_given_up<R: Wait + Clone + Drop>(reader: &mut TcpSource<R>) -> bool {
+    reader.read(&mut [0; 100]) == Err(Failed)
+}
+
+/// Whether this side reads so many octets at once.
+fn gives<R: Wait + Clone + Drop>(reader: &mut TcpSource<R>, count: usize) -> bool {
+    reader.read(&mut [0; 100]) == Ok(count)
+}
+
+/// Whether a client that doesn't say anything is given up, and one is kept that has sent its preface and says nothing meanwhile.
+fn quiet_is_kept<R: Wait + Clone + Drop>(mute: &mut Pair<R>, quiet: &mut Pair<R>) -> bool {
+    quiet.client.write(&[0; 24]).is_ok()
+        && gives(&mut quiet.reader, 24)
+        && is_given_up(&mut mute.reader)
+        && quiet.client.write(&[0; 3]).is_ok()
+        && gives(&mut quiet.reader, 3)
+}
+
+fn mute_is_given_up<R: Wait + Copy + Drop>(rt: &R, host: &HostRuntime) -> bool {
+    match new_pair(rt, host) {
+        Some(mut quiet) => match new_pair(rt, host) {
+            Some(mut mute) => quiet_is_kept(&mut mute, &mut quiet),
+            None => false,
+        },
+        None => false,
+    }
+}
+
+#[test]
+fn a_client_without_a_preface_is_given_up_and_a_quiet_one_is_not(rt: HostRuntime) {
+    assert!(rt; mute_is_given_up(&rt, &rt));
+}
+
+/// Numbers of faults of `accept` on Linux, and whose each is.
+const ACCEPT_FAULTS: &[(Option<i32>, AcceptFault)] = &[
+    (Some(1), AcceptFault::Connection),
+    (Some(4), AcceptFault::Connection),
+    (Some(71), AcceptFault::Connection),
+    (Some(100), AcceptFault::Connection),
+    (Some(103), AcceptFault::Connection),
+    (Some(113), AcceptFault::Connection),
+    (Some(12), AcceptFault::Moment),
+    (Some(23), AcceptFault::Moment),
+    (Some(24), AcceptFault::Moment),
+    (Some(105), AcceptFault::Moment),
+    (Some(9), AcceptFault::Listener),
+    (Some(22), AcceptFault::Listener),
+    (Some(88), AcceptFault::Listener),
+    (Some(95), AcceptFault::Listener),
+    (None, AcceptFault::Moment),
+];
+
+#[test]
+fn only_a_fault_of_the_listener_ends_accepting(rt: HostRuntime) {
+    for (number, whose) in ACCEPT_FAULTS {
+        assert!(rt; AcceptFault::of(*number) == *whose, "{number:?}");
+    }
 }

@@ -1,12 +1,13 @@
 ghost use Rattle.std.specs.Prelude.{None};
 
-use crate::disks::FileDisk;
+use crate::disks_trusted::FileDisk;
 use base_lists::Bytes;
 use environment::{Failed, ReadFault};
 use program::{Files, FilesRecord};
 use std::alloc::Global;
 use std::fs;
-use std::io::ErrorKind;
+use std::io::{self, ErrorKind};
+use std_environment::say_fault;
 
 /// The files of the process, by their paths. What they were asked for and have given is recorded; which texts and disks there
 /// are they can't tell.
@@ -22,6 +23,10 @@ impl ProcessFiles {
             rt: *rt,
             past: FilesRecord::unread(),
         }
+    }
+
+    fn say(&self, name: &str, error: &io::Error) {
+        say_fault(&self.rt, "cannot open", name, error);
     }
 }
 
@@ -43,6 +48,7 @@ impl Files for ProcessFiles {
                 if error.kind() == ErrorKind::OutOfMemory {
                     return Err(ReadFault::NoMemory);
                 }
+                self.say(name, &error);
                 self.past.failed();
                 Err(ReadFault::Failed)
             }
@@ -53,7 +59,8 @@ impl Files for ProcessFiles {
         self.past.asked_for_disk(name);
         match FileDisk::open(&self.rt, name) {
             Ok(disk) => Ok(disk),
-            Err(_) => {
+            Err(error) => {
+                self.say(name, &error);
                 self.past.gave_no_disk();
                 Err(Failed)
             }
@@ -64,7 +71,8 @@ impl Files for ProcessFiles {
         self.past.asked_for_new_disk(name);
         match FileDisk::open_or_make(&self.rt, name) {
             Ok(disk) => Ok(disk),
-            Err(_) => {
+            Err(error) => {
+                self.say(name, &error);
                 self.past.gave_no_disk();
                 Err(Failed)
             }

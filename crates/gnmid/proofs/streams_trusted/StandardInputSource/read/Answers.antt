@@ -1,7 +1,7 @@
 use Rattle.std.proofs.Common.{None, length, ◌≤◌, sym, subst, rules}
 use Rattle.environment.specs.Input.{Input, ReadsFront}
 use Rattle.gnmid.proofs.Records.{ReadsFront-recorded}
-use Rattle.gnmid.proofs.streams.StandardInputSource.read.Goals as goal
+use Rattle.gnmid.proofs.streams_trusted.StandardInputSource.read.Goals as goal
 
 pub returns-in-Ok : goal.returns-in-Ok
 returns-in-Ok c =

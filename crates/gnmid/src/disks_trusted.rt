@@ -3,7 +3,7 @@ ghost use Rattle.std.specs.Prelude.{◌≡◌, ◌≤◌, None, false, length, I
 use base_lists::Tally;
 use disk_model::Disk;
 use environment::Failed;
-use std::fs::{File, OpenOptions};
+use std::fs::{File, OpenOptions, TryLockError};
 use std::io::{self, ErrorKind};
 use std::os::unix::fs::{FileExt, OpenOptionsExt};
 
@@ -50,7 +50,10 @@ fn locked(file: File) -> io::Result<FileDisk>
             file,
             faults: Tally::zero(),
         }),
-        Err(_) => Err(io::Error::from(ErrorKind::WouldBlock)),
+        Err(TryLockError::WouldBlock) => {
+            Err(io::Error::new(ErrorKind::WouldBlock, "journal in use"))
+        }
+        Err(TryLockError::Error(error)) => Err(error),
     }
 }
 
