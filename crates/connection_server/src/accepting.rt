@@ -138,7 +138,7 @@ where
     Ending::All
 }
 
-/// Opens the door, and accepts a connection for each of these ports.
+/// Opens the door, accepts a connection for each of these ports, and closes it, so that who dials then is refused.
 pub(crate) fn open<R, P, S, D, M>(
     alloc: Global,
     address: &str,
@@ -170,5 +170,7 @@ where
     let Ok(()) = door.listen(address) else {
         return Ending::DoorFault;
     };
-    accept(alloc, sessions, starter, door, twins, running, count)
+    let ending = accept(alloc, sessions, starter, door, twins, running, count);
+    door.close();
+    ending
 }

@@ -1,3 +1,4 @@
+ghost use Rattle.std.specs.Prelude.{◌≡◌};
 ghost use Rattle.listening.specs.Doors.{DoorView, Listens, NextGives};
 
 use environment::{Failed, Sink, Source};
@@ -29,4 +30,8 @@ pub trait Door {
     fn next(&mut self) -> Next<Self::Reader, Self::Writer>
         ensures { NextGives Self.Reader.seen Self.Writer.seen result (seen self.old)
             (seen self.new) };
+
+    /// No connection comes in any more: who dials is refused. Those that it gave stay as they are.
+    fn close(&mut self)
+        ensures { seen self.new ≡ seen self.old };
 }

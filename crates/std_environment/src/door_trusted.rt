@@ -173,4 +173,9 @@ impl<R: Wait + Clone + Drop> Door for TcpDoor<R> {
             }
         }
     }
+
+    /// The system refuses, by a reset, also those that have dialled and weren't accepted yet.
+    fn close(&mut self) {
+        self.listener = None;
+    }
 }

@@ -262,6 +262,29 @@ fn an_address_is_free_once_its_door_is_gone(rt: HostRuntime) {
     assert!(rt; address_is_free(&rt, &rt));
 }
 
+/// Whether who dials a door that was closed is refused.
+fn refuses_once_closed<R: Wait + Clone + Drop>(host: &HostRuntime, door: &mut TcpDoor<R>) -> bool {
+    match door.address() {
+        Some(address) => {
+            door.close();
+            TcpStream::connect(host, address).is_err()
+        }
+        None => false,
+    }
+}
+
+fn closed_door_refuses<R: Wait + Copy + Drop>(rt: &R, host: &HostRuntime) -> bool {
+    match open_door(rt, host) {
+        Some(mut door) => refuses_once_closed(host, &mut door),
+        None => false,
+    }
+}
+
+#[test]
+fn who_dials_a_closed_door_is_refused(rt: HostRuntime) {
+    assert!(rt; closed_door_refuses(&rt, &rt));
+}
+
 /// A client, and this side of its connection.
 #[derive(Drop)]
 struct Pair<R> {

@@ -198,4 +198,6 @@ impl Door for TestDoor {
             None => Next::End,
         }
     }
+
+    fn close(&mut self) {}
 }
