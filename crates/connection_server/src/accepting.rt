@@ -1,5 +1,5 @@
 //! Connections are accepted, each with a session of its own.
-ghost use Rattle.std.specs.Prelude.{◌≡◌, ◌≤◌, [], length, vec_len, vec_capacity};
+ghost use Rattle.std.specs.Prelude.{◌≡◌, ◌≤◌, ◌<◌, ◌+◌, ◌++◌, ◌∷◌, [], length, vec_len, vec_capacity};
 ghost use Rattle.std.specs.VecDeque.{deque_len};
 ghost use Rattle.connection_server.specs.Accepting.{Accepts, IsDoorEnding, IsEnded, IsMadeFor};
 ghost use Rattle.connection_server.specs.Jobs.{link_of};
@@ -88,6 +88,29 @@ where
     }
 }
 
+/// Puts a session that has begun behind the others. Of those that have ended the threads are joined, so that no stack of theirs is kept
+/// until all have ended.
+fn put<R, I, O, P, S>(
+    starter: &ThreadStarter<R>,
+    session: Running<LinkJob<S, I, O, P>>,
+    running: &mut Vec<Running<LinkJob<S, I, O, P>>>,
+)
+where
+    R: Threads + Clone + Drop,
+    I: Drop,
+    O: Drop,
+    P: Twin + Drop,
+    S: Session<I, O, P> + Drop,
+    S::How: Drop,
+    requires { vec_len running.old < vec_capacity running.old }
+    ensures items { running.new.items ≡ running.old.items ++ session ∷ [] }
+    ensures len { vec_len running.new ≡ vec_len running.old + 1 }
+    ensures capacity { vec_capacity running.new ≡ vec_capacity running.old }
+{
+    starter.join_done(running);
+    running.push_reserved(session);
+}
+
 /// Accepts a connection for each of these ports, until the door is at its end, or fails. Takes no memory for the list.
 pub(crate) fn accept<R, P, S, D, M>(
     alloc: Global,
@@ -129,7 +152,8 @@ where
                     output,
                     port,
                 };
-                running.push_reserved(begin(alloc, sessions, starter, link));
+                let session = begin(alloc, sessions, starter, link);
+                put(starter, session, running);
             }
             Next::End => return Ending::DoorEnd,
             Next::Failed => return Ending::DoorFault,

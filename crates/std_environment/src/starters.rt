@@ -4,7 +4,7 @@ ghost use Rattle.environment.specs.Memory.{IsToFail};
 ghost use Rattle.std_environment.specs.Starters.{Starts, new_starter, starter_after};
 
 use base_lists::{Bytes, Copied, NoMemory, Tally, Texts};
-use environment::{Job, MemSource, Running, Source};
+use environment::{Job, MemSource, Running, Source, join_done};
 use std::alloc::Global;
 use std::marker::Model;
 use std::thread::{Promise, PromisedHandle, Threads, spawn_with};
@@ -110,6 +110,15 @@ impl<R: Threads + Clone + Drop> ThreadStarter<R> {
             Ok(thread) => Ok(thread),
             Err(refused) => self.given_back(refused.value),
         }
+    }
+
+    /// Joins the threads of the jobs that are done, without waiting, so that the system has their stacks back.
+    pub fn join_done<J: Job + Drop>(&self, all: &mut [Running<J>])
+    where
+        J::Done: Drop,
+        ensures { all.new ≡ all.old }
+    {
+        join_done(&self.rt, all)
     }
 
     /// A further starter for another thread, which has given nothing back yet, and refuses the calls with the numbers in `twins`.

@@ -12,9 +12,9 @@ loop-number-preserved g c =
     let seen = g.D.Door.seen in
     let of = g.S.Session.link in
     let before = c.loop-number.running.items in
-    let job = c.begin.result in
-    let is = c.begin.ensures.link in
-    let push = c.push_reserved.ensures in
+    let job = c.begin-session.result in
+    let is = c.begin-session.ensures.link in
+    let push = c.put.ensures in
     let popped = c.in-Some.ensures in
     let held = c.loop-number.invariant in
     let gave : Gave reads writes (c.in-Link.input, c.in-Link.output) (seen c.loop-number.door) (seen c.next.new.self) = record {
@@ -26,8 +26,8 @@ loop-number-preserved g c =
     subst (λ (link : Link g.row.D-Reader.Denot g.row.D-Writer.Denot g.row.P.Denot). Gave reads writes (link.input, link.output) (seen c.loop-number.door) (seen c.next.new.self)) (sym is) gave in
     let next : c.loop-number.twins.items ≡ port_in of job ∷ c.pop_front.new.self.items =
     popped.items ∙ ap (λ (link : Link g.row.D-Reader.Denot g.row.D-Writer.Denot g.row.P.Denot). link.port ∷ c.pop_front.new.self.items) (sym is) in
-    let number : job.number ≡ length before + 1 = c.begin.ensures.number ∙ ap (λ n. n + 1) (sym held.number) in
-    let all = accepts_one reads writes of (g.M.Sessions.makes c.args.sessions.now) g.P.BookPort.port c.args.twins.now.items (seen c.args.door.now) (seen c.loop-number.door) (seen c.next.new.self) before job c.loop-number.twins.items c.pop_front.new.self.items held.accepts its next number c.begin.ensures.made in
+    let number : job.number ≡ length before + 1 = c.begin-session.ensures.number ∙ ap (λ n. n + 1) (sym held.number) in
+    let all = accepts_one reads writes of (g.M.Sessions.makes c.args.sessions.now) g.P.BookPort.port c.args.twins.now.items (seen c.args.door.now) (seen c.loop-number.door) (seen c.next.new.self) before job c.loop-number.twins.items c.pop_front.new.self.items held.accepts its next number c.begin-session.ensures.made in
     let ports = held.ports in
     let fewer = popped.cases in
     record {
