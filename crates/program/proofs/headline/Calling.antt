@@ -163,6 +163,7 @@ handed_over schema port deeds given feeder serves = record {
   body = serves.body;
   asked = serves.asked;
   begins = serves.begins;
+  mode = serves.streams;
 }
 
 -- without threads no call is

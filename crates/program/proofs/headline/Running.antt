@@ -1,5 +1,5 @@
 -- From Run, the other clause of `run`, to the page.
-use Rattle.std.proofs.Common.{◌≡◌, ◌⊎◌, inl, inr, ℕ, List, [], ◌∷◌, ◌++◌, Option, Some, None}
+use Rattle.std.proofs.Common.{◌≡◌, ◌⊎◌, inl, inr, ℕ, List, [], ◌∷◌, ◌++◌, ap, Option, Some, None}
 use Rattle.base_kinds.specs.declared.entry.Limits.{Limits}
 use Rattle.session_core.specs.declared.how.How.{How}
 use Rattle.session_core.specs.Runs.{outside_of}
@@ -12,11 +12,11 @@ use Rattle.program.specs.Links.{SeenLinks}
 use Rattle.program.specs.Run.{Run}
 use Rattle.program.specs.ServeCommand.{ServeCommand}
 use Rattle.program.specs.ServeCommand as serve
-use Rattle.program.specs.SessionCommand.{SessionCommand}
+use Rattle.program.specs.SessionCommand.{SessionCommand, Streams}
 use Rattle.program.specs.SessionCommand as session
 use Rattle.program.specs.declared.ending.Ending.{Ending}
 use Rattle.program.specs.declared.ending.Ending.TheVariants.{Done}
-use Rattle.program.specs.headline.Headline.{Headline, ScriptKeeps, ServeKeeps, SessionKeeps}
+use Rattle.program.specs.headline.Headline.{AcceptsNone, Headline, ScriptKeeps, ServeKeeps, HearsNothing, SessionKeeps}
 use Rattle.program.proofs.KeptAnswers.{scripts_are_kept}
 use Rattle.program.proofs.headline.Conversing.{session_keeps}
 use Rattle.program.proofs.headline.Scripting.{answers_are_of_one}
@@ -24,7 +24,7 @@ use Rattle.program.proofs.headline.Serving.{serve_keeps}
 
 -- ---- serve
 
-serve_so : (schema journal : List ℕ) (sessions : ℕ) (before after : Environment) (returned : Option SeenDisk) (links : SeenLinks) (ending : Ending) → ServeCommand schema journal sessions before after returned links ending → (links ≡ []) ⊎ ServeKeeps schema journal before after returned links
+serve_so : (schema journal : List ℕ) (sessions : ℕ) (before after : Environment) (returned : Option SeenDisk) (links : SeenLinks) (ending : Ending) → ServeCommand schema journal sessions before after returned links ending → AcceptsNone before after links ⊎ ServeKeeps schema journal before after returned links
 serve_so schema journal sessions before after returned links ending (inl goes) = elim (goes.goes_on.serves) [
   | inl all ↦ inr (record {
     opens = record {
@@ -44,16 +44,23 @@ serve_so schema journal sessions before after returned links ending (inl goes) =
     one = serve_keeps (serve.opened_on sessions goes.schema goes.goes_on.now goes.initial goes.final before after links ending all.limits all.found) all.name sessions all.how links before.door all.last after.door goes.final.told all.left.history all.left.doubt all.served all.authors all.left.goes_on all.left.run all.left.images;
   })
   | inr none ↦ elim none [
-    | inl shares ↦ inl shares.links_are
-    | inr opens ↦ inl opens.links_are
+    | inl shares ↦ inl (record { links_are = shares.links_are; door = shares.door })
+    | inr opens ↦ inl (record { links_are = opens.links_are; door = opens.door })
   ]
 ]
-serve_so schema journal sessions before after returned links ending (inr (inl stops)) = inl stops.nothing.links_are
-serve_so schema journal sessions before after returned links ending (inr (inr stops)) = inl stops.nothing.links_are
+serve_so schema journal sessions before after returned links ending (inr (inl stops)) = inl (record { links_are = stops.nothing.links_are; door = ap (λ (e : Environment). e.door) stops.nothing.rest })
+serve_so schema journal sessions before after returned links ending (inr (inr stops)) = inl (record { links_are = stops.nothing.links_are; door = ap (λ (e : Environment). e.door) stops.nothing.rest })
 
 -- ---- session
 
-session_so : (schema journal : List ℕ) (before after : Environment) (returned : Option SeenDisk) (how : Option How) (ending : Ending) → SessionCommand schema journal before after returned how ending → (how ≡ None) ⊎ SessionKeeps schema journal before after returned how
+untouched : (before after : Environment) (how : Option How) → session.streams_of after ≡ session.streams_of before → how ≡ None → HearsNothing before after how
+untouched before after how streams none = record {
+  how_is = none;
+  input = ap (λ (s : Streams). s.input) streams;
+  output = ap (λ (s : Streams). s.output) streams;
+}
+
+session_so : (schema journal : List ℕ) (before after : Environment) (returned : Option SeenDisk) (how : Option How) (ending : Ending) → SessionCommand schema journal before after returned how ending → HearsNothing before after how ⊎ SessionKeeps schema journal before after returned how
 session_so schema journal before after returned how ending (inl goes) = elim (goes.goes_on.serves) [
   | inl one ↦ inr (record {
     opens = record {
@@ -73,10 +80,14 @@ session_so schema journal before after returned how ending (inl goes) = elim (go
     how_is = one.how_is;
     one = session_keeps (session.opened goes.schema goes.goes_on.now goes.initial goes.final ending one.limits one.found) before.input before.output (before.clock ++ goes.goes_on.now ∷ []) (outside_of after.input after.output one.port after.clock) one.connection goes.final.told one.left.doubt one.run one.left.run one.left.images;
   })
-  | inr none ↦ inl none.how_is
+  | inr none ↦ inl (record {
+    how_is = none.how_is;
+    input = ap (λ (s : Streams). s.input) none.streams;
+    output = ap (λ (s : Streams). s.output) none.streams;
+  })
 ]
-session_so schema journal before after returned how ending (inr (inl stops)) = inl stops.nothing.how_is
-session_so schema journal before after returned how ending (inr (inr stops)) = inl stops.nothing.how_is
+session_so schema journal before after returned how ending (inr (inl stops)) = inl (untouched before after how stops.nothing.streams stops.nothing.how_is)
+session_so schema journal before after returned how ending (inr (inr stops)) = inl (untouched before after how stops.nothing.streams stops.nothing.how_is)
 
 -- ---- script
 

@@ -3,6 +3,7 @@ use Rattle.std.specs.Prelude.{◌≡◌, ◌⊎◌, ℕ, List, [], ◌∷◌, �
 use Rattle.std.specs.List.{AllByRecursion}
 use Rattle.base_kinds.specs.declared.entry.Entry.{Entry}
 use Rattle.base_kinds.specs.declared.refusal.Refusal.{Refusal}
+use Rattle.base_kinds.specs.declared.request.ListMode.TheVariants.{Stream}
 use Rattle.base_kinds.specs.Schema.{SchemaNode}
 use Rattle.base_kinds.specs.Step.{Rules}
 use Rattle.book_port.specs.Follows.{Turn}
@@ -44,7 +45,7 @@ pub record Subscriber : Type 0 where
   pub stream : ℕ
   pub plan : Plan
 
--- one of the deeds handed it over, at a first message that has this plan
+-- one of the deeds handed it over, at a first message that has this plan, of mode STREAM
 pub record WasHandedOver (deeds : List Deed) (one : Subscriber) : Type 0 where
   pub before : List Deed
   pub deed : Deed
@@ -54,6 +55,7 @@ pub record WasHandedOver (deeds : List Deed) (one : Subscriber) : Type 0 where
   pub body : List ℕ
   pub asked : deed.doing ≡ Handing body
   pub begins : subscribe_step None body ≡ Ok (Begin one.plan)
+  pub mode : one.plan.mode ≡ Stream
 
 -- one of the deeds began a call of mode STREAM or POLL on the stream, which the session serves itself
 pub record HasBegun (stream : ℕ) (deeds : List Deed) : Type 0 where

@@ -77,6 +77,17 @@ pub record ScriptKeeps (schema_name : List ℕ) (limits : Limits) (before after 
   pub written : Wrote text before.output after.output
   pub one : OneScript schema limits script text
 
+-- `serve` accepted no connection: it took none from its door
+pub record AcceptsNone (before after : Environment) (links : SeenLinks) : Type 0 where
+  pub links_are : links ≡ []
+  pub door : after.door ≡ before.door
+
+-- `session` served no connection: it read nothing of its input, and wrote nothing
+pub record HearsNothing (before after : Environment) (how : Option How) : Type 0 where
+  pub how_is : how ≡ None
+  pub input : after.input ≡ before.input
+  pub output : after.output ≡ before.output
+
 -- By the words that the program was given: `serve` accepted no connection, or kept the promise for all; `session` served none, or kept
 -- it; a `script` that ended with 0 kept it.
 pub record Headline
@@ -84,8 +95,8 @@ pub record Headline
     (how : Option How) (links : SeenLinks) (status : ℕ) : Type 0 where
   pub serve : (schema journal address : List ℕ) (sessions : ℕ) →
       IsServe words schema journal address sessions →
-      (links ≡ []) ⊎ ServeKeeps schema journal before after returned links
+      AcceptsNone before after links ⊎ ServeKeeps schema journal before after returned links
   pub session : (schema journal : List ℕ) → IsSession words schema journal →
-      (how ≡ None) ⊎ SessionKeeps schema journal before after returned how
+      HearsNothing before after how ⊎ SessionKeeps schema journal before after returned how
   pub script : (schema : List ℕ) (limits : Limits) → IsScript words schema limits →
       status ≡ exit_status Done → ScriptKeeps schema limits before after
