@@ -29,7 +29,8 @@ use Rattle.book_port.proofs.Chronicled.{entries_by_more}
 use Rattle.book_port.proofs.Following.{dropped, follows_goes_on}
 use Rattle.book_port.specs.Ports.{PortView}
 use Rattle.book_port.proofs.Taking.{taken_go_on}
-use Rattle.h2_events.specs.Items.{Item, said_on}
+use Rattle.h2_events.specs.Items.{Item, as_read, said_on}
+use Rattle.h2_streams.specs.Calls.{reads_of}
 use Rattle.h2_events.specs.declared.port.Ready.TheVariants.{Busy}
 use Rattle.h2_events.specs.declared.said.Said.{Said}
 use Rattle.h2_events.specs.declared.said.Said.TheVariants.{Finish}
@@ -49,8 +50,9 @@ use Rattle.session_core.specs.FeederRuns.{ServesCall, SessionRunBeside}
 use Rattle.session_core.specs.Feeding.{left_last}
 use Rattle.session_core.specs.Reading.{IsGiven}
 use Rattle.session_core.specs.Runs.{IsAtRest, IsGivenBeside, IsSettled, Outside, RunBeside, SessionRun, outside_of, start_of}
+use Rattle.session_core.specs.Rounds.{AreTimely}
 use Rattle.session_core.specs.Saying.{AreBehind, IsFront as IsSaidFront, IsSaid, waits_on}
-use Rattle.session_core.specs.Serving.{Standing, deeds_in, first_service, service_of, standing_of}
+use Rattle.session_core.specs.Serving.{Standing, deeds_in, first_service, service_of, standing_of, without_fed}
 use Rattle.session_core.specs.laws.FeederLaws.{SaysFront}
 use Rattle.session_core.specs.laws.PollLaws.{IsTurnOn, SaysPolledOrEnds}
 use Rattle.session_core.specs.laws.RunLaws.{AsksOnce, SaysStateOrEnds}
@@ -279,7 +281,10 @@ converses fed subscribers schema old new how run h prefix in_order own names han
       moments = run.moments;
       inputs = run.inputs;
       came = came_so fed how run.octets old.input new.input run.given;
-      frames = run.partly;
+      given = subst (λ l. IsGivenBeside l how run.octets old.input new.input) (sym names) run.given;
+      frames = run.made;
+      accepted = run.accepted;
+      one_order = subst (λ l. without_fed l (as_read order) ≡ without_fed l (reads_of run.moments)) (sym names) run.served.one_order;
       deeds = deeds;
       owed = run.owed;
       asked = run.served.asked;
@@ -292,6 +297,7 @@ converses fed subscribers schema old new how run h prefix in_order own names han
       streams = says;
       once = all_once schema new.port.seen h prefix.0 deeds prefix.1 (once_calls_say fed schema old new how run);
       own_streams = λ before after deed plan whole asks none_before none_after. own_so schema plan new.port.seen h prefix.0 (said_in_turns deed.stream after) prefix.1 (stream_calls_say fed schema old new how run before after deed plan whole asks none_before none_after);
+      timely = subst (λ l. AreTimely l [] deeds) (sym names) run.served.timely;
       turns = turns_begun schema old.port (service_of (standing_of new.port run.calls new.readings run.round)) deeds run.served.done;
       polls = λ before after deed plan whole asks none_before none_after. all_polls schema plan deed.stream new.port.seen h prefix.0 after prefix.1 (poll_calls_say fed schema old new how run before after deed plan whole asks none_before none_after);
       out = run.written;

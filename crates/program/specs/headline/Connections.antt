@@ -12,11 +12,12 @@ use Rattle.environment.specs.Output.{Output}
 use Rattle.gnmi_kinds.specs.declared.reply.SubReply.{SubReply}
 use Rattle.sub_plan.specs.declared.plan.Plan.{Plan}
 use Rattle.subscribe_calls.specs.Calls.{replies_octets}
-use Rattle.h2_streams.specs.Calls.{Moment, events_of}
-use Rattle.h2_events.specs.Items.{said_on, written}
+use Rattle.h2_streams.specs.Calls.{Moment, events_of, reads_of}
+use Rattle.h2_events.specs.Items.{as_read, said_on, written}
 use Rattle.h2_events.specs.declared.port.Ready.TheVariants.{Busy}
 use Rattle.h2_events.specs.declared.said.Said.{Said}
 use Rattle.h2_events.specs.declared.said.Said.TheVariants.{Message, Finish}
+use Rattle.h2_send.specs.Accepting.{AreAccepted}
 use Rattle.h2_send.specs.Inputs.{Input}
 use Rattle.h2_send.specs.Lines.{first_line}
 use Rattle.h2_send.specs.Messages.{octets_said, data_on}
@@ -31,7 +32,10 @@ use Rattle.session_core.specs.declared.how.How.{How}
 use Rattle.session_core.specs.declared.how.How.TheVariants as hows
 use Rattle.session_core.specs.Deeds.{Deed, Handing, Turning, handed_in, requests_in, said_to, turns_in}
 use Rattle.session_core.specs.Feeding.{left_last}
-use Rattle.session_core.specs.Reading.{IsReadPartly}
+use Rattle.session_core.specs.Reading.{IsMadeOf}
+use Rattle.session_core.specs.Rounds.{AreTimely}
+use Rattle.session_core.specs.Runs.{IsGivenBeside}
+use Rattle.session_core.specs.Serving.{without_fed}
 use Rattle.session_core.specs.Saying.{IsFront, IsOver}
 use Rattle.session_core.specs.Writing.{IsWritten}
 use Rattle.session_core.specs.laws.PollLaws.{AsksPoll, IsTurnOn}
@@ -44,6 +48,9 @@ use Rattle.program.specs.headline.Sessions.{IsEnd, TakesPart}
 pub record Subscriber : Type 0 where
   pub stream : ℕ
   pub plan : Plan
+
+abbrev pub subscribed_streams : List Subscriber → List ℕ
+subscribed_streams fed = map (λ one. one.stream) fed
 
 -- one of the deeds handed it over, at a first message that has this plan, of mode STREAM
 pub record WasHandedOver (deeds : List Deed) (one : Subscriber) : Type 0 where
@@ -110,13 +117,21 @@ IsAllSaid stream inputs deeds =
 pub record Converses (schema : List SchemaNode) (rules : Rules) (h : List Entry) (author : ℕ)
     (seen : List Entry) (how : How) (input : Source) (output : Output) (input_left : Source)
     (output_left : Output) : Type 0 where
-  -- The octets that came; the frames that a prefix of them is (RFC 9113), with the ends of streams by this side between them; and all
-  -- that was heard and said, in one order.
+  -- The octets that came; the frames that they are (RFC 9113), with the ends of streams by this side between them; and all that was
+  -- heard and said, in one order. How the connection ended is made so by its octets: all of them are whole frames where the peer closed
+  -- it, and frames before an error where it ended for one. Where the output failed or memory ran out a prefix was served.
   pub octets : List ℕ
   pub moments : List Moment
   pub inputs : List Input
+  pub fed : List Subscriber
   pub came : input_left.given ≡ input.given ++ octets
-  pub frames : IsReadPartly octets moments
+  pub given : IsGivenBeside (subscribed_streams fed) how octets input input_left
+  pub frames : IsMadeOf how octets moments inputs
+  -- What was given to the sending half could be given where it came, and is in the order of the frames, but for the ends of the
+  -- subscribers' calls.
+  pub accepted : AreAccepted first_line inputs
+  pub one_order : without_fed (subscribed_streams fed) (as_read (order_of inputs))
+      ≡ without_fed (subscribed_streams fed) (reads_of moments)
   -- What was done, in order. Each request of these frames is answered once, in the order in which they came. Where the connection
   -- ended whole none is left.
   pub deeds : List Deed
@@ -126,12 +141,11 @@ pub record Converses (schema : List SchemaNode) (rules : Rules) (h : List Entry)
   pub part : TakesPart schema rules h author seen deeds
   -- On each stream that isn't a subscriber's a prefix of what the deeds say for it was said, in order. Where the connection ended whole
   -- that is all of it, unless the stream was over before (reset, or ended: RFC 9113 5.1), or its octets wait for the peer's windows.
-  pub fed : List Subscriber
-  pub handed : map (λ one. one.stream) fed ≡ handed_in deeds
-  pub said : (stream : ℕ) → is_fed (map (λ one. one.stream) fed) stream ≡ false →
+  pub handed : subscribed_streams fed ≡ handed_in deeds
+  pub said : (stream : ℕ) → is_fed (subscribed_streams fed) stream ≡ false →
       IsFront (said_on stream (order_of inputs)) (said_to stream deeds)
   pub all_said : IsWhole how → (stream : ℕ) →
-      is_fed (map (λ one. one.stream) fed) stream ≡ false → IsAllSaid stream inputs deeds
+      is_fed (subscribed_streams fed) stream ≡ false → IsAllSaid stream inputs deeds
   -- Each subscriber folds to states of h, none older than what the session's turns had left before its call was handed over. A call of
   -- mode STREAM that the session serves itself folds to states of h too. (A peer opens a stream once, RFC 9113 5.1.1. Of one on which it
   -- would begin two calls nothing is said.)
@@ -141,7 +155,9 @@ pub record Converses (schema : List SchemaNode) (rules : Rules) (h : List Entry)
   pub own_streams : (before after : List Deed) (deed : Deed) (plan : Plan) →
       deeds ≡ before ++ deed ∷ after → AsksStream plan deed → NoneBegins deed.stream before →
       NoneBegins deed.stream after → SaysStates schema plan h 0 (said_in_turns deed.stream after)
-  -- no other call takes turns but these, and those of mode POLL
+  -- A turn is taken once all that was asked before it is answered, and all that was to be said on its stream was said. No other call
+  -- takes turns but these, and those of mode POLL.
+  pub timely : AreTimely (subscribed_streams fed) [] deeds
   pub turns : (before after : List Deed) (deed : Deed) → deeds ≡ before ++ deed ∷ after →
       deed.doing ≡ Turning → HasBegun deed.stream before
   -- A call of mode ONCE reads one state,

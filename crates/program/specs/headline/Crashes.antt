@@ -1,5 +1,5 @@
--- A crash. Whatever it leaves of the disk opens as the history, or as the history with one commit in doubt after it, and without an
--- open trial.
+-- A crash. Whatever it leaves of the disk is a journal of the history, or of the history with one commit in doubt after it. A run that
+-- opens it goes on from there, without an open trial.
 use Rattle.std.specs.Prelude.{◌≡◌, ℕ, List, Option, None}
 use Rattle.base_kinds.specs.declared.entry.Entry.{Entry}
 use Rattle.base_kinds.specs.declared.entry.Limits.{Limits}

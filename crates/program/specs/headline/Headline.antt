@@ -1,5 +1,5 @@
 -- THE PAGE. What a run of `serve`, `session` or `script` is for whoever uses it: all its answers are those of one history of commits,
--- which the journal keeps. It is a clause of `run`, and follows of the other one, Run.antt, which says how. The words are in
+-- which the journal keeps, where the disk tells what it holds. It is a clause of `run`, and follows of the other one, Run.antt, which says how. The words are in
 -- Terms.antt; OneHistory.antt, Connections.antt, Sessions.antt, Marks.antt and Crashes.antt say it of `serve` and `session`, and
 -- OneScript.antt of `script`.
 use Rattle.std.specs.Prelude.{◌≡◌, ◌⊎◌, ℕ, List, [], ◌∷◌, ◌++◌, Option, Some, None, Ok}

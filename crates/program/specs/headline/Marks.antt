@@ -72,7 +72,8 @@ pub record FoldsAtMarks (plan : Plan) (h : List Entry) (since : ℕ) (messages :
       (two : IsUpToMark messages (prefix ++ more)) →
       (mark prefix one).position ≤ (mark (prefix ++ more) two).position
 
--- One read (ONCE, or one Poll): the messages up to the sync fold to the subscribed part of the state at this position, whole.
+-- One read (ONCE, or one Poll): there is a sync, and the messages together fold to the subscribed part of the state at this position,
+-- whole.
 pub record ReadsState (plan : Plan) (h : List Entry) (position : ℕ) (messages : List SubReply)
     : Type 0 where
   pub synced : list_any is_sync messages ≡ true

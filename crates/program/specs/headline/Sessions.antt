@@ -51,8 +51,8 @@ pub record Refuses (refusal : Refusal) (deed : Deed) : Type 0 where
 abbrev pub OnlyLooks : Deed → Type 0
 OnlyLooks deed = (turn : Turn) → deed.turn ≡ Some turn → ChangesNothing turn
 
--- The first message of a Subscribe call (gNMI 3.5.1.5): it is refused, a call of mode ONCE is answered at once, and one of another mode
--- is served from then on. What its turns say is in Connections.antt.
+-- The first message of a Subscribe call (gNMI 3.5.1.5): it is refused; or the call is of mode ONCE, and looks; or it is of another mode,
+-- and nothing is said for this message but the end of the call. What its turns say is in Connections.antt.
 abbrev pub IsBegun : ListMode → Deed → Type 0
 IsBegun Once deed = OnlyLooks deed
 IsBegun mode deed = SaysEnd deed
@@ -91,8 +91,8 @@ abbrev pub IsClocked : Deed → Type 0
 IsClocked deed =
     (turn : Turn) → deed.turn ≡ Some turn → deed.readings ≡ turn.reading ∷ []
 
--- The part of a session in the history h. `seen` is the prefix of h with which the target was opened; the session's commits bear
--- its author, a number that no other session has.
+-- The part of a session in the history h. `seen` is the prefix of h with which the session began; its commits bear its author,
+-- a number that no other session of the run has (OneHistory.antt).
 pub record TakesPart (schema : List SchemaNode) (rules : Rules) (h : List Entry) (author : ℕ)
     (seen : List Entry) (deeds : List Deed) : Type 0 where
   pub answers : AllByRecursion (IsAnswered schema rules author) deeds

@@ -14,8 +14,8 @@ pub record IsAt (h : List Entry) (turn : Turn) : Type 0 where
   pub found : IsPrefix turn.found h
   pub left : IsPrefix turn.left h
 
--- The turn changed nothing: it left the history that it found. If a trial was open whose time was over, that trial has ended
--- (gNMI commit-confirmed extension), as it does in the first turn after its deadline, whatever that turn is for.
+-- The turn changed nothing: it left the history that it found. Or a trial was open whose time was over, and it has ended, and that is
+-- all (gNMI commit-confirmed extension).
 abbrev pub ChangesNothing : Turn → Type 0
 ChangesNothing turn =
     (turn.left ≡ turn.found)
