@@ -3,9 +3,8 @@
 ghost use Rattle.environment.specs.Memory.{input_of};
 
 use base_lists::{Bytes, Seq, Text};
-use environment::{
-    Failed, IdlePacer, MemDoor, MemSink, MemSource, MemStarter, Sink, Source, StepClock,
-};
+use environment::{Failed, IdlePacer, MemSink, MemSource, MemStarter, Sink, Source, StepClock};
+use listening::MemDoor;
 use memory_disks::{FuseDisk, NO_STOP};
 use program::{DiskFile, Host, Kit, MemFiles, RunEnd, run};
 use session_core::How;
