@@ -1,0 +1,4 @@
+pub mod Faults
+pub mod Obeying
+pub mod Unread
+pub mod WordLists
